@@ -1,0 +1,68 @@
+-- Demand 3, one berth alone: its part of the node and of the two stores, its own events, and what a run of them leaves and says.
+use Prim.Native.Nat.{ℕ}
+use mathlib.Core.List.{List, [], _∷_}
+use lib.ListN.{length}
+use lib.Seq.{sets}
+use Rattle.rules.specs.Ranges.{berthAt}
+use Rattle.rules.specs.Arrivals.{Came, frameCame}
+use Rattle.rules.specs.Ticks.{ticked, rxCode, txCode}
+use Rattle.rules.specs.Turns.{HandedOver, handOver, sent}
+use Rattle.rules.specs.Stores.{Held, areaOf}
+use Rattle.rules.specs.declared.Settings.{Settings}
+use Rattle.rules.specs.declared.Berth.{Berth}
+use Rattle.rules.specs.declared.Word.{Word}
+
+-- berth k's state and its two areas
+pub record Part : Type 0 where
+  pub berth : Berth
+  pub incoming : List ℕ
+  pub outgoing : List ℕ
+
+unfoldable pub partOf : ℕ → Held → Part
+partOf k h =
+    record {
+      berth = berthAt (h .node) k;
+      incoming = areaOf (h .node .settings .area) k (h .incoming);
+      outgoing = areaOf (h .node .settings .area) k (h .outgoing);
+    }
+
+-- a berth's own events: its frames and sends, all ticks, and the turns it received
+pub data Event : Type 0 where
+  arrives : List ℕ → Event
+  ticks : Event
+  sends : List ℕ → Event
+  turns : Event
+
+-- what a berth says at an event: old code and word; the codes of its two sides; that it takes the message; frame and code
+pub data Says : Type 0 where
+  hears : ℕ → Word → Says
+  expires : ℕ → ℕ → Says
+  accepts : Says
+  hands : List ℕ → ℕ → Says
+
+unfoldable pub partAfter : Settings → Part → Event → Part
+partAfter s p (arrives d) =
+    record {
+      berth = frameCame s (p .berth) d .berth;
+      incoming = sets (p .incoming) (frameCame s (p .berth) d .place) (frameCame s (p .berth) d .bytes);
+      outgoing = p .outgoing;
+    }
+partAfter s p ticks = record { berth = ticked (p .berth); incoming = p .incoming; outgoing = p .outgoing }
+partAfter s p (sends m) = record { berth = sent (p .berth) (length m); incoming = p .incoming; outgoing = sets (p .outgoing) 0 m }
+partAfter s p turns =
+    record { berth = handOver s (p .berth) (p .outgoing) .berth; incoming = p .incoming; outgoing = p .outgoing }
+
+unfoldable pub says : Settings → Part → Event → Says
+says s p (arrives d) = hears (frameCame s (p .berth) d .old) (frameCame s (p .berth) d .word)
+says s p ticks = expires (rxCode (p .berth .rx)) (txCode (p .berth .tx))
+says s p (sends m) = accepts
+says s p turns = hands (handOver s (p .berth) (p .outgoing) .frame) (handOver s (p .berth) (p .outgoing) .code)
+
+-- a run of events on the berth alone
+unfoldable pub alone : Settings → Part → List Event → Part
+alone s p [] = p
+alone s p (e ∷ es) = alone s (partAfter s p e) es
+
+unfoldable pub saysAll : Settings → Part → List Event → List Says
+saysAll s p [] = []
+saysAll s p (e ∷ es) = says s p e ∷ saysAll s (partAfter s p e) es

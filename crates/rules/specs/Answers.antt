@@ -1,0 +1,124 @@
+-- What the calls answer: the answers in the paper's words, the reports in them, and the paper's number and values for each case.
+use Prim.Native.Nat.{ℕ, zero, suc, _-_}
+use mathlib.Core.Bool.{Bool, true, false}
+use mathlib.Core.List.{List, [], _∷_, _++_, map}
+use lib.ListN.{take}
+use lib.Dec.{eqb}
+use Rattle.rules.specs.Tests.{pick, unless}
+use Rattle.rules.specs.Numbers.{frameLength, toBerth, N-OK, N-WRONG-SN}
+use Rattle.rules.specs.declared.Word.{Word}
+use Rattle.rules.specs.declared.Word.the-variants.{Delivered, Begun, Failed, Ignored, TooLong, Took, Going, Waiting}
+use Rattle.rules.specs.declared.Codes.{Codes}
+use Rattle.rules.specs.declared.SetUpAnswer.{SetUpAnswer}
+use Rattle.rules.specs.declared.FrameAnswer.{FrameAnswer}
+use Rattle.rules.specs.declared.TickAnswer.{TickAnswer}
+use Rattle.rules.specs.declared.SendAnswer.{SendAnswer}
+use Rattle.rules.specs.declared.TurnAnswer.{TurnAnswer}
+
+-- refused with a number; set up; heard at a berth with old code and word; ten pairs of codes; sent to a berth; handed over with
+-- identifier, frame, code and passed over; none with passed over; a part shown
+pub data Answer : Type 0 where
+  refused : ℕ → Answer
+  ready : Answer
+  heard : ℕ → ℕ → Word → Answer
+  codes : List Codes → Answer
+  sent : ℕ → Answer
+  handed : ℕ → List ℕ → ℕ → ℕ → Answer
+  none : ℕ → Answer
+  shown : List ℕ → Answer
+
+-- ---- reports: berth, side, code. Delivered reports 1, Failed its code, an old reception 7; TooLong reports nothing
+
+pub data Side : Type 0 where
+  receive send : Side
+
+pub record Report : Type 0 where
+  pub berth : ℕ
+  pub side : Side
+  pub code : ℕ
+
+-- a code of 0 is no report
+unfoldable pub reported : ℕ → Side → ℕ → List Report
+reported k side zero = []
+reported k side (suc c) = record { berth = k; side = side; code = suc c } ∷ []
+
+-- Failed 5 is the receive side's, 6 and 9 are the send side's
+unfoldable pub failedSide : ℕ → Side
+failedSide c = pick (eqb c N-WRONG-SN) receive send
+
+unfoldable pub wordReports : ℕ → Word → List Report
+wordReports k (Delivered n) = reported k receive N-OK
+wordReports k (Begun n) = []
+wordReports k (Failed c) = reported k (failedSide c) c
+wordReports k (Ignored i) = []
+wordReports k TooLong = []
+wordReports k Took = []
+wordReports k Going = []
+wordReports k Waiting = []
+
+-- a tick's reports go by berth, receive before send
+unfoldable pub codesReports : ℕ → List Codes → List Report
+codesReports k [] = []
+codesReports k (c ∷ cs) = reported k receive (c .receive) ++ (reported k send (c .send) ++ codesReports (suc k) cs)
+
+unfoldable pub reports : Answer → List Report
+reports (refused n) = []
+reports ready = []
+reports (heard k old w) = reported k receive old ++ wordReports k w
+reports (codes cs) = codesReports 0 cs
+reports (sent k) = []
+reports (handed id frame code passed) = reported (id - toBerth) send code
+reports (none passed) = []
+reports (shown part) = []
+
+-- ---- the answers of the code, in the paper's words; a frame handed over is the buffer's first eight bytes
+
+unfoldable pub setUpSays : SetUpAnswer → Answer
+setUpSays (SetUpAnswer.Refused n) = refused n
+setUpSays SetUpAnswer.Ready = ready
+
+unfoldable pub frameSays : FrameAnswer → Answer
+frameSays (FrameAnswer.Refused n) = refused n
+frameSays (FrameAnswer.Heard k old w) = heard k old w
+
+unfoldable pub tickSays : TickAnswer → Answer
+tickSays a = unless (a .refused) (λ n. refused n) (codes (a .codes))
+
+unfoldable pub sendSays : SendAnswer → Answer
+sendSays (SendAnswer.Refused n) = refused n
+sendSays (SendAnswer.Sent k) = sent k
+
+unfoldable pub turnSays : TurnAnswer → List ℕ → Answer
+turnSays (TurnAnswer.Refused n) buffer = refused n
+turnSays (TurnAnswer.None passed) buffer = none passed
+turnSays (TurnAnswer.HandedOver id code passed) buffer = handed id (take frameLength buffer) code passed
+
+-- ---- the paper's number and values for each case, as plain numbers: the words in the order in which the paper lists them
+
+pub record Paper : Type 0 where
+  pub number : ℕ
+  pub values : List ℕ
+
+unfoldable pub wordPaper : Word → List ℕ
+wordPaper (Delivered n) = 1 ∷ n ∷ []
+wordPaper (Begun n) = 2 ∷ n ∷ []
+wordPaper (Failed c) = 3 ∷ c ∷ []
+wordPaper (Ignored i) = 4 ∷ i ∷ []
+wordPaper TooLong = 5 ∷ []
+wordPaper Took = 6 ∷ []
+wordPaper Going = 7 ∷ []
+wordPaper Waiting = 8 ∷ []
+
+unfoldable pub codesPaper : List Codes → List ℕ
+codesPaper [] = []
+codesPaper (c ∷ cs) = c .receive ∷ c .send ∷ codesPaper cs
+
+unfoldable pub paperOf : Answer → Paper
+paperOf (refused n) = record { number = 0; values = n ∷ [] }
+paperOf ready = record { number = 1; values = [] }
+paperOf (heard k old w) = record { number = 2; values = k ∷ old ∷ wordPaper w }
+paperOf (codes cs) = record { number = 3; values = codesPaper cs }
+paperOf (sent k) = record { number = 4; values = k ∷ [] }
+paperOf (handed id frame code passed) = record { number = 5; values = id ∷ code ∷ passed ∷ frame }
+paperOf (none passed) = record { number = 6; values = passed ∷ [] }
+paperOf (shown part) = record { number = 7; values = part }

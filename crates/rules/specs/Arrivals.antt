@@ -1,0 +1,178 @@
+-- Paper 01, "A frame arrives", at one berth. A rule says the berth's next state, the old code, the word, and which bytes are
+-- stored at which place of the berth's area; it does not carry the area.
+use Prim.Native.Nat.{ℕ, _+_, _-_}
+use mathlib.Core.Bool.{Bool, true, false}
+use mathlib.Core.List.{List, [], _∷_}
+use lib.ListN.{length, take, drop}
+use lib.Dec.{ltb, leb, eqb}
+use Rattle.rules.specs.Tests.{pick}
+use Rattle.rules.specs.Numbers.{singleKind, firstKind, consecutiveKind, flowKind, goStatus, waitStatus, overflowStatus, firstBytes, consecutiveMost, noData, otherKind, wrongLength, notAwaited, N-WRONG-SN, N-INVALID-FS, N-UNEXP-PDU, N-BUFFER-OVFLW}
+use Rattle.rules.specs.Frames.{byteAt, kind, low, singleFits, announced, firstFits, consecutiveFits, flowFits, firstSn, nextSn, counted, fillsBlock, gapOf, share}
+use Rattle.rules.specs.declared.Settings.{Settings}
+use Rattle.rules.specs.declared.Taking.{Taking}
+use Rattle.rules.specs.declared.Sending.{Sending}
+use Rattle.rules.specs.declared.Rx.{Rx}
+use Rattle.rules.specs.declared.Tx.{Tx}
+use Rattle.rules.specs.declared.Berth.{Berth}
+use Rattle.rules.specs.declared.Word.{Word}
+use Rattle.rules.specs.declared.Word.the-variants.{Delivered, Begun, Failed, Ignored, TooLong, Took, Going, Waiting}
+
+-- what a frame makes of a receive side: state, last length, old code, word, and the bytes stored with their place
+pub record Heard : Type 0 where
+  pub rx : Rx
+  pub last : ℕ
+  pub old : ℕ
+  pub word : Word
+  pub place : ℕ
+  pub bytes : List ℕ
+
+-- ignored frames change nothing, timers included
+unfoldable pub ignored : ℕ → Rx → ℕ → Heard
+ignored why rx last = record { rx = rx; last = last; old = 0; word = Ignored why; place = 0; bytes = [] }
+
+-- the old reception ends: old code 7 if the side owed go or awaited, else 0
+unfoldable pub oldCode : Rx → ℕ
+oldCode Rx.Idle = 0
+oldCode (Rx.OwesOverflow t) = 0
+oldCode (Rx.OwesGo p t) = N-UNEXP-PDU
+oldCode (Rx.Awaits p t) = N-UNEXP-PDU
+
+-- ---- single: I3, or the old reception ends, the bytes go to the front of the area, Delivered with the length, idle
+
+unfoldable pub singleCame : Rx → ℕ → List ℕ → Heard
+singleCame rx last d =
+    pick (singleFits d)
+    (record { rx = Rx.Idle; last = low d; old = oldCode rx; word = Delivered (low d); place = 0; bytes = take (low d) (drop 1 d) })
+    (ignored wrongLength rx last)
+
+-- ---- first: I3, or the old reception ends
+
+-- length above A: TooLong, owes overflow, nothing stored, last length kept
+unfoldable pub turnedAway : Rx → ℕ → Heard
+turnedAway rx last = record { rx = Rx.OwesOverflow 0; last = last; old = oldCode rx; word = TooLong; place = 0; bytes = [] }
+
+-- else six bytes stored, Begun with the length, owes go, last length 0, got 6, SN 1, block count 0
+unfoldable pub taking : ℕ → Taking
+taking n = record { total = n; got = firstBytes; sn = firstSn; taken = 0 }
+
+unfoldable pub begun : ℕ → Rx → List ℕ → Heard
+begun n rx d =
+    record { rx = Rx.OwesGo (taking n) 0; last = 0; old = oldCode rx; word = Begun n; place = 0; bytes = take firstBytes (drop 2 d) }
+
+unfoldable pub firstCame : Settings → Rx → ℕ → List ℕ → Heard
+firstCame s rx last d =
+    pick (firstFits d)
+    (pick (ltb (s .area) (announced d)) (turnedAway rx last) (begun (announced d) rx d))
+    (ignored wrongLength rx last)
+
+-- ---- consecutive: I4 unless the side awaits, I3, wrong SN, right
+
+unfoldable pub missing : Taking → ℕ
+missing p = p .total - p .got
+
+-- right: the next min(7, r) bytes stored, at got
+unfoldable pub piece : Taking → List ℕ → List ℕ
+piece p d = take (share consecutiveMost (missing p)) (drop 1 d)
+
+unfoldable pub grown : Taking → ℕ → Taking
+grown p count = record { total = p .total; got = p .got + share consecutiveMost (missing p); sn = nextSn (p .sn); taken = count }
+
+-- all there: Delivered, idle
+unfoldable pub completed : Taking → List ℕ → Heard
+completed p d =
+    record { rx = Rx.Idle; last = p .total; old = 0; word = Delivered (p .total); place = p .got; bytes = piece p d }
+
+-- else Took, timer 0; if this filled the block, go is owed and the block count is 0
+unfoldable pub afterTook : Settings → Taking → Rx
+afterTook s p =
+    pick (fillsBlock (s .block) (p .taken))
+    (Rx.OwesGo (grown p 0) 0)
+    (Rx.Awaits (grown p (counted (s .block) (p .taken))) 0)
+
+unfoldable pub took : Settings → Taking → ℕ → List ℕ → Heard
+took s p last d = record { rx = afterTook s p; last = last; old = 0; word = Took; place = p .got; bytes = piece p d }
+
+-- wrong SN: Failed 5, idle
+unfoldable pub wrongSn : ℕ → Heard
+wrongSn last = record { rx = Rx.Idle; last = last; old = 0; word = Failed N-WRONG-SN; place = 0; bytes = [] }
+
+unfoldable pub awaitedCame : Settings → Taking → ℕ → ℕ → List ℕ → Heard
+awaitedCame s p t last d =
+    pick (consecutiveFits (missing p) d)
+    (pick (eqb (low d) (p .sn .0))
+    (pick (leb (missing p) consecutiveMost) (completed p d) (took s p last d))
+    (wrongSn last))
+    (ignored wrongLength (Rx.Awaits p t) last)
+
+unfoldable pub consecutiveCame : Settings → Rx → ℕ → List ℕ → Heard
+consecutiveCame s Rx.Idle last d = ignored notAwaited Rx.Idle last
+consecutiveCame s (Rx.OwesOverflow t) last d = ignored notAwaited (Rx.OwesOverflow t) last
+consecutiveCame s (Rx.OwesGo p t) last d = ignored notAwaited (Rx.OwesGo p t) last
+consecutiveCame s (Rx.Awaits p t) last d = awaitedCame s p t last d
+
+-- ---- flow control: I4 unless the send side awaits it, I3, then by s
+
+-- what a flow control frame makes of a send side
+pub record Told : Type 0 where
+  pub tx : Tx
+  pub word : Word
+
+-- the block size and the gap are taken; nothing else of the sending moves
+unfoldable pub granted : Sending → List ℕ → Sending
+granted o d =
+    record {
+      length = o .length;
+      position = o .position;
+      sn = o .sn;
+      block = byteAt d 1;
+      sent = 0;
+      gap = gapOf (byteAt d 2);
+      left = 0;
+    }
+
+-- 0: Going, values taken, consecutive with gap left 0, timer 0; 1: Waiting, timer 0; 2: Failed 9; 3 to 15: Failed 6. After Failed, idle
+unfoldable pub byStatus : Sending → List ℕ → Told
+byStatus o d =
+    pick (eqb (low d) goStatus) (record { tx = Tx.Consecutive (granted o d) 0; word = Going })
+    (pick (eqb (low d) waitStatus) (record { tx = Tx.AwaitsFlow o 0; word = Waiting })
+    (pick (eqb (low d) overflowStatus) (record { tx = Tx.Idle; word = Failed N-BUFFER-OVFLW })
+    (record { tx = Tx.Idle; word = Failed N-INVALID-FS })))
+
+unfoldable pub flowIgnored : ℕ → Tx → Told
+flowIgnored why tx = record { tx = tx; word = Ignored why }
+
+unfoldable pub flowCame : Tx → List ℕ → Told
+flowCame Tx.Idle d = flowIgnored notAwaited Tx.Idle
+flowCame (Tx.SingleDue n t) d = flowIgnored notAwaited (Tx.SingleDue n t)
+flowCame (Tx.FirstDue n t) d = flowIgnored notAwaited (Tx.FirstDue n t)
+flowCame (Tx.AwaitsFlow o t) d = pick (flowFits d) (byStatus o d) (flowIgnored wrongLength (Tx.AwaitsFlow o t))
+flowCame (Tx.Consecutive o t) d = flowIgnored notAwaited (Tx.Consecutive o t)
+
+-- ---- a frame at one berth: I1 and I2 come first, then the tests of the kind
+
+-- the berth after it, the old code, the word, and the bytes stored with their place
+pub record Came : Type 0 where
+  pub berth : Berth
+  pub old : ℕ
+  pub word : Word
+  pub place : ℕ
+  pub bytes : List ℕ
+
+-- flow control touches only the send side, the other kinds only the receive side
+unfoldable pub heardBy : Berth → Heard → Came
+heardBy b h =
+    record { berth = record { rx = h .rx; last = h .last; tx = b .tx }; old = h .old; word = h .word; place = h .place; bytes = h .bytes }
+
+unfoldable pub toldBy : Berth → Told → Came
+toldBy b t = record { berth = record { rx = b .rx; last = b .last; tx = t .tx }; old = 0; word = t .word; place = 0; bytes = [] }
+
+unfoldable pub byKind : Settings → Berth → List ℕ → Came
+byKind s b d =
+    pick (eqb (kind d) singleKind) (heardBy b (singleCame (b .rx) (b .last) d))
+    (pick (eqb (kind d) firstKind) (heardBy b (firstCame s (b .rx) (b .last) d))
+    (pick (eqb (kind d) consecutiveKind) (heardBy b (consecutiveCame s (b .rx) (b .last) d))
+    (pick (eqb (kind d) flowKind) (toldBy b (flowCame (b .tx) d))
+    (heardBy b (ignored otherKind (b .rx) (b .last))))))
+
+unfoldable pub frameCame : Settings → Berth → List ℕ → Came
+frameCame s b d = pick (eqb (length d) 0) (heardBy b (ignored noData (b .rx) (b .last))) (byKind s b d)

@@ -1,0 +1,136 @@
+-- Paper 01, the calls: what each leaves and answers where it is not refused, the outcome of a call, and a run.
+use Prim.Native.Nat.{ℕ, zero, suc, _+_, _-_}
+use mathlib.Core.Bool.{Bool, true, false, _&&_}
+use mathlib.Core.List.{List, [], _∷_, _++_, map}
+use lib.ListN.{length, take, drop}
+use lib.Dec.{ltb}
+use Rattle.rules.specs.Tests.{pick, unless}
+use Rattle.rules.specs.Numbers.{berthCount, toBerth, frameLength}
+use Rattle.rules.specs.Ranges.{berthAt, inOrder}
+use Rattle.rules.specs.Arrivals.{Came}
+use Rattle.rules.specs.Ticks.{rxCode, txCode}
+use Rattle.rules.specs.Turns.{HandedOver, sent as sentBerth, lengthSending}
+use Rattle.rules.specs.Stores.{Held, rightStore, areaOf, stored, withBerth, tickedNode, servedNode, setUpNode, passedOver, reached, cameAt, handedAt}
+use Rattle.rules.specs.Answers.{Answer, refused, ready, heard, codes, sent, handed, none, shown}
+use Rattle.rules.specs.Refusals.{Call, frame, tick, send, turn, show, senderOf, refusal, setUpRefusal}
+use Rattle.rules.specs.declared.Settings.{Settings}
+use Rattle.rules.specs.declared.Berth.{Berth}
+use Rattle.rules.specs.declared.Node.{Node}
+use Rattle.rules.specs.declared.Codes.{Codes}
+
+-- ---- show: the part that holds the last message arrived, or the message now being sent. It is empty if there is none, the berth
+-- is above 9, the node is out of order or either store has a wrong length
+
+unfoldable pub showable : Held → ℕ → Bool
+showable h k =
+    inOrder (h .node) && (rightStore (h .node) (h .incoming) && (rightStore (h .node) (h .outgoing) && ltb k berthCount))
+
+unfoldable pub shownLength : Held → ℕ → Bool → ℕ
+shownLength h k choice =
+    pick (showable h k) (pick choice (lengthSending (berthAt (h .node) k .tx)) (berthAt (h .node) k .last)) 0
+
+abbrev pub chosenStore : Held → Bool → List ℕ
+chosenStore h choice = pick choice (h .outgoing) (h .incoming)
+
+unfoldable pub showing : Held → ℕ → Bool → List ℕ
+showing h k choice = take (shownLength h k choice) (areaOf (h .node .settings .area) k (chosenStore h choice))
+
+-- ---- what a call that is not refused leaves: the node and the stores
+
+-- a frame changes its berth, and stores in its area
+unfoldable pub afterFrame : Held → ℕ → Came → Held
+afterFrame h k c =
+    record {
+      node = withBerth (h .node) k (c .berth);
+      incoming = stored (h .node .settings .area) k (c .place) (c .bytes) (h .incoming);
+      outgoing = h .outgoing;
+    }
+
+unfoldable pub done : Held → Call → Held
+done h (frame id d) = afterFrame h (senderOf id) (cameAt h (senderOf id) d)
+done h tick = record { node = tickedNode (h .node); incoming = h .incoming; outgoing = h .outgoing }
+done h (send k m) =
+    record {
+      node = withBerth (h .node) k (sentBerth (berthAt (h .node) k) (length m));
+      incoming = h .incoming;
+      outgoing = stored (h .node .settings .area) k 0 m (h .outgoing);
+    }
+done h (turn buffer) =
+    pick (ltb (passedOver (h .node)) berthCount)
+    (record {
+      node = servedNode (h .node) (reached (h .node)) (handedAt h (reached (h .node)) .berth);
+      incoming = h .incoming;
+      outgoing = h .outgoing;
+    })
+    h
+done h (show k choice) = h
+
+-- ---- what it answers
+
+unfoldable pub codesOf : Berth → Codes
+codesOf b = record { receive = rxCode (b .rx); send = txCode (b .tx) }
+
+unfoldable pub reply : Held → Call → Answer
+reply h (frame id d) = heard (senderOf id) (cameAt h (senderOf id) d .old) (cameAt h (senderOf id) d .word)
+reply h tick = codes (map codesOf (h .node .berths))
+reply h (send k m) = sent k
+reply h (turn buffer) =
+    pick (ltb (passedOver (h .node)) berthCount)
+    (handed (toBerth + reached (h .node)) (handedAt h (reached (h .node)) .frame) (handedAt h (reached (h .node)) .code) (passedOver (h .node)))
+    (none berthCount)
+reply h (show k choice) = shown (showing h k choice)
+
+-- ---- the buffer after it: a turn puts the frame down at its front, and bytes past 8 are never written
+
+abbrev pub bufferOf : Call → List ℕ
+bufferOf (frame id d) = []
+bufferOf tick = []
+bufferOf (send k m) = []
+bufferOf (turn buffer) = buffer
+bufferOf (show k choice) = []
+
+unfoldable pub written : Held → Call → List ℕ
+written h (frame id d) = []
+written h tick = []
+written h (send k m) = []
+written h (turn buffer) =
+    pick (ltb (passedOver (h .node)) berthCount) (handedAt h (reached (h .node)) .frame ++ drop frameLength buffer) buffer
+written h (show k choice) = []
+
+-- ---- the outcome of a call: the answer, the node and both stores, the buffer. A refusal gives only its number; all else stays
+
+pub record Outcome : Type 0 where
+  pub answer : Answer
+  pub held : Held
+  pub buffer : List ℕ
+
+unfoldable pub refusedOutcome : Held → List ℕ → ℕ → Outcome
+refusedOutcome h buffer n = record { answer = refused n; held = h; buffer = buffer }
+
+unfoldable pub outcome : Held → Call → Outcome
+outcome h c =
+    unless (refusal h c) (refusedOutcome h (bufferOf c)) (record { answer = reply h c; held = done h c; buffer = written h c })
+
+-- set-up touches no store
+unfoldable pub setUpOutcome : Held → ℕ → ℕ → ℕ → Outcome
+setUpOutcome h a bs stmin =
+    unless (setUpRefusal a bs stmin) (refusedOutcome h [])
+    (record {
+      answer = ready;
+      held = record { node = setUpNode (record { area = a; block = bs; stmin = stmin }); incoming = h .incoming; outgoing = h .outgoing };
+      buffer = [];
+    })
+
+-- ---- a run of calls: its outcomes, its answers, and what it leaves
+
+unfoldable pub outcomes : Held → List Call → List Outcome
+outcomes h [] = []
+outcomes h (c ∷ cs) = outcome h c ∷ outcomes (outcome h c .held) cs
+
+unfoldable pub answers : Held → List Call → List Answer
+answers h [] = []
+answers h (c ∷ cs) = outcome h c .answer ∷ answers (outcome h c .held) cs
+
+unfoldable pub final : Held → List Call → Held
+final h [] = h
+final h (c ∷ cs) = final (outcome h c .held) cs

@@ -1,0 +1,142 @@
+-- Paper 01, "What each side of a berth remembers": the ranges, as a test, and as a record of plain facts. That the two say the
+-- same is proved (proofs/Exact). A node that breaks a range is out of order.
+use Prim.Native.Nat.{ℕ, _≤_, _<_}
+use mathlib.Core.Path.{_≡_}
+use mathlib.Core.Logic.{_⊎_}
+use mathlib.Core.Bool.{Bool, true, false, _&&_, _||_}
+use mathlib.Core.List.{List, [], _∷_}
+use lib.ListN.{length, getD}
+use lib.Dec.{ltb, leb, eqb}
+use Rattle.rules.specs.Tests.{pick, all, each}
+use Rattle.rules.specs.Numbers.{berthCount, leastArea, largestArea, largestBlock, mostMillis, leastFraction, mostFraction, timeout, snCount, longestGap, singleMost, firstBytes, leastLong}
+use Rattle.rules.specs.declared.Settings.{Settings}
+use Rattle.rules.specs.declared.Taking.{Taking}
+use Rattle.rules.specs.declared.Sending.{Sending}
+use Rattle.rules.specs.declared.Rx.{Rx}
+use Rattle.rules.specs.declared.Tx.{Tx}
+use Rattle.rules.specs.declared.Berth.{Berth}
+use Rattle.rules.specs.declared.Node.{Node}
+
+-- ---- the settings
+
+-- an STmin byte is 00 to 7F or F1 to F9
+unfoldable pub stminAllowed : ℕ → Bool
+stminAllowed stmin = leb stmin mostMillis || (leb leastFraction stmin && leb stmin mostFraction)
+
+abbrev pub StminRange : ℕ → Type 0
+StminRange stmin = (stmin ≤ mostMillis) ⊎ ((leastFraction ≤ stmin) × (stmin ≤ mostFraction))
+
+-- A is 8 to 4,095, BS is 0 to 255
+unfoldable pub settingsAllowed : ℕ → ℕ → ℕ → Bool
+settingsAllowed a bs stmin = all (leb leastArea a ∷ leb a largestArea ∷ leb bs largestBlock ∷ stminAllowed stmin ∷ [])
+
+pub record SettingsRange (a bs stmin : ℕ) : Type 0 where
+  pub area-least : leastArea ≤ a
+  pub area-most : a ≤ largestArea
+  pub block-most : bs ≤ largestBlock
+  pub stmin-allowed : StminRange stmin
+
+-- ---- counts of frames in a block
+
+-- a count is below the block size, or 0 if that is 0
+unfoldable pub inBlock : ℕ → ℕ → Bool
+inBlock block n = pick (eqb block 0) (eqb n 0) (ltb n block)
+
+abbrev pub BlockRange : ℕ → ℕ → Type 0
+BlockRange block n = (n < block) ⊎ ((block ≡ 0) × (n ≡ 0))
+
+-- ---- the receive side
+
+-- total is 8 to A, got 6 to total - 1, the next SN 0 to 15, and the frames taken are a count in a block of BS
+unfoldable pub takingInRange : Settings → Taking → Bool
+takingInRange s p =
+    all
+    (leb leastLong (p .total) ∷ leb (p .total) (s .area) ∷ leb firstBytes (p .got) ∷ ltb (p .got) (p .total)
+    ∷ ltb (p .sn .0) snCount ∷ inBlock (s .block) (p .taken) ∷ [])
+
+pub record TakingRange (s : Settings) (p : Taking) : Type 0 where
+  pub total-least : leastLong ≤ p .total
+  pub total-most : p .total ≤ s .area
+  pub got-least : firstBytes ≤ p .got
+  pub got-most : p .got < p .total
+  pub sn-most : p .sn .0 < snCount
+  pub taken : BlockRange (s .block) (p .taken)
+
+-- the last length is 0 to A, and 0 while the side owes go or awaits; all but idle have a timer 0 to 999
+unfoldable pub rxInRange : Settings → ℕ → Rx → Bool
+rxInRange s last Rx.Idle = leb last (s .area)
+rxInRange s last (Rx.OwesOverflow t) = all (leb last (s .area) ∷ ltb t timeout ∷ [])
+rxInRange s last (Rx.OwesGo p t) = all (eqb last 0 ∷ takingInRange s p ∷ ltb t timeout ∷ [])
+rxInRange s last (Rx.Awaits p t) = all (eqb last 0 ∷ takingInRange s p ∷ ltb t timeout ∷ [])
+
+abbrev pub RxRange : Settings → ℕ → Rx → Type 0
+RxRange s last Rx.Idle = last ≤ s .area
+RxRange s last (Rx.OwesOverflow t) = (last ≤ s .area) × (t < timeout)
+RxRange s last (Rx.OwesGo p t) = (last ≡ 0) × TakingRange s p × (t < timeout)
+RxRange s last (Rx.Awaits p t) = (last ≡ 0) × TakingRange s p × (t < timeout)
+
+-- ---- the send side
+
+-- length is 8 to A, position 6 to length - 1, the next SN 0 to 15, the frames sent are a count in a block of the peer's size,
+-- the peer's gap and the gap left are 0 to 127
+unfoldable pub sendingInRange : Settings → Sending → Bool
+sendingInRange s o =
+    all
+    (leb leastLong (o .length) ∷ leb (o .length) (s .area) ∷ leb firstBytes (o .position) ∷ ltb (o .position) (o .length)
+    ∷ ltb (o .sn .0) snCount ∷ inBlock (o .block) (o .sent) ∷ leb (o .gap) longestGap ∷ leb (o .left) longestGap ∷ [])
+
+pub record SendingRange (s : Settings) (o : Sending) : Type 0 where
+  pub length-least : leastLong ≤ o .length
+  pub length-most : o .length ≤ s .area
+  pub position-least : firstBytes ≤ o .position
+  pub position-most : o .position < o .length
+  pub sn-most : o .sn .0 < snCount
+  pub sent : BlockRange (o .block) (o .sent)
+  pub gap-most : o .gap ≤ longestGap
+  pub left-most : o .left ≤ longestGap
+
+-- single due has a length 1 to 7, first due 8 to A; while awaiting, the frames sent and the gap left are 0; while the gap left
+-- is above 0 the timer is 0; all but idle have a timer 0 to 999
+unfoldable pub txInRange : Settings → Tx → Bool
+txInRange s Tx.Idle = true
+txInRange s (Tx.SingleDue n t) = all (leb 1 n ∷ leb n singleMost ∷ ltb t timeout ∷ [])
+txInRange s (Tx.FirstDue n t) = all (leb leastLong n ∷ leb n (s .area) ∷ ltb t timeout ∷ [])
+txInRange s (Tx.AwaitsFlow o t) = all (sendingInRange s o ∷ eqb (o .sent) 0 ∷ eqb (o .left) 0 ∷ ltb t timeout ∷ [])
+txInRange s (Tx.Consecutive o t) = all (sendingInRange s o ∷ (eqb (o .left) 0 || eqb t 0) ∷ ltb t timeout ∷ [])
+
+abbrev pub TxRange : Settings → Tx → Type 0
+TxRange s Tx.Idle = Unit {0}
+TxRange s (Tx.SingleDue n t) = (1 ≤ n) × (n ≤ singleMost) × (t < timeout)
+TxRange s (Tx.FirstDue n t) = (leastLong ≤ n) × (n ≤ s .area) × (t < timeout)
+TxRange s (Tx.AwaitsFlow o t) = SendingRange s o × (o .sent ≡ 0) × (o .left ≡ 0) × (t < timeout)
+TxRange s (Tx.Consecutive o t) = SendingRange s o × ((o .left ≡ 0) ⊎ (t ≡ 0)) × (t < timeout)
+
+-- ---- one berth, and the node
+
+unfoldable pub berthInOrder : Settings → Berth → Bool
+berthInOrder s b = all (rxInRange s (b .last) (b .rx) ∷ txInRange s (b .tx) ∷ [])
+
+pub record BerthRange (s : Settings) (b : Berth) : Type 0 where
+  pub receive : RxRange s (b .last) (b .rx)
+  pub send : TxRange s (b .tx)
+
+-- a berth with both sides idle and nothing arrived
+abbrev pub fresh : Berth
+fresh = record { rx = Rx.Idle; last = 0; tx = Tx.Idle }
+
+-- berth k's part of the node
+unfoldable pub berthAt : Node → ℕ → Berth
+berthAt n k = getD (n .berths) k fresh
+
+-- the settings are in range, the berth served last is 0 to 9, and each of the ten berths is in order
+unfoldable pub inOrder : Node → Bool
+inOrder n =
+    all
+    (settingsAllowed (n .settings .area) (n .settings .block) (n .settings .stmin) ∷ ltb (n .served) berthCount
+    ∷ eqb (length (n .berths)) berthCount ∷ each (berthInOrder (n .settings)) (n .berths) ∷ [])
+
+pub record InOrder (n : Node) : Type 0 where
+  pub settings : SettingsRange (n .settings .area) (n .settings .block) (n .settings .stmin)
+  pub served : n .served < berthCount
+  pub ten : length (n .berths) ≡ berthCount
+  pub berth : (k : ℕ) → k < berthCount → BerthRange (n .settings) (berthAt n k)

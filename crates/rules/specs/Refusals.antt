@@ -1,0 +1,94 @@
+-- Paper 01, "Refusal numbers": the calls, and for each the needs in ascending order, as tests and as plain conditions. That a
+-- refusal is n if and only if condition n holds and no lower one of the call does is proved (proofs/Exact).
+use Prim.Native.Nat.{ℕ, _+_, _-_, _*_, _≤_, _<_}
+use mathlib.Core.Path.{_≡_}
+use mathlib.Core.Bool.{Bool, true, false, not, _&&_}
+use mathlib.Core.List.{List, [], _∷_}
+use lib.ListN.{length}
+use lib.Dec.{ltb, leb}
+use Rattle.rules.specs.Tests.{Need, need, firstUnmet}
+use Rattle.rules.specs.Numbers.{berthCount, fromBerth, frameLength, outOfOrder, wrongStore, wrongIdentifier, tooManyBytes, noSuchBerth, emptyMessage, messageTooLong, alreadySending, shortBuffer, badSetting, outsideArea}
+use Rattle.rules.specs.Ranges.{settingsAllowed, SettingsRange, berthAt, inOrder, InOrder}
+use Rattle.rules.specs.Arrivals.{Came}
+use Rattle.rules.specs.Turns.{busy}
+use Rattle.rules.specs.Stores.{Held, rightStore, inside, cameAt}
+
+-- the five calls: a frame came in on an identifier; a tick; send a message to a berth; call for a frame with a buffer; show a
+-- berth's message, of the outgoing store if the choice is true
+pub data Call : Type 0 where
+  frame : ℕ → List ℕ → Call
+  tick : Call
+  send : ℕ → List ℕ → Call
+  turn : List ℕ → Call
+  show : ℕ → Bool → Call
+
+-- the berth that sends on an identifier
+abbrev pub senderOf : ℕ → ℕ
+senderOf id = id - fromBerth
+
+-- the needs of each call; show has none, it answers with an empty part
+unfoldable pub needs : Held → Call → List Need
+needs h (frame id d) =
+    need outOfOrder (inOrder (h .node))
+    ∷ need wrongStore (rightStore (h .node) (h .incoming))
+    ∷ need wrongIdentifier (leb fromBerth id && ltb id (fromBerth + berthCount))
+    ∷ need tooManyBytes (leb (length d) frameLength)
+    ∷ need outsideArea (inside (h .node .settings .area) (cameAt h (senderOf id) d .place) (length (cameAt h (senderOf id) d .bytes)))
+    ∷ []
+needs h tick = need outOfOrder (inOrder (h .node)) ∷ []
+needs h (send k m) =
+    need outOfOrder (inOrder (h .node))
+    ∷ need wrongStore (rightStore (h .node) (h .outgoing))
+    ∷ need noSuchBerth (ltb k berthCount)
+    ∷ need emptyMessage (ltb 0 (length m))
+    ∷ need messageTooLong (leb (length m) (h .node .settings .area))
+    ∷ need alreadySending (not (busy (berthAt (h .node) k .tx)))
+    ∷ []
+needs h (turn buffer) =
+    need outOfOrder (inOrder (h .node))
+    ∷ need wrongStore (rightStore (h .node) (h .outgoing))
+    ∷ need shortBuffer (leb frameLength (length buffer))
+    ∷ []
+needs h (show k choice) = []
+
+unfoldable pub refusal : Held → Call → ℕ
+refusal h c = firstUnmet (needs h c)
+
+unfoldable pub setUpRefusal : ℕ → ℕ → ℕ → ℕ
+setUpRefusal a bs stmin = firstUnmet (need badSetting (settingsAllowed a bs stmin) ∷ [])
+
+-- ---- the same table in plain conditions: number and when
+
+pub record Condition : Type 1 where
+  pub number : ℕ
+  pub when : Type 0
+
+abbrev pub condition : ℕ → Type 0 → Condition
+condition n P = record { number = n; when = P }
+
+abbrev pub conditions : Held → Call → List Condition
+conditions h (frame id d) =
+    condition 1 (InOrder (h .node) → ⊥)
+    ∷ condition 2 (length (h .incoming) ≡ 10 * h .node .settings .area → ⊥)
+    ∷ condition 3 ((0x640 ≤ id) × (id ≤ 0x649) → ⊥)
+    ∷ condition 4 (8 < length d)
+    ∷ condition 11 (h .node .settings .area < cameAt h (senderOf id) d .place + length (cameAt h (senderOf id) d .bytes))
+    ∷ []
+conditions h tick = condition 1 (InOrder (h .node) → ⊥) ∷ []
+conditions h (send k m) =
+    condition 1 (InOrder (h .node) → ⊥)
+    ∷ condition 2 (length (h .outgoing) ≡ 10 * h .node .settings .area → ⊥)
+    ∷ condition 5 (9 < k)
+    ∷ condition 6 (length m ≡ 0)
+    ∷ condition 7 (h .node .settings .area < length m)
+    ∷ condition 8 (busy (berthAt (h .node) k .tx) ≡ true)
+    ∷ []
+conditions h (turn buffer) =
+    condition 1 (InOrder (h .node) → ⊥)
+    ∷ condition 2 (length (h .outgoing) ≡ 10 * h .node .settings .area → ⊥)
+    ∷ condition 9 (length buffer < 8)
+    ∷ []
+conditions h (show k choice) = []
+
+abbrev pub setUpConditions : ℕ → ℕ → ℕ → List Condition
+setUpConditions a bs stmin = condition 10 (SettingsRange a bs stmin → ⊥) ∷ []

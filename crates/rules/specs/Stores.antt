@@ -1,0 +1,81 @@
+-- Paper 01, the node of ten berths: the two stores and the berths' areas, the round, the node after a call, and set-up.
+use Prim.Native.Nat.{ℕ, zero, suc, _+_, _-_, _*_, _%_, min}
+use mathlib.Core.Bool.{Bool, true, false}
+use mathlib.Core.List.{List, [], _∷_, map}
+use lib.ListN.{length, take, drop, set, replicate}
+use lib.Seq.{sets}
+use lib.Dec.{leb, eqb}
+use Rattle.rules.specs.Tests.{pick}
+use Rattle.rules.specs.Numbers.{berthCount}
+use Rattle.rules.specs.Ranges.{fresh, berthAt}
+use Rattle.rules.specs.Arrivals.{Came, frameCame}
+use Rattle.rules.specs.Ticks.{ticked}
+use Rattle.rules.specs.Turns.{due, HandedOver, handOver}
+use Rattle.rules.specs.declared.Settings.{Settings}
+use Rattle.rules.specs.declared.Berth.{Berth}
+use Rattle.rules.specs.declared.Node.{Node}
+
+-- ---- what the calls are lent: the node and the two stores
+
+pub record Held : Type 0 where
+  pub node : Node
+  pub incoming : List ℕ
+  pub outgoing : List ℕ
+
+-- a store is exactly 10 x A bytes
+unfoldable pub rightStore : Node → List ℕ → Bool
+rightStore n store = eqb (length store) (berthCount * n .settings .area)
+
+-- berth k owns bytes kA to kA + A - 1 of a store
+unfoldable pub areaOf : ℕ → ℕ → List ℕ → List ℕ
+areaOf a k store = take a (drop (k * a) store)
+
+-- a store with bytes put down at a place of berth k's area
+unfoldable pub stored : ℕ → ℕ → ℕ → List ℕ → List ℕ → List ℕ
+stored a k place bytes store = sets store (k * a + place) bytes
+
+-- so many bytes at a place stay inside an area of A bytes
+unfoldable pub inside : ℕ → ℕ → ℕ → Bool
+inside a place count = leb (place + count) a
+
+-- ---- the node with one berth anew, and with each berth anew
+
+unfoldable pub withBerth : Node → ℕ → Berth → Node
+withBerth n k b = record { settings = n .settings; served = n .served; berths = set (n .berths) k b }
+
+unfoldable pub tickedNode : Node → Node
+tickedNode n = record { settings = n .settings; served = n .served; berths = map ticked (n .berths) }
+
+unfoldable pub servedNode : Node → ℕ → Berth → Node
+servedNode n k b = record { settings = n .settings; served = k; berths = set (n .berths) k b }
+
+-- ---- set-up fills the node whatever it held before: served 9, all sides idle, all last lengths 0
+
+unfoldable pub setUpNode : Settings → Node
+setUpNode s = record { settings = s; served = berthCount - 1; berths = replicate berthCount fresh }
+
+-- ---- the round: from the berth after the one served last
+
+-- how many berths stand between the one served last and berth k
+unfoldable pub distance : ℕ → ℕ → ℕ
+distance served k = (k + (berthCount - 1) - served) % berthCount
+
+-- the least distance of a due berth among berths k, k + 1, ..; 10 if none is due
+unfoldable pub leastDistance : ℕ → ℕ → List Berth → ℕ
+leastDistance served k [] = berthCount
+leastDistance served k (b ∷ bs) = min (pick (due b) (distance served k) berthCount) (leastDistance served (suc k) bs)
+
+unfoldable pub passedOver : Node → ℕ
+passedOver n = leastDistance (n .served) 0 (n .berths)
+
+-- the berth that is passed to after so many
+unfoldable pub reached : Node → ℕ
+reached n = (n .served + 1 + passedOver n) % berthCount
+
+-- ---- the rules of one berth, at berth k
+
+unfoldable pub cameAt : Held → ℕ → List ℕ → Came
+cameAt h k d = frameCame (h .node .settings) (berthAt (h .node) k) d
+
+unfoldable pub handedAt : Held → ℕ → HandedOver
+handedAt h k = handOver (h .node .settings) (berthAt (h .node) k) (areaOf (h .node .settings .area) k (h .outgoing))

@@ -1,0 +1,143 @@
+-- Paper 01, "Ticks and turns", at one berth: whether a frame is due, what is handed over, how a message begins to be sent, and
+-- which lengths are shown.
+use Prim.Native.Nat.{ℕ, _+_, _-_}
+use mathlib.Core.Bool.{Bool, true, false, _||_}
+use mathlib.Core.List.{List, [], _∷_}
+use lib.ListN.{take, drop}
+use lib.Dec.{leb, eqb}
+use Rattle.rules.specs.Tests.{pick}
+use Rattle.rules.specs.Numbers.{singleMost, firstBytes, consecutiveMost, N-OK}
+use Rattle.rules.specs.Frames.{singleFrame, firstFrame, consecutiveFrame, goFrame, overflowFrame, firstSn, nextSn, counted, fillsBlock, share}
+use Rattle.rules.specs.declared.Settings.{Settings}
+use Rattle.rules.specs.declared.Taking.{Taking}
+use Rattle.rules.specs.declared.Sending.{Sending}
+use Rattle.rules.specs.declared.Rx.{Rx}
+use Rattle.rules.specs.declared.Tx.{Tx}
+use Rattle.rules.specs.declared.Berth.{Berth}
+
+-- ---- a frame is due for flow control owed, single due, first due, and consecutive with gap left 0
+
+unfoldable pub flowDue : Rx → Bool
+flowDue Rx.Idle = false
+flowDue (Rx.OwesOverflow t) = true
+flowDue (Rx.OwesGo p t) = true
+flowDue (Rx.Awaits p t) = false
+
+unfoldable pub messageDue : Tx → Bool
+messageDue Tx.Idle = false
+messageDue (Tx.SingleDue n t) = true
+messageDue (Tx.FirstDue n t) = true
+messageDue (Tx.AwaitsFlow o t) = false
+messageDue (Tx.Consecutive o t) = eqb (o .left) 0
+
+unfoldable pub due : Berth → Bool
+due b = flowDue (b .rx) || messageDue (b .tx)
+
+-- ---- flow control handed over: after go the side awaits, timer and block count 0; after overflow it is idle
+
+unfoldable pub flowFrame : Settings → Rx → List ℕ
+flowFrame s Rx.Idle = []
+flowFrame s (Rx.OwesOverflow t) = overflowFrame
+flowFrame s (Rx.OwesGo p t) = goFrame s
+flowFrame s (Rx.Awaits p t) = []
+
+unfoldable pub newBlock : Taking → Taking
+newBlock p = record { total = p .total; got = p .got; sn = p .sn; taken = 0 }
+
+unfoldable pub afterFlow : Rx → Rx
+afterFlow Rx.Idle = Rx.Idle
+afterFlow (Rx.OwesOverflow t) = Rx.Idle
+afterFlow (Rx.OwesGo p t) = Rx.Awaits (newBlock p) 0
+afterFlow (Rx.Awaits p t) = Rx.Awaits p t
+
+-- ---- a message's frame handed over
+
+unfoldable pub toGo : Sending → ℕ
+toGo o = o .length - o .position
+
+unfoldable pub messageFrame : Tx → List ℕ → List ℕ
+messageFrame Tx.Idle area = []
+messageFrame (Tx.SingleDue n t) area = singleFrame (take n area)
+messageFrame (Tx.FirstDue n t) area = firstFrame n (take firstBytes area)
+messageFrame (Tx.AwaitsFlow o t) area = []
+messageFrame (Tx.Consecutive o t) area = consecutiveFrame (o .sn) (take (share consecutiveMost (toGo o)) (drop (o .position) area))
+
+-- the code is 1 with a message's last frame, else 0
+unfoldable pub messageCode : Tx → ℕ
+messageCode Tx.Idle = 0
+messageCode (Tx.SingleDue n t) = N-OK
+messageCode (Tx.FirstDue n t) = 0
+messageCode (Tx.AwaitsFlow o t) = 0
+messageCode (Tx.Consecutive o t) = pick (leb (toGo o) consecutiveMost) N-OK 0
+
+-- a first frame leaves position 6, SN 1, peer's block size and gap 0
+unfoldable pub opened : ℕ → Sending
+opened n = record { length = n; position = firstBytes; sn = firstSn; block = 0; sent = 0; gap = 0; left = 0 }
+
+unfoldable pub moved : Sending → ℕ → ℕ → Sending
+moved o sent left =
+    record {
+      length = o .length;
+      position = o .position + share consecutiveMost (toGo o);
+      sn = nextSn (o .sn);
+      block = o .block;
+      sent = sent;
+      gap = o .gap;
+      left = left;
+    }
+
+-- a consecutive frame: the last leaves the side idle; one that fills the peer's block leaves it awaiting flow control with block
+-- count 0; otherwise gap left becomes the peer's gap
+unfoldable pub afterConsecutive : Sending → Tx
+afterConsecutive o =
+    pick (leb (toGo o) consecutiveMost) Tx.Idle
+    (pick (fillsBlock (o .block) (o .sent)) (Tx.AwaitsFlow (moved o 0 0) 0)
+    (Tx.Consecutive (moved o (counted (o .block) (o .sent)) (o .gap)) 0))
+
+unfoldable pub afterMessage : Tx → Tx
+afterMessage Tx.Idle = Tx.Idle
+afterMessage (Tx.SingleDue n t) = Tx.Idle
+afterMessage (Tx.FirstDue n t) = Tx.AwaitsFlow (opened n) 0
+afterMessage (Tx.AwaitsFlow o t) = Tx.AwaitsFlow o t
+afterMessage (Tx.Consecutive o t) = afterConsecutive o
+
+-- ---- the hand-over: within a berth, flow control goes first
+
+pub record HandedOver : Type 0 where
+  pub berth : Berth
+  pub frame : List ℕ
+  pub code : ℕ
+
+unfoldable pub handOver : Settings → Berth → List ℕ → HandedOver
+handOver s b area =
+    pick (flowDue (b .rx))
+    (record { berth = record { rx = afterFlow (b .rx); last = b .last; tx = b .tx }; frame = flowFrame s (b .rx); code = 0 })
+    (record {
+      berth = record { rx = b .rx; last = b .last; tx = afterMessage (b .tx) };
+      frame = messageFrame (b .tx) area;
+      code = messageCode (b .tx);
+    })
+
+-- ---- send: a message of n bytes begins as single due or first due, timer 0
+
+unfoldable pub beginsWith : ℕ → Tx
+beginsWith n = pick (leb n singleMost) (Tx.SingleDue n 0) (Tx.FirstDue n 0)
+
+unfoldable pub sent : Berth → ℕ → Berth
+sent b n = record { rx = b .rx; last = b .last; tx = beginsWith n }
+
+-- ---- the message now being sent: its length, 0 for none
+
+unfoldable pub lengthSending : Tx → ℕ
+lengthSending Tx.Idle = 0
+lengthSending (Tx.SingleDue n t) = n
+lengthSending (Tx.FirstDue n t) = n
+lengthSending (Tx.AwaitsFlow o t) = o .length
+lengthSending (Tx.Consecutive o t) = o .length
+
+unfoldable pub busy : Tx → Bool
+busy Tx.Idle = false
+busy (Tx.SingleDue n t) = true
+busy (Tx.FirstDue n t) = true
+busy (Tx.AwaitsFlow o t) = true
+busy (Tx.Consecutive o t) = true
