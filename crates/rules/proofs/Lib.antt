@@ -1,0 +1,2 @@
+-- Facts about single rules, each by its name.
+pub mod Cases
