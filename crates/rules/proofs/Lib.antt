@@ -1,2 +1,5 @@
 -- Facts about single rules, each by its name.
 pub mod Cases
+pub mod Areas
+pub mod Ranges
+pub mod Answered

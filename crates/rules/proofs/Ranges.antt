@@ -1,0 +1,199 @@
+-- The ranges, test and record of facts: each says what the other says.
+use mathlib.Core.Path.{_≡_, refl, sym, ap, _∙_}
+use mathlib.Core.Logic.{_⊎_, inl, inr, ⊎-elim}
+use Prim.Native.Nat.{ℕ, zero, suc, _+_, _≤_, _<_, max}
+use native.Mathlib.Omega.{arith}
+use mathlib.Core.Bool.{Bool, true, false, not, _&&_, _||_}
+use mathlib.Core.List.{List, [], _∷_}
+use lib.ListN.{length, getD}
+use lib.Dec.{T, eqb, ltb, leb}
+use mir.Facts.{leb-yes, ltb-yes, eqb-yes, yes-leb, yes-ltb, yes-eqb, yes-and}
+use Rattle.rules.specs.Tests.{pick, all, each}
+use Rattle.rules.specs.Numbers.{berthCount, mostMillis, leastFraction, mostFraction, timeout}
+use Rattle.rules.specs.Ranges.{stminAllowed, StminRange, settingsAllowed, SettingsRange, inBlock, BlockRange, takingInRange, TakingRange, rxInRange, RxRange, sendingInRange, SendingRange, txInRange, TxRange, berthInOrder, BerthRange, fresh, berthAt, inOrder, InOrder}
+use Rattle.rules.specs.declared.Settings.{Settings}
+use Rattle.rules.specs.declared.Taking.{Taking}
+use Rattle.rules.specs.declared.Sending.{Sending}
+use Rattle.rules.specs.declared.Rx.{Rx}
+use Rattle.rules.specs.declared.Tx.{Tx}
+use Rattle.rules.specs.declared.Berth.{Berth}
+use Rattle.rules.specs.declared.Node.{Node}
+use Rattle.rules.proofs.Cases.{Tested, holds, fails, eqb-cases, and-left, and-right, or-cases, or-left, or-right, all-yes, yes-all, each-at, each-of}
+
+-- ---- settings
+
+pub stmin-range : (stmin : ℕ) → T (stminAllowed stmin) → StminRange stmin
+unfolding stminAllowed
+stmin-range stmin t =
+    ⊎-elim (λ l. inl (leb-yes l)) (λ r. inr (leb-yes (and-left (leb leastFraction stmin) _ r), leb-yes (and-right (leb leastFraction stmin) _ r)))
+    (or-cases (leb stmin mostMillis) _ t)
+
+pub stmin-allowed : (stmin : ℕ) → StminRange stmin → T (stminAllowed stmin)
+unfolding stminAllowed
+stmin-allowed stmin r =
+    ⊎-elim (λ l. or-left (leb stmin mostMillis) _ (yes-leb l))
+    (λ f. or-right (leb stmin mostMillis) _ (yes-and (leb leastFraction stmin) _ (yes-leb (f .0)) (yes-leb (f .1)))) r
+
+pub settings-range : (a bs stmin : ℕ) → T (settingsAllowed a bs stmin) → SettingsRange a bs stmin
+unfolding settingsAllowed
+settings-range a bs stmin t =
+    let f = all-yes _ t in
+    record { area-least = leb-yes (f .0); area-most = leb-yes (f .1 .0); block-most = leb-yes (f .1 .1 .0); stmin-allowed = stmin-range stmin (f .1 .1 .1 .0) }
+
+pub settings-allowed : (a bs stmin : ℕ) → SettingsRange a bs stmin → T (settingsAllowed a bs stmin)
+unfolding settingsAllowed
+settings-allowed a bs stmin r =
+    yes-all _ (yes-leb (r .area-least), (yes-leb (r .area-most), (yes-leb (r .block-most), (stmin-allowed stmin (r .stmin-allowed), tt))))
+
+-- ---- a count in a block
+
+pub block-range : (block n : ℕ) → T (inBlock block n) → BlockRange block n
+unfolding inBlock
+block-range block n t = go (eqb-cases block 0)
+  where
+    go : Tested (eqb block 0) (block ≡ 0) (block ≡ 0 → ⊥) → BlockRange block n
+    go (holds e z) = inr (z, eqb-yes (rw e at t))
+    go (fails e z) = inl (ltb-yes (rw e at t))
+
+pub in-block : (block n : ℕ) → BlockRange block n → T (inBlock block n)
+unfolding inBlock
+in-block block n r = go (eqb-cases block 0) r
+  where
+    go : Tested (eqb block 0) (block ≡ 0) (block ≡ 0 → ⊥) → BlockRange block n → T (inBlock block n)
+    go (holds e z) (inl l) = absurd (omega arith)
+    go (holds e z) (inr f) = rw e (yes-eqb (f .1))
+    go (fails e z) (inl l) = rw e (yes-ltb l)
+    go (fails e z) (inr f) = absurd (z (f .0))
+
+-- the same for `omega`
+pub block-max : (block n : ℕ) → BlockRange block n → n < max 1 block
+block-max block n r = ⊎-elim (λ l. omega arith) (λ f. omega arith) r
+
+pub max-block : (block n : ℕ) → n < max 1 block → BlockRange block n
+max-block block n h = go (eqb-cases block 0)
+  where
+    go : Tested (eqb block 0) (block ≡ 0) (block ≡ 0 → ⊥) → BlockRange block n
+    go (holds e z) = inr (z, omega arith)
+    go (fails e z) = inl (omega arith)
+
+-- ---- the two sides
+
+module _ (s : Settings) where
+  pub taking-range : (p : Taking) → T (takingInRange s p) → TakingRange s p
+  unfolding takingInRange
+  taking-range p t =
+      let f = all-yes _ t in
+      record {
+        total-least = leb-yes (f .0);
+        total-most = leb-yes (f .1 .0);
+        got-least = leb-yes (f .1 .1 .0);
+        got-most = ltb-yes (f .1 .1 .1 .0);
+        sn-most = ltb-yes (f .1 .1 .1 .1 .0);
+        taken = block-range _ _ (f .1 .1 .1 .1 .1 .0);
+      }
+
+  pub taking-in : (p : Taking) → TakingRange s p → T (takingInRange s p)
+  unfolding takingInRange
+  taking-in p r =
+      yes-all _ (
+        yes-leb (r .total-least),
+        (yes-leb (r .total-most), (yes-leb (r .got-least), (yes-ltb (r .got-most), (yes-ltb (r .sn-most), (in-block _ _ (r .taken), tt))))),
+      )
+
+  pub rx-range : (last : ℕ) (rx : Rx) → T (rxInRange s last rx) → RxRange s last rx
+  unfolding rxInRange
+  rx-range last Rx.Idle t = leb-yes t
+  rx-range last (Rx.OwesOverflow u) t = let f = all-yes _ t in (leb-yes (f .0), ltb-yes (f .1 .0))
+  rx-range last (Rx.OwesGo p u) t = let f = all-yes _ t in (eqb-yes (f .0), taking-range p (f .1 .0), ltb-yes (f .1 .1 .0))
+  rx-range last (Rx.Awaits p u) t = let f = all-yes _ t in (eqb-yes (f .0), taking-range p (f .1 .0), ltb-yes (f .1 .1 .0))
+
+  pub rx-in : (last : ℕ) (rx : Rx) → RxRange s last rx → T (rxInRange s last rx)
+  unfolding rxInRange
+  rx-in last Rx.Idle r = yes-leb r
+  rx-in last (Rx.OwesOverflow u) r = yes-all _ (yes-leb (r .0), (yes-ltb (r .1), tt))
+  rx-in last (Rx.OwesGo p u) r = yes-all _ (yes-eqb (r .0), (taking-in p (r .1), (yes-ltb (r .2), tt)))
+  rx-in last (Rx.Awaits p u) r = yes-all _ (yes-eqb (r .0), (taking-in p (r .1), (yes-ltb (r .2), tt)))
+
+  pub sending-range : (o : Sending) → T (sendingInRange s o) → SendingRange s o
+  unfolding sendingInRange
+  sending-range o t =
+      let f = all-yes _ t in
+      record {
+        length-least = leb-yes (f .0);
+        length-most = leb-yes (f .1 .0);
+        position-least = leb-yes (f .1 .1 .0);
+        position-most = ltb-yes (f .1 .1 .1 .0);
+        sn-most = ltb-yes (f .1 .1 .1 .1 .0);
+        sent = block-range _ _ (f .1 .1 .1 .1 .1 .0);
+        gap-most = leb-yes (f .1 .1 .1 .1 .1 .1 .0);
+        left-most = leb-yes (f .1 .1 .1 .1 .1 .1 .1 .0);
+      }
+
+  pub sending-in : (o : Sending) → SendingRange s o → T (sendingInRange s o)
+  unfolding sendingInRange
+  sending-in o r =
+      yes-all _ (
+        yes-leb (r .length-least),
+        (
+          yes-leb (r .length-most),
+          (
+            yes-leb (r .position-least),
+            (yes-ltb (r .position-most), (yes-ltb (r .sn-most), (in-block _ _ (r .sent), (yes-leb (r .gap-most), (yes-leb (r .left-most), tt))))),
+          ),
+        ),
+      )
+
+  pub tx-range : (tx : Tx) → T (txInRange s tx) → TxRange s tx
+  unfolding txInRange
+  tx-range Tx.Idle t = tt
+  tx-range (Tx.SingleDue n u) t = let f = all-yes _ t in (leb-yes (f .0), leb-yes (f .1 .0), ltb-yes (f .1 .1 .0))
+  tx-range (Tx.FirstDue n u) t = let f = all-yes _ t in (leb-yes (f .0), leb-yes (f .1 .0), ltb-yes (f .1 .1 .0))
+  tx-range (Tx.AwaitsFlow o u) t =
+      let f = all-yes _ t in
+      (sending-range o (f .0), eqb-yes (f .1 .0), eqb-yes (f .1 .1 .0), ltb-yes (f .1 .1 .1 .0))
+  tx-range (Tx.Consecutive o u) t =
+      let f = all-yes _ t in (
+        sending-range o (f .0),
+        ⊎-elim (λ l. inl (eqb-yes l)) (λ r. inr (eqb-yes r)) (or-cases (eqb (o .left) 0) _ (f .1 .0)),
+        ltb-yes (f .1 .1 .0),
+      )
+
+  pub tx-in : (tx : Tx) → TxRange s tx → T (txInRange s tx)
+  unfolding txInRange
+  tx-in Tx.Idle r = tt
+  tx-in (Tx.SingleDue n u) r = yes-all _ (yes-leb (r .0), (yes-leb (r .1), (yes-ltb (r .2), tt)))
+  tx-in (Tx.FirstDue n u) r = yes-all _ (yes-leb (r .0), (yes-leb (r .1), (yes-ltb (r .2), tt)))
+  tx-in (Tx.AwaitsFlow o u) r = yes-all _ (sending-in o (r .0), (yes-eqb (r .1), (yes-eqb (r .2), (yes-ltb (r .3), tt))))
+  tx-in (Tx.Consecutive o u) r =
+      let gap : T (eqb (o .left) 0 || eqb u 0) = ⊎-elim (λ l. or-left (eqb (o .left) 0) (eqb u 0) (yes-eqb l)) (λ h. or-right (eqb (o .left) 0) (eqb u 0) (yes-eqb h)) (r .1) in
+      yes-all _ (sending-in o (r .0), (gap, (yes-ltb (r .2), tt)))
+
+  pub berth-range : (b : Berth) → T (berthInOrder s b) → BerthRange s b
+  unfolding berthInOrder
+  berth-range b t = let f = all-yes _ t in record { receive = rx-range (b .last) (b .rx) (f .0); send = tx-range (b .tx) (f .1 .0) }
+
+  pub berth-in : (b : Berth) → BerthRange s b → T (berthInOrder s b)
+  unfolding berthInOrder
+  berth-in b r = yes-all _ (rx-in (b .last) (b .rx) (r .receive), (tx-in (b .tx) (r .send), tt))
+
+-- ---- the node
+
+-- IN ORDER: the test says the record of ranges, and the record says the test
+pub in-order-range : (n : Node) → T (inOrder n) → InOrder n
+unfolding inOrder berthAt
+in-order-range n t =
+    let f = all-yes _ t in
+    let ten : length (n .berths) ≡ berthCount = eqb-yes (f .1 .1 .0) in
+    record {
+      settings = settings-range _ _ _ (f .0);
+      served = ltb-yes (f .1 .0);
+      ten = ten;
+      berth = λ k h. berth-range (n .settings) _ (each-at (berthInOrder (n .settings)) (n .berths) k fresh (omega arith) (f .1 .1 .1 .0));
+    }
+
+pub range-in-order : (n : Node) → InOrder n → T (inOrder n)
+unfolding inOrder berthAt
+range-in-order n r =
+    let ten = r .ten in
+    let all-in = each-of (berthInOrder (n .settings)) (n .berths) fresh (λ k h. berth-in (n .settings) _ (r .berth k (omega arith))) in
+    yes-all _ (settings-allowed _ _ _ (r .settings), (yes-ltb (r .served), (yes-eqb ten, (all-in, tt))))
