@@ -3,3 +3,4 @@ pub mod Cases
 pub mod Areas
 pub mod Ranges
 pub mod Answered
+pub mod Order
