@@ -4,3 +4,4 @@ pub mod Areas
 pub mod Ranges
 pub mod Answered
 pub mod Order
+pub mod Exact

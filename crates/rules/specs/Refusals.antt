@@ -2,6 +2,7 @@
 -- refusal is n if and only if condition n holds and no lower one of the call does is proved (proofs/Exact).
 use Prim.Native.Nat.{ℕ, _+_, _-_, _*_, _≤_, _<_}
 use mathlib.Core.Path.{_≡_}
+use mathlib.Core.Logic.{_⊎_}
 use mathlib.Core.Bool.{Bool, true, false, not, _&&_}
 use mathlib.Core.List.{List, [], _∷_}
 use lib.ListN.{length}
@@ -92,3 +93,13 @@ conditions h (show k choice) = []
 
 abbrev pub setUpConditions : ℕ → ℕ → ℕ → List Condition
 setUpConditions a bs stmin = condition 10 (SettingsRange a bs stmin → ⊥) ∷ []
+
+-- condition n of a call's list holds
+abbrev pub Holds : List Condition → ℕ → Type 0
+Holds [] n = ⊥
+Holds (c ∷ cs) n = ((n ≡ c .number) × c .when) ⊎ Holds cs n
+
+-- condition n holds and no lower one does
+pub record Refuses (cs : List Condition) (n : ℕ) : Type 0 where
+  pub holds : Holds cs n
+  pub lowest : (m : ℕ) → m < n → Holds cs m → ⊥
