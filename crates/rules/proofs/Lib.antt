@@ -5,3 +5,5 @@ pub mod Ranges
 pub mod Answered
 pub mod Order
 pub mod Exact
+pub mod Facts
+pub mod Round

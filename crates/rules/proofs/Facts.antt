@@ -1,0 +1,186 @@
+-- Short facts about what a frame makes of a berth, and that a refusal leaves everything. Each goes through the branches of its rule.
+use mathlib.Core.Path.{_≡_, refl, sym, ap, _∙_}
+use Prim.Native.Nat.{ℕ, zero, suc, _+_, _-_, _≤_, _<_, min}
+use native.Mathlib.Omega.{arith}
+use mathlib.Core.Bool.{Bool, true, false, not, _&&_, _||_}
+use mathlib.Core.Logic.{_⊎_, inl, inr, ⊎-elim}
+use mathlib.Core.List.{List, [], _∷_}
+use lib.ListN.{length, take, drop, length-take, length-drop}
+use lib.Dec.{T, eqb, ltb, leb}
+use mir.Facts.{eqb-yes, leb-yes, ltb-no, yes-ltb}
+use Rattle.rules.specs.Tests.{pick, unless}
+use Rattle.rules.specs.Numbers.{singleKind, firstKind, consecutiveKind, flowKind, goStatus, waitStatus, overflowStatus, consecutiveMost, frameLength}
+use Rattle.rules.specs.Frames.{kind, low, singleFits, announced, firstFits, consecutiveFits, flowFits, fillsBlock, share}
+use Rattle.rules.specs.Arrivals.{Heard, ignored, singleCame, turnedAway, begun, firstCame, missing, piece, completed, afterTook, took, wrongSn, awaitedCame, consecutiveCame, Told, granted, byStatus, flowIgnored, flowCame, Came, heardBy, toldBy, byKind, frameCame}
+use Rattle.rules.specs.Turns.{newBlock, flowDue, afterFlow, handOver}
+use Rattle.rules.specs.Stores.{Held}
+use Rattle.rules.specs.Refusals.{Call, refusal, setUpRefusal}
+use Rattle.rules.specs.Calls.{reply, done, bufferOf, written, Outcome, refusedOutcome, outcome, setUpOutcome}
+use Rattle.rules.specs.declared.Settings.{Settings}
+use Rattle.rules.specs.declared.Taking.{Taking}
+use Rattle.rules.specs.declared.Sending.{Sending}
+use Rattle.rules.specs.declared.Rx.{Rx}
+use Rattle.rules.specs.declared.Tx.{Tx}
+use Rattle.rules.specs.declared.Berth.{Berth}
+use Rattle.rules.specs.declared.Word.{Word}
+use Rattle.rules.specs.declared.Word.the-variants.{Begun, Ignored}
+use Rattle.rules.proofs.Cases.{is-true, eqb-is, ltb-is, or-cases, and-left, and-right, tests, pick-either}
+
+-- ---- every branch of a frame at a berth: what holds of each kind's rule holds of the frame
+
+pub frame-either : (P : Came → Type 0) (s : Settings) (b : Berth) (d : List ℕ)
+    → ((why : ℕ) → P (heardBy b (ignored why (b .rx) (b .last))))
+    → P (heardBy b (singleCame (b .rx) (b .last) d))
+    → P (heardBy b (firstCame s (b .rx) (b .last) d))
+    → P (heardBy b (consecutiveCame s (b .rx) (b .last) d))
+    → P (toldBy b (flowCame (b .tx) d))
+    → P (frameCame s b d)
+unfolding frameCame byKind
+frame-either P s b d ignores single first consecutive flow =
+    pick-either P (eqb (length d) 0) _ _ (λ t. ignores 1)
+    (λ t. pick-either P (eqb (kind d) singleKind) _ _ (λ u. single)
+    (λ u. pick-either P (eqb (kind d) firstKind) _ _ (λ v. first)
+    (λ v. pick-either P (eqb (kind d) consecutiveKind) _ _ (λ w. consecutive)
+    (λ w. pick-either P (eqb (kind d) flowKind) _ _ (λ x. flow) (λ x. ignores 2)))))
+
+-- two words that are not the same
+clash : {X : Type 0} → _≡_ {A = ℕ} 0 1 → X
+clash e = absurd (omega arith)
+
+-- ---- an ignored frame leaves berth and area as they were, timers included
+
+abbrev Kept : ℕ → Rx → ℕ → Heard → Type 0
+Kept why rx last h = h .word ≡ Ignored why → (h .rx ≡ rx) × (h .last ≡ last) × (h .bytes ≡ [])
+
+module _ (why : ℕ) where
+  ignored-kept : (i : ℕ) (rx : Rx) (last : ℕ) → Kept why rx last (ignored i rx last)
+  unfolding ignored
+  ignored-kept i rx last e = (refl, refl, refl)
+
+  single-kept : (rx : Rx) (last : ℕ) (d : List ℕ) → Kept why rx last (singleCame rx last d)
+  unfolding singleCame
+  single-kept rx last d = pick-either (Kept why rx last) (singleFits d) _ _ (λ t e. clash (cc)) (λ t. ignored-kept 3 rx last)
+
+  first-kept : (s : Settings) (rx : Rx) (last : ℕ) (d : List ℕ) → Kept why rx last (firstCame s rx last d)
+  unfolding firstCame turnedAway begun
+  first-kept s rx last d =
+      pick-either (Kept why rx last) (firstFits d) _ _
+      (λ t. pick-either (Kept why rx last) (ltb (s .area) (announced d)) _ _ (λ u e. clash (cc)) (λ u e. clash (cc)))
+      (λ t. ignored-kept 3 rx last)
+
+  awaited-kept : (s : Settings) (p : Taking) (t last : ℕ) (d : List ℕ) → Kept why (Rx.Awaits p t) last (awaitedCame s p t last d)
+  unfolding awaitedCame completed took wrongSn
+  awaited-kept s p t last d =
+      let K = Kept why (Rx.Awaits p t) last in
+      pick-either K (consecutiveFits (missing p) d) _ _
+      (λ u. pick-either K (eqb (low d) (p .sn .0)) _ _
+      (λ v. pick-either K (leb (missing p) consecutiveMost) _ _ (λ w e. clash (cc)) (λ w e. clash (cc)))
+      (λ v e. clash (cc)))
+      (λ u. ignored-kept 3 (Rx.Awaits p t) last)
+
+  consecutive-kept : (s : Settings) (rx : Rx) (last : ℕ) (d : List ℕ) → Kept why rx last (consecutiveCame s rx last d)
+  unfolding consecutiveCame
+  consecutive-kept s Rx.Idle last d = ignored-kept 4 Rx.Idle last
+  consecutive-kept s (Rx.OwesOverflow t) last d = ignored-kept 4 (Rx.OwesOverflow t) last
+  consecutive-kept s (Rx.OwesGo p t) last d = ignored-kept 4 (Rx.OwesGo p t) last
+  consecutive-kept s (Rx.Awaits p t) last d = awaited-kept s p t last d
+
+  flow-kept : (tx : Tx) (d : List ℕ) → flowCame tx d .word ≡ Ignored why → flowCame tx d .tx ≡ tx
+  unfolding flowCame flowIgnored byStatus
+  flow-kept Tx.Idle d = λ e. refl
+  flow-kept (Tx.SingleDue n t) d = λ e. refl
+  flow-kept (Tx.FirstDue n t) d = λ e. refl
+  flow-kept (Tx.AwaitsFlow o t) d =
+      let K : Told → Type 0 = λ told. told .word ≡ Ignored why → told .tx ≡ Tx.AwaitsFlow o t in
+      pick-either K (flowFits d) _ _
+      (λ u. pick-either K (eqb (low d) goStatus) _ _ (λ v e. clash (cc))
+      (λ v. pick-either K (eqb (low d) waitStatus) _ _ (λ w e. clash (cc))
+      (λ w. pick-either K (eqb (low d) overflowStatus) _ _ (λ x e. clash (cc)) (λ x e. clash (cc)))))
+      (λ u e. refl)
+  flow-kept (Tx.Consecutive o t) d = λ e. refl
+
+  -- AN IGNORED FRAME leaves the berth as it was, timers included, and stores nothing
+  pub ignored-leaves : (s : Settings) (b : Berth) (d : List ℕ) → frameCame s b d .word ≡ Ignored why
+      → (frameCame s b d .berth ≡ b) × (frameCame s b d .bytes ≡ [])
+  unfolding heardBy toldBy
+  ignored-leaves s b d =
+      frame-either (λ (c : Came). c .word ≡ Ignored why → (c .berth ≡ b) × (c .bytes ≡ [])) s b d
+      (λ i e. kept (ignored i (b .rx) (b .last)) (ignored-kept i (b .rx) (b .last) e))
+      (λ e. kept (singleCame (b .rx) (b .last) d) (single-kept (b .rx) (b .last) d e))
+      (λ e. kept (firstCame s (b .rx) (b .last) d) (first-kept s (b .rx) (b .last) d e))
+      (λ e. kept (consecutiveCame s (b .rx) (b .last) d) (consecutive-kept s (b .rx) (b .last) d e))
+      (λ e. (ap (λ (tx : Tx). record { rx = b .rx; last = b .last; tx = tx }) (flow-kept (b .tx) d e), refl))
+    where
+      kept : (h : Heard) → (h .rx ≡ b .rx) × (h .last ≡ b .last) × (h .bytes ≡ []) → (heardBy b h .berth ≡ b) × (heardBy b h .bytes ≡ [])
+      kept h k = ((λ i. record { rx = k .0 i; last = k .1 i; tx = b .tx }), k .2)
+
+-- ---- trusting the announced length
+
+-- NOTHING IS STORED, AND BEGUN NEVER COMES, where the length is above A
+pub too-long : (s : Settings) (rx : Rx) (last : ℕ) (d : List ℕ) → s .area < announced d
+    → (firstCame s rx last d .bytes ≡ []) × ((n : ℕ) → firstCame s rx last d .word ≡ Begun n → ⊥)
+unfolding firstCame turnedAway ignored
+too-long s rx last d h =
+    let P : Heard → Type 0 = λ c. (c .bytes ≡ []) × ((n : ℕ) → c .word ≡ Begun n → ⊥) in
+    pick-either P (firstFits d) _ _
+    (λ t. rw (ltb-is (s .area) (announced d) h) (refl, λ n e. clash (cc))) (λ t. (refl, λ n e. clash (cc)))
+
+-- ---- storing seven bytes from the last frame
+
+-- A CONSECUTIVE FRAME that is taken stores exactly min(7, r) bytes, at got
+pub consecutive-stores : (s : Settings) (p : Taking) (t last : ℕ) (d : List ℕ)
+    → T (consecutiveFits (missing p) d) → low d ≡ p .sn .0
+    → (awaitedCame s p t last d .place ≡ p .got) × (length (awaitedCame s p t last d .bytes) ≡ min 7 (missing p))
+unfolding awaitedCame completed took piece
+consecutive-stores s p t last d f e =
+    rw (is-true (consecutiveFits (missing p) d) f, eqb-is (low d) (p .sn .0) e)
+    (pick-either (λ (h : Heard). (h .place ≡ p .got) × (length (h .bytes) ≡ min 7 (missing p))) (leb (missing p) consecutiveMost) _ _
+    (λ u. (refl, exact)) (λ u. (refl, exact)))
+  where
+    enough : min 7 (missing p) ≤ length (drop 1 d)
+    enough =
+        unfold consecutiveFits in
+        (⊎-elim (λ (u : T (eqb (length d) 8)). omega (tests, length-drop 1 d))
+        (λ (u : T (leb (missing p) 7 && eqb (length d) (missing p + 1))). omega (tests, length-drop 1 d, and-left (leb (missing p) 7) _ u, and-right (leb (missing p) 7) _ u))
+        (or-cases (eqb (length d) 8) _ f))
+
+    exact : length (take (share consecutiveMost (missing p)) (drop 1 d)) ≡ min 7 (missing p)
+    exact = unfold share in (omega (arith, enough, length-take (min 7 (missing p)) (drop 1 d)))
+
+-- ---- resetting the SN at a new block
+
+-- FLOW CONTROL LEAVES THE SN: on the side that takes it
+pub flow-leaves-sn : (o : Sending) (t : ℕ) (d : List ℕ) (o′ : Sending) (t′ : ℕ)
+    → flowCame (Tx.AwaitsFlow o t) d .tx ≡ Tx.Consecutive o′ t′ → o′ .sn ≡ o .sn
+unfolding flowCame flowIgnored byStatus granted
+flow-leaves-sn o t d o′ t′ =
+    let K : Told → Type 0 = λ told. told .tx ≡ Tx.Consecutive o′ t′ → o′ .sn ≡ o .sn in
+    pick-either K (flowFits d) _ _
+    (λ u. pick-either K (eqb (low d) goStatus) _ _ (λ v e. same e)
+    (λ v. pick-either K (eqb (low d) waitStatus) _ _ (λ w e. clash (cc))
+    (λ w. pick-either K (eqb (low d) overflowStatus) _ _ (λ x e. clash (cc)) (λ x e. clash (cc)))))
+    (λ u e. clash (cc))
+  where
+    same : Tx.Consecutive (granted o d) 0 ≡ Tx.Consecutive o′ t′ → o′ .sn ≡ o .sn
+    same e = let g : granted o d ≡ o′ = cc in ap (λ (x : Sending). x .sn) (sym g)
+
+-- and on the side that gives it
+pub go-leaves-sn : (p : Taking) (t : ℕ) (p′ : Taking) (t′ : ℕ) → afterFlow (Rx.OwesGo p t) ≡ Rx.Awaits p′ t′ → p′ .sn ≡ p .sn
+unfolding afterFlow newBlock
+go-leaves-sn p t p′ t′ e = let g : newBlock p ≡ p′ = cc in ap (λ (x : Taking). x .sn) (sym g)
+
+-- ---- refusals
+
+unless-refuses : {X : Type 0} (n : ℕ) (f : ℕ → X) (x : X) → 0 < n → unless n f x ≡ f n
+unless-refuses zero f x l = absurd (omega arith)
+unless-refuses (suc n) f x l = refl
+
+-- A REFUSAL LEAVES THE WHOLE OUTCOME AS IT WAS: node, stores and buffer; it gives only its number
+pub refusal-leaves : (h : Held) (c : Call) → 0 < refusal h c → outcome h c ≡ refusedOutcome h (bufferOf c) (refusal h c)
+unfolding outcome
+refusal-leaves h c l = unless-refuses (refusal h c) _ _ l
+
+pub set-up-refusal-leaves : (h : Held) (a bs stmin : ℕ) → 0 < setUpRefusal a bs stmin
+    → setUpOutcome h a bs stmin ≡ refusedOutcome h [] (setUpRefusal a bs stmin)
+unfolding setUpOutcome
+set-up-refusal-leaves h a bs stmin l = unless-refuses (setUpRefusal a bs stmin) _ _ l
