@@ -7,3 +7,6 @@ pub mod Order
 pub mod Exact
 pub mod Facts
 pub mod Round
+pub mod Handed
+pub mod Answers
+pub mod Needed
