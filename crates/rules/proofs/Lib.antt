@@ -10,3 +10,5 @@ pub mod Round
 pub mod Handed
 pub mod Answers
 pub mod Needed
+pub mod Table
+pub mod Edges
