@@ -11,7 +11,7 @@ use mir.Facts.{eqb-yes, leb-yes, ltb-no, yes-ltb}
 use Rattle.rules.specs.Tests.{pick, unless}
 use Rattle.rules.specs.Numbers.{singleKind, firstKind, consecutiveKind, flowKind, goStatus, waitStatus, overflowStatus, consecutiveMost, frameLength}
 use Rattle.rules.specs.Frames.{kind, low, singleFits, announced, firstFits, consecutiveFits, flowFits, fillsBlock, share}
-use Rattle.rules.specs.Arrivals.{Heard, ignored, singleCame, turnedAway, begun, firstCame, missing, piece, completed, afterTook, took, wrongSn, awaitedCame, consecutiveCame, Told, granted, byStatus, flowIgnored, flowCame, Came, heardBy, toldBy, byKind, frameCame}
+use Rattle.rules.specs.Arrivals.{Heard, ignored, singleCame, aboveArea, turnedAway, begun, firstCame, missing, piece, completed, afterTook, took, wrongSn, awaitedCame, consecutiveCame, Told, granted, byStatus, flowIgnored, flowCame, Came, heardBy, toldBy, byKind, frameCame}
 use Rattle.rules.specs.Turns.{newBlock, flowDue, afterFlow, handOver}
 use Rattle.rules.specs.Stores.{Held}
 use Rattle.rules.specs.Refusals.{Call, refusal, setUpRefusal}
@@ -65,7 +65,7 @@ module _ (why : ℕ) where
   unfolding firstCame turnedAway begun
   first-kept s rx last d =
       pick-either (Kept why rx last) (firstFits d) _ _
-      (λ t. pick-either (Kept why rx last) (ltb (s .area) (announced d)) _ _ (λ u e. clash (cc)) (λ u e. clash (cc)))
+      (λ t. pick-either (Kept why rx last) (aboveArea s (announced d)) _ _ (λ u e. clash (cc)) (λ u e. clash (cc)))
       (λ t. ignored-kept 3 rx last)
 
   awaited-kept : (s : Settings) (p : Taking) (t last : ℕ) (d : List ℕ) → Kept why (Rx.Awaits p t) last (awaitedCame s p t last d)

@@ -15,7 +15,7 @@ use Rattle.rules.specs.Tests.{pick, unless, need, firstUnmet}
 use Rattle.rules.specs.Numbers.{berthCount, longestGap, mostMillis, leastFraction, mostFraction, singleMost, firstBytes, consecutiveMost, leastLong, shortMost, frameLength, singleKind, firstKind, consecutiveKind, flowKind, goStatus, waitStatus, overflowStatus, timeout, outOfOrder, badSetting}
 use Rattle.rules.specs.Ranges.{SettingsRange, BlockRange, TakingRange, RxRange, SendingRange, TxRange, BerthRange, berthInOrder, fresh, berthAt, inOrder, InOrder, settingsAllowed}
 use Rattle.rules.specs.Frames.{byteAt, kind, low, singleFits, shortLength, escapeLength, announced, firstFits, consecutiveFits, flowFits, nextSn, counted, fillsBlock, gapOf, share}
-use Rattle.rules.specs.Arrivals.{Heard, ignored, oldCode, singleCame, turnedAway, taking, begun, firstCame, missing, piece, grown, completed, afterTook, took, wrongSn, awaitedCame, consecutiveCame, Told, granted, byStatus, flowIgnored, flowCame, Came, heardBy, toldBy, byKind, frameCame}
+use Rattle.rules.specs.Arrivals.{Heard, ignored, oldCode, singleCame, aboveArea, turnedAway, taking, begun, firstCame, missing, piece, grown, completed, afterTook, took, wrongSn, awaitedCame, consecutiveCame, Told, granted, byStatus, flowIgnored, flowCame, Came, heardBy, toldBy, byKind, frameCame}
 use Rattle.rules.specs.Ticks.{ran, rxTicked, closer, txTicked, ticked}
 use Rattle.rules.specs.Turns.{flowDue, newBlock, afterFlow, toGo, opened, moved, afterConsecutive, afterMessage, HandedOver, handOver, beginsWith, sent}
 use Rattle.rules.specs.Stores.{Held, withBerth, tickedNode, servedNode, setUpNode, passedOver, reached, cameAt, handedAt}
@@ -81,6 +81,10 @@ announced-large d t = go (eqb-cases (shortLength d) 0) (and-right (eqb (length d
     go (holds e z) u = let l : shortMost < escapeLength d = ltb-yes (rw e at u) in rw e (omega arith)
     go (fails e z) u = rw e (ltb-yes (rw e at u))
 
+-- a length that is not above A is at most A
+pub within-area : (s : Settings) (n : ℕ) → T (not (aboveArea s n)) → n ≤ s .area
+within-area s n t = ltb-no t
+
 module _ (s : Settings) (sr : SettingsRange (s .area) (s .block) (s .stmin)) where
   -- ---- a frame at the receive side
 
@@ -123,10 +127,10 @@ module _ (s : Settings) (sr : SettingsRange (s .area) (s .block) (s .stmin)) whe
   unfolding firstCame turnedAway begun
   first-ok rx last d r =
       pick-either HeardOk (firstFits d) _ _
-      (λ t. pick-either HeardOk (ltb (s .area) (announced d)) _ _
+      (λ t. pick-either HeardOk (aboveArea s (announced d)) _ _
       (λ u. record { side = (last-most rx last r, omega arith); inside = omega (arith, sr .area-least) })
       (λ u. record {
-        side = (refl, taking-ok (announced d) (announced-large d t) (ltb-no u), omega arith);
+        side = (refl, taking-ok (announced d) (announced-large d t) (within-area s (announced d) u), omega arith);
         inside = omega (arith, sr .area-least, length-take firstBytes (drop 2 d));
       }))
       (λ t. ignored-ok 3 rx last r)
@@ -158,7 +162,7 @@ module _ (s : Settings) (sr : SettingsRange (s .area) (s .block) (s .stmin)) whe
       (λ w. record { side = r .1 .total-most; inside = piece-inside p d (r .1) })
       (λ w. record { side = pick-either (RxRange s last) (fillsBlock (s .block) (p .taken)) _ _ (λ f. full w) (going w); inside = piece-inside p d (r .1) }))
       (λ v. record { side = omega arith; inside = omega (arith, sr .area-least) }))
-      (λ u. ignored-ok 3 (Rx.Awaits p t) last r)
+      (λ u. ignored-ok 3 _ last (r .0, r .1, omega (arith, r .2)))
     where
       full : T (not (leb (missing p) consecutiveMost)) → RxRange s last (Rx.OwesGo (grown p 0) 0)
       full w = (r .0, grown-ok p 0 (r .1) (omega tests) (none-range (s .block)), omega arith)
@@ -190,7 +194,7 @@ module _ (s : Settings) (sr : SettingsRange (s .area) (s .block) (s .stmin)) whe
         length-most = r .length-most;
         position-least = r .position-least;
         position-most = r .position-most;
-        sn-most = r .sn-most;
+        sn-most = omega (arith, r .sn-most);
         sent = none-range (byteAt d 1);
         gap-most = gap-small (byteAt d 2);
         left-most = omega arith;

@@ -47,6 +47,10 @@ singleCame rx last d =
 
 -- ---- first: I3, or the old reception ends
 
+-- the length is above A
+abbrev pub aboveArea : Settings → ℕ → Bool
+aboveArea s n = ltb (s .area) n
+
 -- length above A: TooLong, owes overflow, nothing stored, last length kept
 unfoldable pub turnedAway : Rx → ℕ → Heard
 turnedAway rx last = record { rx = Rx.OwesOverflow 0; last = last; old = oldCode rx; word = TooLong; place = 0; bytes = [] }
@@ -62,7 +66,7 @@ begun n rx d =
 unfoldable pub firstCame : Settings → Rx → ℕ → List ℕ → Heard
 firstCame s rx last d =
     pick (firstFits d)
-    (pick (ltb (s .area) (announced d)) (turnedAway rx last) (begun (announced d) rx d))
+    (pick (aboveArea s (announced d)) (turnedAway rx last) (begun (announced d) rx d))
     (ignored wrongLength rx last)
 
 -- ---- consecutive: I4 unless the side awaits, I3, wrong SN, right
