@@ -1,13 +1,13 @@
 -- From a test to its fact and back; cases on a test with the fact in hand; a call whose needs are all met.
-use mathlib.Core.Path.{_≡_, refl, sym, ap, _∙_}
+use mathlib.Core.Path.{_≡_, refl}
 use mathlib.Core.Logic.{_⊎_, inl, inr}
-use Prim.Native.Nat.{ℕ, zero, suc, _+_, _≤_, _<_, max}
+use Prim.Native.Nat.{ℕ, zero, suc, _≤_, _<_}
 use native.Mathlib.Omega.{arith}
 use native.Mathlib.Decide.{decLe}
 use native.Mathlib.Nat.{lt-of-not-le}
 use mathlib.Core.Bool.{Bool, true, false, not, _&&_, _||_}
-use mathlib.Core.List.{List, [], _∷_, map}
-use lib.ListN.{length, getD, set, replicate}
+use mathlib.Core.List.{List, [], _∷_}
+use lib.ListN.{length, getD}
 use lib.Dec.{T, eqb, ltb, leb, leb→le, ltb→lt, eqb→eq, le→leb, lt→ltb, nleb→lt, nltb→le}
 use mir.Facts.{eqb-yes, eqb-no, ltb-yes, ltb-no, leb-yes, leb-no, yes-eqb, no-eqb, yes-leb, no-leb, yes-ltb, no-ltb, yes-and}
 use Rattle.rules.specs.Tests.{pick, all, each, Need, need, firstUnmet}
@@ -143,24 +143,6 @@ module _ {X : Type 0} (f : X → Bool) where
   unfolding each
   each-of [] d h = tt
   each-of (x ∷ xs) d h = yes-and (f x) (each f xs) (h 0 (omega arith)) (each-of xs d (λ k l. h (suc k) (omega arith)))
-
-  pub each-set : (xs : List X) (k : ℕ) (x : X) → T (f x) → T (each f xs) → T (each f (set xs k x))
-  unfolding each
-  each-set [] k x h t = t
-  each-set (y ∷ xs) zero x h t = yes-and (f x) (each f xs) h (and-right (f y) (each f xs) t)
-  each-set (y ∷ xs) (suc k) x h t =
-      yes-and (f y) (each f (set xs k x)) (and-left (f y) (each f xs) t) (each-set xs k x h (and-right (f y) (each f xs) t))
-
-  pub each-map : (g : X → X) (xs : List X) → ((x : X) → T (f x) → T (f (g x))) → T (each f xs) → T (each f (map g xs))
-  unfolding each
-  each-map g [] h t = t
-  each-map g (x ∷ xs) h t =
-      yes-and (f (g x)) (each f (map g xs)) (h x (and-left (f x) (each f xs) t)) (each-map g xs h (and-right (f x) (each f xs) t))
-
-  pub each-replicate : (x : X) (n : ℕ) → T (f x) → T (each f (replicate n x))
-  unfolding each
-  each-replicate x zero t = tt
-  each-replicate x (suc n) t = yes-and (f x) (each f (replicate n x)) t (each-replicate x n t)
 
 -- ---- needs: where none is unmet each is met
 

@@ -1,10 +1,9 @@
 -- The edges of the refusals, computed: a row on either side of each, each range of a node in order on either side, and a row for each
 -- pair of neighbouring refusals that both hold. Refusal 11 has no row: it never comes (Exact, `never-outside`).
 use mathlib.Core.Path.{_≡_, refl}
-use Prim.Native.Nat.{ℕ, zero, suc, _+_, _*_}
-use mathlib.Core.Bool.{Bool, true, false, not, _&&_, _||_}
+use Prim.Native.Nat.{ℕ, _+_}
 use mathlib.Core.List.{List, [], _∷_, _++_, map}
-use lib.ListN.{length, getD, take, drop, replicate, set}
+use lib.ListN.{length, replicate}
 use Rattle.rules.specs.Tests.{all, each, firstUnmet}
 use Rattle.rules.specs.Ranges.{stminAllowed, settingsAllowed, inBlock, takingInRange, rxInRange, sendingInRange, txInRange, berthInOrder, fresh, berthAt, inOrder}
 use Rattle.rules.specs.Frames.{kind, low, singleFits, flowFits}

@@ -1,22 +1,21 @@
 -- Refusals exactly: the number of a call's first need that is not met is n if and only if the paper's condition n holds and no lower
 -- one of that call does. The needs and the conditions go row by row, each test deciding its condition, the numbers ascending.
-use mathlib.Core.Path.{_≡_, refl, sym, ap, _∙_}
+use mathlib.Core.Path.{_≡_, refl, sym, _∙_}
 use mathlib.Core.Logic.{_⊎_, _↔_, inl, inr, ⊎-elim}
-use Prim.Native.Nat.{ℕ, zero, suc, _+_, _-_, _*_, _≤_, _<_}
+use Prim.Native.Nat.{ℕ, _+_, _*_, _≤_, _<_}
 use native.Mathlib.Omega.{arith}
 use mathlib.Core.Bool.{Bool, true, false, not, _&&_}
 use mathlib.Core.List.{List, [], _∷_}
 use lib.ListN.{length}
-use lib.Dec.{T, eqb, ltb, leb}
+use lib.Dec.{T, ltb, leb}
 use mir.Facts.{leb-yes, leb-no, ltb-yes, ltb-no, eqb-yes, eqb-no, yes-leb, yes-ltb, yes-and}
-use Rattle.rules.specs.Tests.{pick, Need, need, firstUnmet}
-use Rattle.rules.specs.Numbers.{berthCount, fromBerth, frameLength, outOfOrder, badSetting, outsideArea}
-use Rattle.rules.specs.Ranges.{settingsAllowed, SettingsRange, berthAt, inOrder, InOrder}
+use Rattle.rules.specs.Tests.{Need, need, firstUnmet}
+use Rattle.rules.specs.Numbers.{berthCount, fromBerth, outOfOrder, badSetting, outsideArea}
+use Rattle.rules.specs.Ranges.{settingsAllowed, berthAt, inOrder, InOrder}
 use Rattle.rules.specs.Turns.{busy}
-use Rattle.rules.specs.Stores.{Held, rightStore, inside, cameAt}
-use Rattle.rules.specs.Refusals.{Call, senderOf, needs, refusal, setUpRefusal, Condition, condition, conditions, setUpConditions, Holds, Refuses}
-use Rattle.rules.specs.Calls.{outcome, setUpOutcome, final}
-use Rattle.rules.specs.declared.Node.{Node}
+use Rattle.rules.specs.Stores.{Held, rightStore, inside}
+use Rattle.rules.specs.Refusals.{Call, senderOf, needs, refusal, setUpRefusal, Condition, conditions, setUpConditions, Holds, Refuses}
+use Rattle.rules.specs.Calls.{setUpOutcome, final}
 use Rattle.rules.proofs.Cases.{Tested, holds, fails, test-cases, leb-cases, and-left, and-right, tests}
 use Rattle.rules.proofs.Ranges.{settings-range, settings-allowed, in-order-range, range-in-order}
 use Rattle.rules.proofs.Order.{frame-inside, run-in-order, set-up-in-order}

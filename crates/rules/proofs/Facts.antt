@@ -1,28 +1,26 @@
 -- Short facts about what a frame makes of a berth, and that a refusal leaves everything. Each goes through the branches of its rule.
-use mathlib.Core.Path.{_≡_, refl, sym, ap, _∙_}
-use Prim.Native.Nat.{ℕ, zero, suc, _+_, _-_, _≤_, _<_, min}
+use mathlib.Core.Path.{_≡_, refl, sym, ap}
+use Prim.Native.Nat.{ℕ, zero, suc, _+_, _≤_, _<_, min}
 use native.Mathlib.Omega.{arith}
-use mathlib.Core.Bool.{Bool, true, false, not, _&&_, _||_}
-use mathlib.Core.Logic.{_⊎_, inl, inr, ⊎-elim}
-use mathlib.Core.List.{List, [], _∷_}
+use mathlib.Core.Bool.{_&&_}
+use mathlib.Core.Logic.{⊎-elim}
+use mathlib.Core.List.{List, []}
 use lib.ListN.{length, take, drop, length-take, length-drop}
-use lib.Dec.{T, eqb, ltb, leb}
-use mir.Facts.{eqb-yes, leb-yes, ltb-no, yes-ltb}
-use Rattle.rules.specs.Tests.{pick, unless}
-use Rattle.rules.specs.Numbers.{singleKind, firstKind, consecutiveKind, flowKind, goStatus, waitStatus, overflowStatus, consecutiveMost, frameLength}
-use Rattle.rules.specs.Frames.{kind, low, singleFits, announced, firstFits, consecutiveFits, flowFits, fillsBlock, share}
-use Rattle.rules.specs.Arrivals.{Heard, ignored, singleCame, aboveArea, turnedAway, begun, firstCame, missing, piece, completed, afterTook, took, wrongSn, awaitedCame, consecutiveCame, Told, granted, byStatus, flowIgnored, flowCame, Came, heardBy, toldBy, byKind, frameCame}
-use Rattle.rules.specs.Turns.{newBlock, flowDue, afterFlow, handOver}
+use lib.Dec.{T, eqb, leb}
+use Rattle.rules.specs.Tests.{unless}
+use Rattle.rules.specs.Numbers.{singleKind, firstKind, consecutiveKind, flowKind, goStatus, waitStatus, overflowStatus, consecutiveMost}
+use Rattle.rules.specs.Frames.{kind, low, singleFits, announced, firstFits, consecutiveFits, flowFits, share}
+use Rattle.rules.specs.Arrivals.{Heard, ignored, singleCame, aboveArea, turnedAway, begun, firstCame, missing, piece, completed, took, wrongSn, awaitedCame, consecutiveCame, Told, granted, byStatus, flowIgnored, flowCame, Came, heardBy, toldBy, byKind, frameCame}
+use Rattle.rules.specs.Turns.{newBlock, afterFlow}
 use Rattle.rules.specs.Stores.{Held}
 use Rattle.rules.specs.Refusals.{Call, refusal, setUpRefusal}
-use Rattle.rules.specs.Calls.{reply, done, bufferOf, written, Outcome, refusedOutcome, outcome, setUpOutcome}
+use Rattle.rules.specs.Calls.{bufferOf, refusedOutcome, outcome, setUpOutcome}
 use Rattle.rules.specs.declared.Settings.{Settings}
 use Rattle.rules.specs.declared.Taking.{Taking}
 use Rattle.rules.specs.declared.Sending.{Sending}
 use Rattle.rules.specs.declared.Rx.{Rx}
 use Rattle.rules.specs.declared.Tx.{Tx}
 use Rattle.rules.specs.declared.Berth.{Berth}
-use Rattle.rules.specs.declared.Word.{Word}
 use Rattle.rules.specs.declared.Word.the-variants.{Begun, Ignored}
 use Rattle.rules.proofs.Cases.{is-true, eqb-is, ltb-is, or-cases, and-left, and-right, tests, pick-either}
 

@@ -1,27 +1,26 @@
 -- Every frame handed over has eight bytes and the identifier 660 hex + k, and never the first byte 31: the node never sends WAIT.
-use mathlib.Core.Path.{_≡_, refl, sym, ap, _∙_}
+use mathlib.Core.Path.{_≡_, refl, sym, _∙_}
 use Prim.Native.Nat.{ℕ, zero, suc, _+_, _-_, _*_, _/_, _%_, _≤_, _<_, min}
 use native.Mathlib.Omega.{arith}
-use mathlib.Core.Bool.{Bool, true, false, not, _||_}
+use mathlib.Core.Bool.{Bool, true, false, not}
 use mathlib.Core.Logic.{⊎-elim}
-use mathlib.Core.List.{List, [], _∷_, _++_}
-use lib.ListN.{length, getD, take, drop, replicate, length-take, length-append, length-replicate}
-use lib.Dec.{T, eqb, ltb, leb}
-use Rattle.rules.specs.Tests.{pick, unless}
-use Rattle.rules.specs.Numbers.{berthCount, toBerth, frameLength, filler, singleMost, firstBytes, consecutiveMost}
-use Rattle.rules.specs.Ranges.{SettingsRange, RxRange, TxRange, BerthRange, berthAt, InOrder}
+use mathlib.Core.List.{List, [], _∷_}
+use lib.ListN.{length, take, drop, replicate, length-take, length-append, length-replicate}
+use lib.Dec.{T, ltb}
+use Rattle.rules.specs.Tests.{unless}
+use Rattle.rules.specs.Numbers.{berthCount, toBerth, frameLength, filler, firstBytes, consecutiveMost}
+use Rattle.rules.specs.Ranges.{SettingsRange, TxRange, BerthRange, berthAt, InOrder}
 use Rattle.rules.specs.Frames.{byteAt, padded, headed, singleFrame, firstFrame, consecutiveFrame, goFrame, overflowFrame, share}
 use Rattle.rules.specs.Turns.{flowDue, messageDue, due, flowFrame, toGo, messageFrame, HandedOver, handOver}
-use Rattle.rules.specs.Stores.{Held, areaOf, passedOver, reached, handedAt}
-use Rattle.rules.specs.Answers.{Answer, refused, handed, none}
+use Rattle.rules.specs.Stores.{Held, passedOver, reached, handedAt}
+use Rattle.rules.specs.Answers.{handed, none}
 use Rattle.rules.specs.Refusals.{Call, refusal}
-use Rattle.rules.specs.Calls.{reply, done, written, bufferOf, refusedOutcome, outcome}
+use Rattle.rules.specs.Calls.{reply, done, written, refusedOutcome, outcome}
 use Rattle.rules.specs.declared.Settings.{Settings}
 use Rattle.rules.specs.declared.Rx.{Rx}
 use Rattle.rules.specs.declared.Tx.{Tx}
 use Rattle.rules.specs.declared.Berth.{Berth}
-use Rattle.rules.specs.declared.Node.{Node}
-use Rattle.rules.proofs.Cases.{or-cases, is-true, is-false, ltb-is, pick-either, test-cases, Tested, holds, fails, ltb-cases}
+use Rattle.rules.proofs.Cases.{or-cases, pick-either, Tested, holds, fails, ltb-cases}
 use Rattle.rules.proofs.Answered.{turn-answered}
 use Rattle.rules.proofs.Ranges.{in-order-range}
 use Rattle.rules.proofs.Order.{reached-small}

@@ -1,18 +1,17 @@
 -- Frames needed is the number of data frames that the rules hand over. Every send side has a number of frames left; a data frame
 -- handed over takes one away, and nothing else that does not end the sending moves it.
-use mathlib.Core.Path.{_≡_, refl, sym, ap, _∙_}
-use Prim.Native.Nat.{ℕ, zero, suc, _+_, _-_, _*_, _/_, _%_, _≤_, _<_, min}
+use mathlib.Core.Path.{_≡_, refl, _∙_}
+use Prim.Native.Nat.{ℕ, suc, _+_, _-_, _*_, _/_, _%_, _≤_, _<_}
 use native.Mathlib.Omega.{arith}
-use native.Mathlib.Nat.{zero-add, add-assoc}
-use mathlib.Core.Bool.{Bool, true, false, not, _&&_, _||_}
+use native.Mathlib.Nat.{zero-add}
+use mathlib.Core.Bool.{_||_}
 use mathlib.Core.List.{List, [], _∷_}
-use lib.ListN.{length, getD, take, drop, length-take}
+use lib.ListN.{length, take, drop, length-take}
 use lib.Dec.{T, eqb, ltb, leb}
-use mir.Facts.{yes-and}
 use Rattle.rules.specs.Tests.{pick}
-use Rattle.rules.specs.Numbers.{flowKind, timeout, goStatus, waitStatus, overflowStatus, singleMost, firstBytes, consecutiveMost, leastLong, largestArea}
+use Rattle.rules.specs.Numbers.{flowKind, timeout, goStatus, waitStatus, overflowStatus, singleMost, firstBytes, consecutiveMost, largestArea}
 use Rattle.rules.specs.Ranges.{SettingsRange, TxRange, BerthRange}
-use Rattle.rules.specs.Frames.{byteAt, kind, low, padded, singleFrame, firstFrame, consecutiveFrame, goFrame, overflowFrame, flowFits, fillsBlock, share, roundedUp, needed, framesNeeded}
+use Rattle.rules.specs.Frames.{kind, low, padded, singleFrame, firstFrame, consecutiveFrame, goFrame, overflowFrame, flowFits, fillsBlock, share, roundedUp, needed, framesNeeded}
 use Rattle.rules.specs.Arrivals.{Told, granted, byStatus, flowIgnored, flowCame, Came, heardBy, toldBy, frameCame}
 use Rattle.rules.specs.Ticks.{ran, closer, txTicked, ticked}
 use Rattle.rules.specs.Turns.{flowDue, messageDue, flowFrame, toGo, messageFrame, messageCode, opened, moved, afterConsecutive, afterMessage, HandedOver, handOver, beginsWith, sent, busy}
@@ -22,7 +21,7 @@ use Rattle.rules.specs.declared.Sending.{Sending}
 use Rattle.rules.specs.declared.Rx.{Rx}
 use Rattle.rules.specs.declared.Tx.{Tx}
 use Rattle.rules.specs.declared.Berth.{Berth}
-use Rattle.rules.proofs.Cases.{Tested, holds, fails, test-cases, eqb-not, ltb-is, leb-is, leb-not, leb-cases, tests, pick-either}
+use Rattle.rules.proofs.Cases.{Tested, holds, fails, eqb-not, ltb-is, leb-is, leb-cases, pick-either}
 use Rattle.rules.proofs.Order.{came-ok, ticked-ok, hand-over-ok, sent-ok}
 use Rattle.rules.proofs.Facts.{frame-either}
 

@@ -1,26 +1,26 @@
 -- Order is kept: what any rule makes of a side within its ranges is within its ranges, so every call and every run keeps a node in
 -- order, and a set-up that is answered is in order. On the way: from the ranges alone no stored byte lands outside the berth's area.
 use mathlib.Core.Path.{_≡_, refl, sym, ap, _∙_}
-use mathlib.Core.Logic.{_⊎_, inl, inr, ⊎-elim}
-use Prim.Native.Nat.{ℕ, zero, suc, _+_, _-_, _*_, _%_, _≤_, _<_, min, max}
+use mathlib.Core.Logic.{inl, inr, ⊎-elim}
+use Prim.Native.Nat.{ℕ, zero, suc, _+_, _-_, _≤_, _<_, min, max}
 use native.Mathlib.Omega.{arith}
 use native.Mathlib.Nat.{mod-lt}
-use mathlib.Core.Bool.{Bool, true, false, not, _&&_, _||_}
+use mathlib.Core.Bool.{not, _&&_}
 use mathlib.Core.List.{List, [], _∷_, map}
-use lib.ListN.{length, getD, getD-replicate, take, drop, set, replicate, length-take, length-set, length-map, List·getD-map}
+use lib.ListN.{length, getD, getD-replicate, drop, set, length-take, length-set, length-map, List·getD-map}
 use lib.Seq.{getD-set-same, getD-set-other}
 use lib.Dec.{T, eqb, ltb, leb, lit<}
 use mir.Facts.{leb-yes, ltb-yes, ltb-no, eqb-yes, eqb-no}
-use Rattle.rules.specs.Tests.{pick, unless, need, firstUnmet}
-use Rattle.rules.specs.Numbers.{berthCount, longestGap, mostMillis, leastFraction, mostFraction, singleMost, firstBytes, consecutiveMost, leastLong, shortMost, frameLength, singleKind, firstKind, consecutiveKind, flowKind, goStatus, waitStatus, overflowStatus, timeout, outOfOrder, badSetting}
-use Rattle.rules.specs.Ranges.{SettingsRange, BlockRange, TakingRange, RxRange, SendingRange, TxRange, BerthRange, berthInOrder, fresh, berthAt, inOrder, InOrder, settingsAllowed}
+use Rattle.rules.specs.Tests.{pick, unless}
+use Rattle.rules.specs.Numbers.{berthCount, longestGap, mostMillis, leastFraction, mostFraction, singleMost, firstBytes, consecutiveMost, leastLong, shortMost, frameLength, singleKind, firstKind, consecutiveKind, flowKind, goStatus, waitStatus, overflowStatus, timeout}
+use Rattle.rules.specs.Ranges.{SettingsRange, BlockRange, TakingRange, RxRange, SendingRange, TxRange, BerthRange, fresh, berthAt, InOrder}
 use Rattle.rules.specs.Frames.{byteAt, kind, low, singleFits, shortLength, escapeLength, announced, firstFits, consecutiveFits, flowFits, nextSn, counted, fillsBlock, gapOf, share}
-use Rattle.rules.specs.Arrivals.{Heard, ignored, oldCode, singleCame, aboveArea, turnedAway, taking, begun, firstCame, missing, piece, grown, completed, afterTook, took, wrongSn, awaitedCame, consecutiveCame, Told, granted, byStatus, flowIgnored, flowCame, Came, heardBy, toldBy, byKind, frameCame}
+use Rattle.rules.specs.Arrivals.{Heard, ignored, singleCame, aboveArea, turnedAway, taking, begun, firstCame, missing, piece, grown, completed, afterTook, took, wrongSn, awaitedCame, consecutiveCame, Told, granted, byStatus, flowIgnored, flowCame, Came, heardBy, toldBy, byKind, frameCame}
 use Rattle.rules.specs.Ticks.{ran, rxTicked, closer, txTicked, ticked}
 use Rattle.rules.specs.Turns.{flowDue, newBlock, afterFlow, toGo, opened, moved, afterConsecutive, afterMessage, HandedOver, handOver, beginsWith, sent}
 use Rattle.rules.specs.Stores.{Held, withBerth, tickedNode, servedNode, setUpNode, passedOver, reached, cameAt, handedAt}
-use Rattle.rules.specs.Refusals.{Call, senderOf, needs, refusal, setUpRefusal}
-use Rattle.rules.specs.Calls.{afterFrame, done, reply, bufferOf, written, Outcome, refusedOutcome, outcome, setUpOutcome, final}
+use Rattle.rules.specs.Refusals.{Call, senderOf, refusal, setUpRefusal}
+use Rattle.rules.specs.Calls.{afterFrame, done, reply, bufferOf, written, refusedOutcome, outcome, setUpOutcome, final}
 use Rattle.rules.specs.declared.Settings.{Settings}
 use Rattle.rules.specs.declared.Taking.{Taking}
 use Rattle.rules.specs.declared.Sending.{Sending}
@@ -28,9 +28,9 @@ use Rattle.rules.specs.declared.Rx.{Rx}
 use Rattle.rules.specs.declared.Tx.{Tx}
 use Rattle.rules.specs.declared.Berth.{Berth}
 use Rattle.rules.specs.declared.Node.{Node}
-use Rattle.rules.proofs.Cases.{Tested, holds, fails, is-true, test-cases, eqb-cases, ltb-cases, leb-cases, tests, and-left, and-right, pick-either, met, each-at, each-set, each-map, each-replicate}
-use Rattle.rules.proofs.Ranges.{block-max, max-block, settings-range, berth-range, berth-in, in-order-range, range-in-order}
-use Rattle.rules.proofs.Answered.{FrameAnswered, frame-answered, SendAnswered, send-answered, TurnAnswered, turn-answered, tick-answered}
+use Rattle.rules.proofs.Cases.{Tested, holds, fails, eqb-cases, tests, and-left, and-right, pick-either, met}
+use Rattle.rules.proofs.Ranges.{block-max, max-block, settings-range}
+use Rattle.rules.proofs.Answered.{frame-answered, send-answered}
 
 -- ---- blocks
 

@@ -1,15 +1,13 @@
 -- The ranges, test and record of facts: each says what the other says.
-use mathlib.Core.Path.{_≡_, refl, sym, ap, _∙_}
-use mathlib.Core.Logic.{_⊎_, inl, inr, ⊎-elim}
-use Prim.Native.Nat.{ℕ, zero, suc, _+_, _≤_, _<_, max}
+use mathlib.Core.Path.{_≡_}
+use mathlib.Core.Logic.{inl, inr, ⊎-elim}
+use Prim.Native.Nat.{ℕ, _<_, max}
 use native.Mathlib.Omega.{arith}
-use mathlib.Core.Bool.{Bool, true, false, not, _&&_, _||_}
-use mathlib.Core.List.{List, [], _∷_}
-use lib.ListN.{length, getD}
-use lib.Dec.{T, eqb, ltb, leb}
+use mathlib.Core.Bool.{_||_}
+use lib.ListN.{length}
+use lib.Dec.{T, eqb, leb}
 use mir.Facts.{leb-yes, ltb-yes, eqb-yes, yes-leb, yes-ltb, yes-eqb, yes-and}
-use Rattle.rules.specs.Tests.{pick, all, each}
-use Rattle.rules.specs.Numbers.{berthCount, mostMillis, leastFraction, mostFraction, timeout}
+use Rattle.rules.specs.Numbers.{berthCount, mostMillis, leastFraction}
 use Rattle.rules.specs.Ranges.{stminAllowed, StminRange, settingsAllowed, SettingsRange, inBlock, BlockRange, takingInRange, TakingRange, rxInRange, RxRange, sendingInRange, SendingRange, txInRange, TxRange, berthInOrder, BerthRange, fresh, berthAt, inOrder, InOrder}
 use Rattle.rules.specs.declared.Settings.{Settings}
 use Rattle.rules.specs.declared.Taking.{Taking}

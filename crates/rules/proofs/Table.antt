@@ -1,17 +1,16 @@
 -- The starred cases of paper 01 (A 40, BS 2, STmin 05) in one table under one claim, computed by the checker.
 use mathlib.Core.Path.{_≡_, refl}
 use Prim.Native.Nat.{ℕ, zero, suc, _+_, _%_}
-use mathlib.Core.Bool.{Bool, true, false, not, _&&_, _||_}
-use mathlib.Core.List.{List, [], _∷_, _++_, map}
-use lib.ListN.{length, getD, take, drop, replicate, set}
+use mathlib.Core.List.{List, [], _∷_}
+use lib.ListN.{length, replicate}
 use Rattle.rules.specs.Tests.{all, each, firstUnmet}
 use Rattle.rules.specs.Ranges.{stminAllowed, settingsAllowed, inBlock, takingInRange, rxInRange, sendingInRange, txInRange, berthInOrder, fresh, berthAt, inOrder}
-use Rattle.rules.specs.Frames.{kind, low, singleFits, shortLength, escapeLength, announced, firstFits, consecutiveFits, flowFits, padded, singleFrame, firstFrame, consecutiveFrame, goFrame, overflowFrame, firstSn, nextSn, counted, fillsBlock, gapOf, share, needed, framesNeeded}
+use Rattle.rules.specs.Frames.{kind, low, singleFits, shortLength, escapeLength, announced, firstFits, consecutiveFits, flowFits, padded, singleFrame, firstFrame, consecutiveFrame, goFrame, overflowFrame, nextSn, counted, fillsBlock, gapOf, share, needed, framesNeeded}
 use Rattle.rules.specs.Arrivals.{ignored, oldCode, singleCame, turnedAway, taking, begun, firstCame, missing, piece, grown, completed, afterTook, took, wrongSn, awaitedCame, consecutiveCame, granted, byStatus, flowIgnored, flowCame, heardBy, toldBy, byKind, frameCame}
 use Rattle.rules.specs.Ticks.{ran, rxTicked, rxCode, closer, txTicked, txCode, ticked}
 use Rattle.rules.specs.Turns.{flowDue, messageDue, due, flowFrame, newBlock, afterFlow, toGo, messageFrame, messageCode, opened, moved, afterConsecutive, afterMessage, handOver, beginsWith, sent as sentBerth, busy}
-use Rattle.rules.specs.Stores.{Held, rightStore, areaOf, stored, inside, withBerth, tickedNode, servedNode, setUpNode, distance, leastDistance, passedOver, reached, cameAt, handedAt}
-use Rattle.rules.specs.Answers.{Answer, refused, heard, codes, sent, handed, none}
+use Rattle.rules.specs.Stores.{Held, rightStore, areaOf, stored, inside, withBerth, tickedNode, servedNode, distance, leastDistance, passedOver, reached, cameAt, handedAt}
+use Rattle.rules.specs.Answers.{Answer, heard, codes, sent, handed}
 use Rattle.rules.specs.Refusals.{Call, frame, tick, send, turn, needs, refusal}
 use Rattle.rules.specs.Calls.{afterFrame, done, codesOf, reply, written, refusedOutcome, outcome, answers}
 use Rattle.rules.specs.Alone.{Part, Event, arrives, turns, Says, hands, partAfter, says, saysAll}
@@ -23,7 +22,7 @@ use Rattle.rules.specs.declared.Tx.{Tx}
 use Rattle.rules.specs.declared.Berth.{Berth}
 use Rattle.rules.specs.declared.Codes.{Codes}
 use Rattle.rules.specs.declared.Word.the-variants.{Begun, Failed, Ignored, TooLong, Took, Going}
-use Rattle.rules.proofs.Needed.{dataFrames, dataTotal}
+use Rattle.rules.proofs.Needed.{dataTotal}
 
 -- ---- rows
 

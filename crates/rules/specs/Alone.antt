@@ -4,9 +4,9 @@ use mathlib.Core.List.{List, [], _∷_}
 use lib.ListN.{length}
 use lib.Seq.{sets}
 use Rattle.rules.specs.Ranges.{berthAt}
-use Rattle.rules.specs.Arrivals.{Came, frameCame}
+use Rattle.rules.specs.Arrivals.{frameCame}
 use Rattle.rules.specs.Ticks.{ticked, rxCode, txCode}
-use Rattle.rules.specs.Turns.{HandedOver, handOver, sent}
+use Rattle.rules.specs.Turns.{handOver, sent}
 use Rattle.rules.specs.Stores.{Held, areaOf}
 use Rattle.rules.specs.declared.Settings.{Settings}
 use Rattle.rules.specs.declared.Berth.{Berth}

@@ -1,7 +1,6 @@
 -- What the calls answer: the answers in the paper's words, the reports in them, and the paper's number and values for each case.
 use Prim.Native.Nat.{ℕ, zero, suc, _-_}
-use mathlib.Core.Bool.{Bool, true, false}
-use mathlib.Core.List.{List, [], _∷_, _++_, map}
+use mathlib.Core.List.{List, [], _∷_, _++_}
 use lib.ListN.{take}
 use lib.Dec.{eqb}
 use Rattle.rules.specs.Tests.{pick, unless}

@@ -1,8 +1,8 @@
 -- Paper 01, "A frame arrives", at one berth. A rule says the berth's next state, the old code, the word, and which bytes are
 -- stored at which place of the berth's area; it does not carry the area.
 use Prim.Native.Nat.{ℕ, _+_, _-_}
-use mathlib.Core.Bool.{Bool, true, false}
-use mathlib.Core.List.{List, [], _∷_}
+use mathlib.Core.Bool.{Bool}
+use mathlib.Core.List.{List, []}
 use lib.ListN.{length, take, drop}
 use lib.Dec.{ltb, leb, eqb}
 use Rattle.rules.specs.Tests.{pick}

@@ -1,6 +1,6 @@
 -- Paper 01, the calls: what each leaves and answers where it is not refused, the outcome of a call, and a run.
-use Prim.Native.Nat.{ℕ, zero, suc, _+_, _-_}
-use mathlib.Core.Bool.{Bool, true, false, _&&_}
+use Prim.Native.Nat.{ℕ, _+_}
+use mathlib.Core.Bool.{Bool, _&&_}
 use mathlib.Core.List.{List, [], _∷_, _++_, map}
 use lib.ListN.{length, take, drop}
 use lib.Dec.{ltb}
@@ -9,13 +9,11 @@ use Rattle.rules.specs.Numbers.{berthCount, toBerth, frameLength}
 use Rattle.rules.specs.Ranges.{berthAt, inOrder}
 use Rattle.rules.specs.Arrivals.{Came}
 use Rattle.rules.specs.Ticks.{rxCode, txCode}
-use Rattle.rules.specs.Turns.{HandedOver, sent as sentBerth, lengthSending}
+use Rattle.rules.specs.Turns.{sent as sentBerth, lengthSending}
 use Rattle.rules.specs.Stores.{Held, rightStore, areaOf, stored, withBerth, tickedNode, servedNode, setUpNode, passedOver, reached, cameAt, handedAt}
 use Rattle.rules.specs.Answers.{Answer, refused, ready, heard, codes, sent, handed, none, shown}
 use Rattle.rules.specs.Refusals.{Call, frame, tick, send, turn, show, senderOf, refusal, setUpRefusal}
-use Rattle.rules.specs.declared.Settings.{Settings}
 use Rattle.rules.specs.declared.Berth.{Berth}
-use Rattle.rules.specs.declared.Node.{Node}
 use Rattle.rules.specs.declared.Codes.{Codes}
 
 -- ---- show: the part that holds the last message arrived, or the message now being sent. It is empty if there is none, the berth

@@ -1,12 +1,12 @@
 -- Paper 01, "Frames, by first byte": how a frame is read, how the node's own are laid out, sequence numbers, gaps, and how a
 -- message is cut.
 use Prim.Native.Nat.{ℕ, zero, suc, _+_, _-_, _*_, _/_, _%_, min}
-use mathlib.Core.Bool.{Bool, true, false, not, _&&_, _||_}
+use mathlib.Core.Bool.{Bool, not, _&&_, _||_}
 use mathlib.Core.List.{List, [], _∷_, _++_}
 use lib.ListN.{length, getD, take, drop, replicate}
 use lib.Dec.{ltb, leb, eqb}
 use Rattle.rules.specs.Tests.{pick}
-use Rattle.rules.specs.Numbers.{snCount, longestGap, mostMillis, leastFraction, mostFraction, frameLength, filler, leastFlow, singleKind, firstKind, consecutiveKind, flowKind, goStatus, overflowStatus, singleMost, firstBytes, consecutiveMost, leastLong, largestArea, shortMost}
+use Rattle.rules.specs.Numbers.{snCount, longestGap, mostMillis, leastFraction, mostFraction, frameLength, filler, leastFlow, singleKind, firstKind, consecutiveKind, flowKind, goStatus, overflowStatus, singleMost, firstBytes, consecutiveMost, largestArea, shortMost}
 use Rattle.rules.specs.declared.Settings.{Settings}
 use Rattle.rules.specs.declared.Sn.{Sn}
 

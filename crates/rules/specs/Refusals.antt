@@ -3,14 +3,13 @@
 use Prim.Native.Nat.{ℕ, _+_, _-_, _*_, _≤_, _<_}
 use mathlib.Core.Path.{_≡_}
 use mathlib.Core.Logic.{_⊎_}
-use mathlib.Core.Bool.{Bool, true, false, not, _&&_}
+use mathlib.Core.Bool.{Bool, true, not, _&&_}
 use mathlib.Core.List.{List, [], _∷_}
 use lib.ListN.{length}
 use lib.Dec.{ltb, leb}
 use Rattle.rules.specs.Tests.{Need, need, firstUnmet}
 use Rattle.rules.specs.Numbers.{berthCount, fromBerth, frameLength, outOfOrder, wrongStore, wrongIdentifier, tooManyBytes, noSuchBerth, emptyMessage, messageTooLong, alreadySending, shortBuffer, badSetting, outsideArea}
 use Rattle.rules.specs.Ranges.{settingsAllowed, SettingsRange, berthAt, inOrder, InOrder}
-use Rattle.rules.specs.Arrivals.{Came}
 use Rattle.rules.specs.Turns.{busy}
 use Rattle.rules.specs.Stores.{Held, rightStore, inside, cameAt}
 

@@ -1,6 +1,6 @@
 -- Paper 01, the node of ten berths: the two stores and the berths' areas, the round, the node after a call, and set-up.
-use Prim.Native.Nat.{ℕ, zero, suc, _+_, _-_, _*_, _%_, min}
-use mathlib.Core.Bool.{Bool, true, false}
+use Prim.Native.Nat.{ℕ, suc, _+_, _-_, _*_, _%_, min}
+use mathlib.Core.Bool.{Bool}
 use mathlib.Core.List.{List, [], _∷_, map}
 use lib.ListN.{length, take, drop, set, replicate}
 use lib.Seq.{sets}

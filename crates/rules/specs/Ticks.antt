@@ -1,6 +1,5 @@
 -- Paper 01, "Ticks and turns", a tick at one berth: its two sides after it, and the code of each, 0 for none.
 use Prim.Native.Nat.{ℕ, _+_, _-_}
-use mathlib.Core.Bool.{Bool, true, false}
 use lib.Dec.{ltb, eqb}
 use Rattle.rules.specs.Tests.{pick}
 use Rattle.rules.specs.Numbers.{timeout, N-TIMEOUT-A, N-TIMEOUT-Bs, N-TIMEOUT-Cr}

@@ -2,7 +2,7 @@
 -- which lengths are shown.
 use Prim.Native.Nat.{ℕ, _+_, _-_}
 use mathlib.Core.Bool.{Bool, true, false, _||_}
-use mathlib.Core.List.{List, [], _∷_}
+use mathlib.Core.List.{List, []}
 use lib.ListN.{take, drop}
 use lib.Dec.{leb, eqb}
 use Rattle.rules.specs.Tests.{pick}
