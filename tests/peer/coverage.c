@@ -1,0 +1,382 @@
+/*
+ * coverage.c - counts which outcomes a run has seen, and in which state.
+ */
+#include <string.h>
+
+#include "coverage.h"
+#include "outcomes.h"
+
+enum programs { BOTH, ONLY_SCENES };
+enum side { OF_NODE, OF_RECEIVE, OF_SEND };
+enum { STATES_MAX = 6 };
+
+#define X_FAULT(id, programs, side, states, sentence) id,
+#define AS_ID(id, programs, side, states, sentence) id,
+enum outcome {
+    NODE_OUTCOMES(AS_ID) FAULTS(AS_OUTCOME_OF_FAULT) RECEIVE_OUTCOMES(AS_ID) SEND_OUTCOMES(AS_ID)
+    OUTCOME_COUNT
+};
+#undef X_FAULT
+
+static const struct row {
+    enum programs programs;
+    enum side side;
+    const char *wanted;
+    const char *sentence;
+} rows[] = {
+#define X_FAULT(id, programs, side, states, sentence) { programs, side, states, sentence },
+#define AS_ROW(id, programs, side, states, sentence) { programs, side, states, sentence },
+    NODE_OUTCOMES(AS_ROW) FAULTS(AS_OUTCOME_OF_FAULT) RECEIVE_OUTCOMES(AS_ROW) SEND_OUTCOMES(AS_ROW)
+};
+
+static const struct {
+    const char *name;
+    const char *letters;
+    const char *states[STATES_MAX];
+} sides[] = {
+    [OF_NODE] = { "node", "-", { "seen" } },
+    [OF_RECEIVE] = { "receive side", "ioga", { "idle", "overflow", "go", "awaits" } },
+    [OF_SEND] = { "send side", "isfwcp", { "idle", "single", "first", "flow", "consec", "in gap" } },
+};
+
+static long counts[OUTCOME_COUNT][STATES_MAX];
+
+static void count(enum outcome outcome)
+{
+    counts[outcome][0]++;
+}
+
+static void count_receive(enum outcome outcome, const struct receive_side *rx)
+{
+    counts[outcome][rx->state]++;
+}
+
+static void count_send(enum outcome outcome, const struct send_side *tx)
+{
+    bool in_gap = tx->state == CONSECUTIVE && tx->gap_left > 0;
+    counts[outcome][in_gap ? CONSECUTIVE + 1 : (int)tx->state]++;
+}
+
+static void cover_order(const struct node *before)
+{
+    enum fault fault = fault_of(before);
+    if (fault != no_fault)
+        count(fault_area_small + (fault - area_small));
+}
+
+static void cover_frame_refusal(const struct node *before, int identifier, int refusal)
+{
+    switch (refusal) {
+    case 1:
+        count(frame_refused_1);
+        cover_order(before);
+        break;
+    case 2:
+        count(frame_refused_2);
+        break;
+    case 3:
+        count(frame_refused_3);
+        break;
+    default:
+        count_receive(frame_refused_4, &before->rx[identifier - FROM_BERTH_0]);
+        break;
+    }
+}
+
+static void cover_single(const struct receive_side *rx, const struct frame_answer *answer)
+{
+    if (answer->word == IGNORED)
+        count_receive(single_ignored, rx);
+    else
+        count_receive(answer->old == 0 ? single_old_0 : single_old_7, rx);
+}
+
+static void cover_first(const struct node *before, const struct call *call, const struct frame_answer *answer)
+{
+    const struct receive_side *rx = &before->rx[answer->berth];
+    bool escape = (call->data[0] & 15) == 0 && call->data[1] == 0;
+    if (answer->word == IGNORED) {
+        count_receive(first_ignored, rx);
+    } else if (answer->word == BEGUN) {
+        count_receive(answer->old == 0 ? first_old_0 : first_old_7, rx);
+        if (answer->number == before->area)
+            count_receive(first_of_area, rx);
+    } else {
+        count_receive(answer->old == 0 ? too_long_old_0 : too_long_old_7, rx);
+        if (escape)
+            count_receive(too_long_escape, rx);
+    }
+}
+
+static void cover_consecutive(const struct node *before, const struct frame_answer *answer)
+{
+    const struct receive_side *rx = &before->rx[answer->berth];
+    bool full = rx->taken + 1 == before->block_size;
+    if (answer->word == IGNORED) {
+        count_receive(answer->number == 4 ? consecutive_ignored_4 : consecutive_ignored_3, rx);
+        return;
+    }
+    if (answer->word == FAILED) {
+        count_receive(consecutive_failed, rx);
+        return;
+    }
+    if (rx->timer == TIMER_END - 1)
+        count_receive(take_at_999, rx);
+    if (answer->word == DELIVERED)
+        count_receive(full ? delivered_full : delivered, rx);
+    else if (before->block_size == 0)
+        count_receive(took_no_blocks, rx);
+    else
+        count_receive(full ? took_full : took, rx);
+}
+
+static void cover_going(const uint8_t *data)
+{
+    uint8_t block_size = data[1], stmin = data[2];
+    count(block_size == 0 ? going_no_blocks : block_size == 1 ? going_blocks_of_1 : going_blocks);
+    if (stmin == 0)
+        count(stmin_none);
+    else if (stmin <= GAP_MAX)
+        count(stmin_ticks);
+    else
+        count(stmin_allowed(stmin) ? stmin_below_ms : stmin_unknown);
+}
+
+static void cover_flow_control(const struct node *before, const struct call *call,
+                               const struct frame_answer *answer)
+{
+    const struct send_side *tx = &before->tx[answer->berth];
+    if (answer->word == IGNORED) {
+        count_send(answer->number == 4 ? flow_ignored_4 : flow_ignored_3, tx);
+        return;
+    }
+    count((enum outcome)(status_0 + (call->data[0] & 15)));
+    if (tx->timer == TIMER_END - 1)
+        count_send(flow_at_999, tx);
+    if (answer->word == GOING) {
+        count_send(flow_going, tx);
+        cover_going(call->data);
+    } else if (answer->word == WAITING) {
+        count_send(flow_waiting, tx);
+    } else {
+        count_send(answer->number == N_BUFFER_OVFLW ? flow_failed_9 : flow_failed_6, tx);
+    }
+}
+
+static void cover_frame(const struct node *before, const struct call *call, const struct frame_answer *answer)
+{
+    const struct receive_side *rx = &before->rx[answer->berth];
+    if (answer->refusal != 0) {
+        cover_frame_refusal(before, call->identifier, answer->refusal);
+        return;
+    }
+    if (call->length == 0) {
+        count_receive(ignored_1, rx);
+        return;
+    }
+    switch (call->data[0] >> 4) {
+    case 0:
+        cover_single(rx, answer);
+        break;
+    case 1:
+        cover_first(before, call, answer);
+        break;
+    case 2:
+        cover_consecutive(before, answer);
+        break;
+    case 3:
+        cover_flow_control(before, call, answer);
+        break;
+    default:
+        count_receive(ignored_2, rx);
+        break;
+    }
+}
+
+static void cover_tick(const struct node *before, const struct tick_answer *answer)
+{
+    if (answer->refusal != 0) {
+        count(tick_refused_1);
+        cover_order(before);
+        return;
+    }
+    for (int k = 0; k < BERTHS; k++) {
+        int receive = answer->receive_code[k], send = answer->send_code[k];
+        count_receive(receive == 0 ? receive_tick : receive == N_TIMEOUT_A ? receive_tick_2 : receive_tick_4,
+                      &before->rx[k]);
+        count_send(send == 0 ? send_tick : send == N_TIMEOUT_A ? send_tick_2 : send_tick_3, &before->tx[k]);
+    }
+}
+
+static void cover_send(const struct node *before, int berth, int refusal)
+{
+    switch (refusal) {
+    case 1:
+        count(send_refused_1);
+        cover_order(before);
+        break;
+    case 2:
+        count(send_refused_2);
+        break;
+    case 5:
+        count(send_refused_5);
+        break;
+    case 6:
+        count_send(send_refused_6, &before->tx[berth]);
+        break;
+    case 7:
+        count_send(send_refused_7, &before->tx[berth]);
+        break;
+    case 8:
+        count_send(send_refused_8, &before->tx[berth]);
+        break;
+    default:
+        count_send(sent, &before->tx[berth]);
+        count_receive(sent_beside, &before->rx[berth]);
+        break;
+    }
+}
+
+static void cover_message_handed_over(const struct send_side *tx, bool last)
+{
+    bool full = tx->sent + 1 == tx->block_size;
+    if (tx->timer == TIMER_END - 1)
+        count_send(turn_at_999, tx);
+    if (tx->state == SINGLE_DUE)
+        count_send(turn_single, tx);
+    else if (tx->state == FIRST_DUE)
+        count_send(turn_first, tx);
+    else if (last)
+        count_send(full ? turn_last_full : turn_last, tx);
+    else
+        count_send(full ? turn_full : turn_more, tx);
+}
+
+static void cover_hand_over(const struct node *before, const struct turn_answer *answer)
+{
+    const struct receive_side *rx = &before->rx[answer->identifier - TO_BERTH_0];
+    const struct send_side *tx = &before->tx[answer->identifier - TO_BERTH_0];
+    if (rx->state != OWES_OVERFLOW && rx->state != OWES_GO) {
+        cover_message_handed_over(tx, answer->code == N_OK);
+        return;
+    }
+    count_receive(rx->state == OWES_GO ? turn_go : turn_overflow, rx);
+    count_send(turn_flow_first, tx);
+    if (rx->timer == TIMER_END - 1)
+        count_receive(turn_flow_at_999, rx);
+}
+
+static void cover_turn(const struct node *before, const struct turn_answer *answer)
+{
+    switch (answer->refusal) {
+    case 0:
+        count((enum outcome)(passed_0 + answer->passed_over));
+        if (!answer->none)
+            cover_hand_over(before, answer);
+        break;
+    case 1:
+        count(turn_refused_1);
+        cover_order(before);
+        break;
+    case 2:
+        count(turn_refused_2);
+        break;
+    default:
+        count(anything_due(before) ? turn_refused_9_due : turn_refused_9_none);
+        break;
+    }
+}
+
+static void cover_set_up(const struct node *before, int refusal)
+{
+    if (refusal != 0)
+        count(in_order(before) ? set_up_refused_good : set_up_refused_bad);
+    else
+        count(in_order(before) ? set_up_good : set_up_bad);
+}
+
+static void cover_show(const struct world *world, const struct call *call, size_t length)
+{
+    const struct node *node = &world->node;
+    if (call->berth >= BERTHS) {
+        count(show_no_berth);
+    } else if (!in_order(node)) {
+        count(show_bad_node);
+    } else if (!has_ten_areas(node, world->incoming)) {
+        if (has_ten_areas(node, world->outgoing))
+            count(show_incoming);
+    } else if (!has_ten_areas(node, world->outgoing)) {
+        count(show_outgoing);
+    } else if (call->choice == SHOW_ARRIVED) {
+        count_receive(length > 0 ? show_arrived : show_no_arrived, &node->rx[call->berth]);
+    } else {
+        count_send(length > 0 ? show_sending : show_no_sending, &node->tx[call->berth]);
+    }
+}
+
+static void cover_needs(uint64_t length)
+{
+    if (length == 0)
+        count(needs_zero);
+    else if (length <= SINGLE_MAX)
+        count(needs_single);
+    else
+        count(length <= AREA_MAX ? needs_more : needs_none);
+}
+
+void cover(const struct node *before, const struct world *world, const struct call *call,
+           const struct answer *answer)
+{
+    switch (call->kind) {
+    case BAD:
+        count(record_bad);
+        break;
+    case FRAME:
+        cover_frame(before, call, &answer->frame);
+        break;
+    case TICK:
+        cover_tick(before, &answer->tick);
+        break;
+    case SEND:
+        cover_send(before, call->berth, answer->refusal);
+        break;
+    case TURN:
+        cover_turn(before, &answer->turn);
+        break;
+    case HEADER:
+    case SET_UP:
+        cover_set_up(before, answer->refusal);
+        break;
+    case SHOW:
+        cover_show(world, call, answer->part.length);
+        break;
+    case NEEDS:
+        cover_needs(call->asked);
+        break;
+    default:
+        break;
+    }
+}
+
+void cover_short(void)
+{
+    count(record_short);
+}
+
+static const char *standing(const struct row *row, char letter, enum program program)
+{
+    if (strchr(row->wanted, letter) == NULL)
+        return "impossible";
+    return row->programs == ONLY_SCENES && program == EXERCISER ? "elsewhere" : "wanted";
+}
+
+void write_coverage(FILE *file, enum program program)
+{
+    for (int i = 0; i < OUTCOME_COUNT; i++) {
+        const struct row *row = &rows[i];
+        const char *letters = sides[row->side].letters;
+        for (int state = 0; letters[state] != 0; state++)
+            fprintf(file, "%ld\t%s\t%s\t%s\t%s\n", counts[i][state], standing(row, letters[state], program),
+                    sides[row->side].name, row->sentence, sides[row->side].states[state]);
+    }
+}

@@ -1,0 +1,55 @@
+/*
+ * generate.h - what the makers of streams share.
+ *
+ * A generator runs every record that it writes on a model node of its own.
+ * So it always knows what the next frame would have to be to make progress,
+ * and can choose between that frame and one that must not.
+ */
+#ifndef GENERATE_H
+#define GENERATE_H
+
+#include "dice.h"
+#include "world.h"
+
+struct generator {
+    struct dice dice;
+    enum program program;
+    struct world model;
+    long left;              /* records still to write; then every emit does nothing */
+};
+
+/* generate.c */
+void generate(enum program program, uint64_t seed, long records);
+void emit(struct generator *g, const uint8_t *record);
+
+/* generate_moves.c: single records, and steps that fit the model's state */
+void emit_frame(struct generator *g, int identifier, const uint8_t *data, int length);
+void emit_tick(struct generator *g);
+void emit_turn(struct generator *g);
+void emit_send(struct generator *g, int berth, int length);
+void emit_first(struct generator *g, int berth, int total);
+void emit_flow_control(struct generator *g, int berth, int status, int block_size, int stmin);
+void advance_receive(struct generator *g, int berth);
+void advance_send(struct generator *g, int berth);
+void finish_turns(struct generator *g);
+
+/* generate_mischief.c: what must be refused, ignored or reported */
+void disturb(struct generator *g, int berth);
+void emit_ignored(struct generator *g, int berth);
+void emit_strange_send(struct generator *g, int berth);
+
+/* generate_stretches.c: runs of records with one purpose, for both programs */
+void stretch_of_transfer(struct generator *g);
+void stretch_of_crowd(struct generator *g);
+void stretch_of_waiting(struct generator *g);
+void stretch_of_noise(struct generator *g);
+void stretch_of_bad_records(struct generator *g);
+
+/* generate_scenes.c: what only the scenes program can do */
+void emit_header(struct generator *g, uint64_t seed);
+void look(struct generator *g, int berth);
+bool usable(const struct world *world);
+void settle(struct generator *g);
+void stretch_of_scenes(struct generator *g);
+
+#endif

@@ -1,0 +1,90 @@
+/*
+ * main.c - the peer's command line.
+ *
+ * The peer is paper 01 written a second time, to run the proved programs
+ * against. Its parts:
+ *
+ *   node.h, order.*, frame.c, tick.c, turn.c, node.c   the rules of the paper
+ *   mutants.*                                          mistakes that can be put into them
+ *   records.*, world.*, line.*, say.*, program.*       the exerciser and the scenes program
+ *   words.c                                            a record in words
+ *   outcomes.h, coverage.*                             the outcomes wanted, and their counting
+ *   dice.*, generate*                                  streams of records from a seed
+ */
+#include <stdio.h>
+#include <stdlib.h>
+#include <string.h>
+
+#include "coverage.h"
+#include "generate.h"
+#include "mutants.h"
+#include "program.h"
+
+static const char usage[] =
+    "usage: peer exerciser|scenes [--mutant NAME] [--coverage FILE] < RECORDS\n"
+    "       peer words exerciser|scenes < RECORDS        each record in words\n"
+    "       peer generate exerciser|scenes SEED COUNT    a stream of COUNT records\n"
+    "       peer mutants                                 their names and sentences\n";
+
+static int fail(const char *why)
+{
+    fprintf(stderr, "peer: %s\n%s", why, usage);
+    return 2;
+}
+
+static bool read_program(const char *name, enum program *program)
+{
+    *program = strcmp(name, "scenes") == 0 ? SCENES : EXERCISER;
+    return *program == SCENES || strcmp(name, "exerciser") == 0;
+}
+
+static int run(enum program program, const char *coverage_name)
+{
+    run_program(program, coverage_name != NULL);
+    if (coverage_name == NULL)
+        return 0;
+    FILE *file = fopen(coverage_name, "w");
+    if (file == NULL)
+        return fail("the coverage file cannot be written");
+    write_coverage(file, program);
+    return fclose(file) == 0 ? 0 : fail("the coverage file cannot be written");
+}
+
+static int run_with_options(enum program program, int count, char **options)
+{
+    const char *coverage_name = NULL;
+    if (count % 2 != 0)
+        return fail("an option lacks its value");
+    for (int i = 0; i < count; i += 2) {
+        if (strcmp(options[i], "--coverage") == 0)
+            coverage_name = options[i + 1];
+        else if (strcmp(options[i], "--mutant") != 0)
+            return fail("no such option");
+        else if (!choose_mutant(options[i + 1]))
+            return fail("no such mutant");
+    }
+    /* A mutant leaves the paths that the counting is made for. */
+    if (mutant != NO_MUTANT && coverage_name != NULL)
+        return fail("--mutant and --coverage do not go together");
+    return run(program, coverage_name);
+}
+
+int main(int count, char **words)
+{
+    enum program program;
+    if (count >= 2 && read_program(words[1], &program))
+        return run_with_options(program, count - 2, words + 2);
+    if (count == 2 && strcmp(words[1], "mutants") == 0) {
+        list_mutants();
+        return 0;
+    }
+    if (count == 3 && strcmp(words[1], "words") == 0 && read_program(words[2], &program)) {
+        say_records(program);
+        return 0;
+    }
+    if (count == 5 && strcmp(words[1], "generate") == 0 && read_program(words[2], &program)) {
+        generate(program, strtoull(words[3], NULL, 10), strtol(words[4], NULL, 10));
+        return 0;
+    }
+    return fail("what shall it do?");
+}

@@ -1,0 +1,131 @@
+/*
+ * mutants.h - the mistakes that the tests must be able to see.
+ *
+ * Each mutant is one mistake that a line of the list of corners warns about,
+ * named by that line. At most one is switched on, with --mutant; the rules ask
+ * at the one place that it concerns.
+ */
+#ifndef MUTANTS_H
+#define MUTANTS_H
+
+#include <stdbool.h>
+
+#define MUTANTS(X)                                                                    \
+    X(02a, "show does not test the order")                                            \
+    X(02b, "a frame's store is tested before the order")                              \
+    X(03a, "with BS 0 the frames taken are counted up all the same")                  \
+    X(03b, "with BS 1 a frame does not fill its block")                               \
+    X(03c, "with a peer's block size 0 the frames sent are counted up all the same")  \
+    X(03d, "with a peer's block size 1 a frame does not fill its block")              \
+    X(04a, "owes go with a block count above 0 is held to be out of order")           \
+    X(04b, "a got that whole frames do not add up to is held to be out of order")     \
+    X(04c, "an SN that does not fit the bytes got is held to be out of order")        \
+    X(04d, "a gap left above the peer's gap is held to be out of order")              \
+    X(05a, "after a filled block the peer's block size is forgotten")                 \
+    X(05b, "after a filled block the peer's gap is forgotten")                        \
+    X(05c, "after a first frame the peer's block size is the node's own")             \
+    X(06a, "a refused set-up empties the node")                                       \
+    X(06b, "set-up takes BS modulo 256")                                              \
+    X(06c, "set-up keeps the berth served last")                                      \
+    X(06d, "set-up keeps the last lengths")                                           \
+    X(06e, "set-up refuses a node out of order")                                      \
+    X(07a, "a frame without data is I1 before its identifier is tested")              \
+    X(07b, "a frame of kind 4 to 15 is I2 before its data length is tested")          \
+    X(07c, "a frame's data length is tested before its identifier")                   \
+    X(08a, "a single frame may hold no byte")                                         \
+    X(08b, "a single frame's length is its low three bits")                           \
+    X(08c, "a single frame may have any data length above L")                         \
+    X(09a, "a single frame stores its padding too")                                   \
+    X(09b, "a single frame ends an owed overflow with old code 7")                    \
+    X(09c, "a single frame leaves an overflow owed")                                  \
+    X(10a, "a first frame may have any data length")                                  \
+    X(10b, "an escape length of 4,095 is taken")                                      \
+    X(10c, "only the low 16 bits of an escape length count")                          \
+    X(10d, "any 12-bit length below 8 is an escape")                                  \
+    X(11a, "an ignored single or first frame ends the old reception")                 \
+    X(11b, "an ignored frame starts the receive timer again")                         \
+    X(12a, "TooLong always has old code 0")                                           \
+    X(12b, "TooLong clears the last length")                                          \
+    X(12c, "TooLong stores its bytes")                                                \
+    X(12d, "TooLong from an owed overflow has old code 7")                            \
+    X(13a, "Begun keeps the last length")                                             \
+    X(13b, "a length of exactly A is TooLong")                                        \
+    X(14a, "a consecutive frame's SN is tested before its length")                    \
+    X(14b, "a consecutive frame's length is tested before the state")                 \
+    X(14c, "a consecutive frame is taken while go is owed")                           \
+    X(15a, "a last consecutive frame may have any data length that holds its bytes")  \
+    X(15b, "a last consecutive frame may not be filled up to 8 bytes")                \
+    X(15c, "a last consecutive frame stores its padding too")                         \
+    X(16a, "the reception goes on after a wrong SN")                                  \
+    X(16b, "a frame with a wrong SN is stored")                                       \
+    X(16c, "after a wrong SN the bytes got are shown as a message")                   \
+    X(17a, "a block that is full is tested before the message that is complete")      \
+    X(17b, "a new block starts with SN 1")                                            \
+    X(17c, "a filled block keeps its block count")                                    \
+    X(17d, "a filled block keeps its timer")                                          \
+    X(18a, "flow control's length is tested before the state")                        \
+    X(18b, "WAIT and overflow need one byte only")                                    \
+    X(18c, "WAIT takes block size and STmin")                                         \
+    X(18d, "WAIT keeps the timer")                                                    \
+    X(18e, "go keeps the timer")                                                      \
+    X(18f, "go starts the SN again")                                                  \
+    X(19a, "go starts the receive timer again")                                       \
+    X(19b, "a single frame ends the sending")                                         \
+    X(20a, "a first frame keeps the old reception's timer")                           \
+    X(20b, "overflow ends a sending in any state")                                    \
+    X(20c, "a reserved STmin means no gap")                                           \
+    X(20d, "STmin F1 to F9 means no gap")                                             \
+    X(20e, "a wrong SN has old code 7")                                               \
+    X(21a, "the tick that ends a gap counts for the timer")                           \
+    X(21b, "a gap is one tick short")                                                 \
+    X(22a, "owes go ends with code 4")                                                \
+    X(22b, "an owed overflow that ends clears the last length")                       \
+    X(23a, "a tick does not test the order")                                          \
+    X(23b, "a refused tick moves the timers")                                         \
+    X(24a, "a turn with nothing due does not look at its buffer")                     \
+    X(24b, "a buffer of 7 bytes will do")                                             \
+    X(24c, "a turn's buffer is tested before the store")                              \
+    X(25a, "each round starts at berth 0")                                            \
+    X(25b, "each round starts at the berth served last")                              \
+    X(25c, "a turn with nothing due sets the berth served last to 9")                 \
+    X(25d, "passed over is the berth's own number")                                   \
+    X(25e, "flow control does not count as serving its berth")                        \
+    X(26a, "within a berth flow control goes last")                                   \
+    X(26b, "overflow carries BS and STmin")                                           \
+    X(26c, "flow control reports code 1")                                             \
+    X(27a, "the peer's block that is full is tested before the last frame")           \
+    X(27b, "a frame that fills the peer's block leaves a gap")                        \
+    X(27c, "a gap of 0 lasts one tick")                                               \
+    X(28a, "flow control handed over starts the send timer again")                    \
+    X(28b, "bytes past the payload are not written")                                  \
+    X(28c, "bytes past 8 are written")                                                \
+    X(29a, "send tests for a busy berth first")                                       \
+    X(29b, "send clears the area behind the message")                                 \
+    X(29c, "send is refused while the berth is receiving")                            \
+    X(30a, "show tests the chosen store only")                                        \
+    X(30b, "show does not show a message that is still due")                          \
+    X(30c, "show shows a reception under way")                                        \
+    X(30d, "show shows the part of a message that was sent")                          \
+    X(31a, "a length of 4,096 has a number of frames")                                \
+    X(31b, "a length of 0 needs one frame")                                           \
+    X(31c, "only the low 16 bits of a length count")                                  \
+    X(31d, "a length above A needs no frame")
+
+#define AS_MUTANT(line, sentence) CORNER_##line,
+enum { NO_MUTANT, MUTANTS(AS_MUTANT) MUTANT_COUNT };
+#undef AS_MUTANT
+
+/* Beside these stands one mutant for each range of the order: it drops that range. */
+extern int mutant;
+
+/*
+ * rule(8, 99a, 7) reads: the rule is 8, and the mutant of corner 99a has 7.
+ * A mistake that is not one operand is asked for with mistake(99a).
+ */
+#define mistake(line) (mutant == CORNER_##line)
+#define rule(right, line, wrong) (mistake(line) ? (wrong) : (right))
+
+bool choose_mutant(const char *name);
+void list_mutants(void);
+
+#endif

@@ -1,0 +1,124 @@
+/*
+ * node.h - the node of paper 01 and its calls.
+ *
+ * This is an independent reading of the paper in plain C: it shares no line
+ * with the proved node, so that an error would have to be made twice to stay
+ * hidden. Names are the paper's words.
+ */
+#ifndef NODE_H
+#define NODE_H
+
+#include <stdbool.h>
+#include <stddef.h>
+#include <stdint.h>
+
+enum {
+    BERTHS = 10,
+    AREA_MIN = 8,
+    AREA_MAX = 4095,
+    BLOCK_MAX = 255,
+    GAP_MAX = 127,
+    SN_MAX = 15,
+    TIMER_END = 1000,   /* the tick that makes a timer this ends its side */
+    SINGLE_MAX = 7,     /* bytes in a single frame, and in a consecutive one */
+    FIRST_BYTES = 6,    /* bytes of the message in a first frame */
+    FRAME_BYTES = 8,
+    FILLER = 0xCC,
+    FROM_BERTH_0 = 0x640,
+    TO_BERTH_0 = 0x660,
+};
+
+enum report {
+    N_OK = 1,
+    N_TIMEOUT_A = 2,
+    N_TIMEOUT_Bs = 3,
+    N_TIMEOUT_Cr = 4,
+    N_WRONG_SN = 5,
+    N_INVALID_FS = 6,
+    N_UNEXP_PDU = 7,
+    N_BUFFER_OVFLW = 9,
+};
+
+enum receive_state { RX_IDLE, OWES_OVERFLOW, OWES_GO, AWAITS };
+enum send_state { TX_IDLE, SINGLE_DUE, FIRST_DUE, AWAITS_FLOW, CONSECUTIVE };
+
+/* Fields that a state does not carry are 0 here, so that equal nodes are equal bytes. */
+struct receive_side {
+    enum receive_state state;
+    int total, got, sn, taken;
+    int timer;
+    int last;               /* length of the last message arrived, 0 for none */
+};
+
+struct send_side {
+    enum send_state state;
+    int length, position, sn;
+    int block_size, sent;   /* the peer's block size; frames sent in this block */
+    int gap, gap_left;
+    int timer;
+};
+
+struct node {
+    int area, block_size, stmin;
+    int served;
+    struct receive_side rx[BERTHS];
+    struct send_side tx[BERTHS];
+};
+
+/* A store, a part of one, or a turn's buffer, as it is lent to a call. */
+struct bytes {
+    uint8_t *at;
+    size_t length;
+};
+
+enum word { IGNORED, DELIVERED, BEGUN, TOO_LONG, TOOK, GOING, WAITING, FAILED };
+
+/* In every answer a refusal above 0 means that the other fields say nothing. */
+struct frame_answer {
+    int refusal;
+    int berth;
+    int old;
+    enum word word;
+    int number;             /* the length, the code, or the digit after I */
+};
+
+struct tick_answer {
+    int refusal;
+    int receive_code[BERTHS];
+    int send_code[BERTHS];
+};
+
+struct turn_answer {
+    int refusal;
+    bool none;
+    int identifier;
+    int code;
+    int passed_over;
+};
+
+/* Set-up and send answer with their refusal alone, 0 for none. */
+int set_up(struct node *node, uint32_t area, uint32_t block_size, uint32_t stmin);
+
+/* data holds at least FRAME_BYTES readable bytes, whatever the length says. */
+struct frame_answer frame_came(struct node *node, struct bytes incoming, int identifier,
+                               const uint8_t *data, int length);
+
+struct tick_answer tick(struct node *node);
+
+int send_message(struct node *node, struct bytes outgoing, int berth, struct bytes message);
+
+struct turn_answer call_for_frame(struct node *node, struct bytes outgoing, struct bytes buffer);
+
+enum choice { SHOW_ARRIVED, SHOW_SENDING };
+struct bytes show_message(const struct node *node, struct bytes incoming, struct bytes outgoing,
+                          int berth, enum choice choice);
+
+int frames_needed(uint64_t length);
+
+/* What the calls share. */
+bool in_order(const struct node *node);
+bool has_ten_areas(const struct node *node, struct bytes store);
+bool stmin_allowed(uint32_t stmin);
+bool anything_due(const struct node *node);
+
+#endif

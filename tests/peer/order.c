@@ -1,0 +1,106 @@
+/*
+ * order.c - whether a node keeps the ranges of "What each side of a berth remembers".
+ *
+ * No range stands here that the paper does not name (but for the mutants'): a
+ * node that no run reaches may still be in order, and then every call must
+ * serve it.
+ */
+#include "mutants.h"
+#include "order.h"
+
+#define BREAKS(name, test)                                \
+    do {                                                  \
+        if ((test) && mutant != MUTANT_COUNT + (name))    \
+            return name;                                  \
+    } while (0)
+
+bool stmin_allowed(uint32_t stmin)
+{
+    return stmin <= 0x7F || (stmin >= 0xF1 && stmin <= 0xF9);
+}
+
+static enum fault settings_fault(const struct node *node)
+{
+    BREAKS(area_small, node->area < AREA_MIN);
+    BREAKS(area_large, node->area > AREA_MAX);
+    BREAKS(stmin_reserved, !stmin_allowed((uint32_t)node->stmin));
+    BREAKS(served_large, node->served >= BERTHS);
+    return no_fault;
+}
+
+static enum fault receive_fault(const struct node *node, const struct receive_side *rx)
+{
+    BREAKS(last_large, rx->last > node->area);
+    if (rx->state == RX_IDLE)
+        return no_fault;
+    BREAKS(receive_timer_large, rx->timer >= TIMER_END);
+    if (rx->state == OWES_OVERFLOW)
+        return no_fault;
+    BREAKS(last_while_receiving, rx->last != 0);
+    BREAKS(total_small, rx->total < AREA_MIN);
+    BREAKS(total_large, rx->total > node->area);
+    BREAKS(got_small, rx->got < FIRST_BYTES);
+    BREAKS(got_large, rx->got >= rx->total);
+    BREAKS(receive_sn_large, rx->sn > SN_MAX);
+    BREAKS(taken_large, node->block_size != 0 && rx->taken >= node->block_size);
+    BREAKS(taken_uncounted, node->block_size == 0 && rx->taken != 0);
+    /* The mistakes of corner 4 are ranges that the paper does not name. */
+    BREAKS(taken_large, mistake(04a) && rx->state == OWES_GO && rx->taken != 0);
+    BREAKS(got_large, mistake(04b) && (rx->got - FIRST_BYTES) % 7 != 0);
+    BREAKS(receive_sn_large, mistake(04c) && rx->sn != (1 + (rx->got - FIRST_BYTES) / 7) % 16);
+    return no_fault;
+}
+
+/* What awaits flow control and consecutive carry. */
+static enum fault transfer_fault(const struct node *node, const struct send_side *tx)
+{
+    BREAKS(length_small, tx->length < AREA_MIN);
+    BREAKS(length_large, tx->length > node->area);
+    BREAKS(position_small, tx->position < FIRST_BYTES);
+    BREAKS(position_large, tx->position >= tx->length);
+    BREAKS(send_sn_large, tx->sn > SN_MAX);
+    BREAKS(sent_while_awaiting, tx->state == AWAITS_FLOW && tx->sent != 0);
+    BREAKS(sent_large, tx->block_size != 0 && tx->sent >= tx->block_size && tx->state == CONSECUTIVE);
+    BREAKS(sent_uncounted, tx->block_size == 0 && tx->sent != 0 && tx->state == CONSECUTIVE);
+    BREAKS(gap_large, tx->gap > GAP_MAX);
+    BREAKS(gap_left_large, tx->gap_left > GAP_MAX && tx->state == CONSECUTIVE);
+    BREAKS(gap_left_while_awaiting, tx->state == AWAITS_FLOW && tx->gap_left != 0);
+    BREAKS(timer_in_gap, tx->gap_left > 0 && tx->timer > 0 && tx->state == CONSECUTIVE);
+    BREAKS(gap_left_large, mistake(04d) && tx->gap_left > tx->gap);
+    return no_fault;
+}
+
+static enum fault send_fault(const struct node *node, const struct send_side *tx)
+{
+    if (tx->state == TX_IDLE)
+        return no_fault;
+    BREAKS(send_timer_large, tx->timer >= TIMER_END);
+    switch (tx->state) {
+    case SINGLE_DUE:
+        BREAKS(single_small, tx->length < 1);
+        BREAKS(single_large, tx->length > SINGLE_MAX);
+        return no_fault;
+    case FIRST_DUE:
+        BREAKS(first_small, tx->length < AREA_MIN);
+        BREAKS(first_large, tx->length > node->area);
+        return no_fault;
+    default:
+        return transfer_fault(node, tx);
+    }
+}
+
+enum fault fault_of(const struct node *node)
+{
+    enum fault fault = settings_fault(node);
+    for (int k = 0; k < BERTHS && fault == no_fault; k++) {
+        fault = receive_fault(node, &node->rx[k]);
+        if (fault == no_fault)
+            fault = send_fault(node, &node->tx[k]);
+    }
+    return fault;
+}
+
+bool in_order(const struct node *node)
+{
+    return fault_of(node) == no_fault;
+}

@@ -1,0 +1,142 @@
+/*
+ * outcomes.h - the outcomes that the tests want to see.
+ *
+ * Each row has the programs that can show it, the side whose state counts, and
+ * the states in which it is wanted, one letter each:
+ *   receive side: i idle, o owes overflow, g owes go, a awaits
+ *   send side: i idle, s single due, f first due, w awaits flow control,
+ *              c consecutive with gap left 0, p consecutive in a pause
+ *   the node as a whole: -
+ * In a state that is not named the outcome is impossible by the paper.
+ *
+ * Refusal 11 has no row: it cannot be reached (see frame.c).
+ */
+#ifndef OUTCOMES_H
+#define OUTCOMES_H
+
+#include "order.h"
+
+#define NODE_OUTCOMES(X)                                                        \
+    X(frame_refused_1, ONLY_SCENES, OF_NODE, "-", "frame: refused 1")           \
+    X(frame_refused_2, ONLY_SCENES, OF_NODE, "-", "frame: refused 2")           \
+    X(frame_refused_3, BOTH, OF_NODE, "-", "frame: refused 3")                  \
+    X(tick_refused_1, ONLY_SCENES, OF_NODE, "-", "tick: refused 1")             \
+    X(send_refused_1, ONLY_SCENES, OF_NODE, "-", "send: refused 1")             \
+    X(send_refused_2, ONLY_SCENES, OF_NODE, "-", "send: refused 2")             \
+    X(send_refused_5, BOTH, OF_NODE, "-", "send: refused 5")                    \
+    X(turn_refused_1, ONLY_SCENES, OF_NODE, "-", "turn: refused 1")             \
+    X(turn_refused_2, ONLY_SCENES, OF_NODE, "-", "turn: refused 2")             \
+    X(turn_refused_9_none, ONLY_SCENES, OF_NODE, "-", "turn: refused 9, none due") \
+    X(turn_refused_9_due, ONLY_SCENES, OF_NODE, "-", "turn: refused 9, one due") \
+    X(set_up_refused_good, ONLY_SCENES, OF_NODE, "-", "set-up: refused 10, node in order") \
+    X(set_up_refused_bad, ONLY_SCENES, OF_NODE, "-", "set-up: refused 10, node out of order") \
+    X(set_up_good, ONLY_SCENES, OF_NODE, "-", "set-up: node in order")          \
+    X(set_up_bad, ONLY_SCENES, OF_NODE, "-", "set-up: node out of order")       \
+    X(passed_0, BOTH, OF_NODE, "-", "turn: passed over 0")                      \
+    X(passed_1, BOTH, OF_NODE, "-", "turn: passed over 1")                      \
+    X(passed_2, BOTH, OF_NODE, "-", "turn: passed over 2")                      \
+    X(passed_3, BOTH, OF_NODE, "-", "turn: passed over 3")                      \
+    X(passed_4, BOTH, OF_NODE, "-", "turn: passed over 4")                      \
+    X(passed_5, BOTH, OF_NODE, "-", "turn: passed over 5")                      \
+    X(passed_6, BOTH, OF_NODE, "-", "turn: passed over 6")                      \
+    X(passed_7, BOTH, OF_NODE, "-", "turn: passed over 7")                      \
+    X(passed_8, BOTH, OF_NODE, "-", "turn: passed over 8")                      \
+    X(passed_9, BOTH, OF_NODE, "-", "turn: passed over 9")                      \
+    X(passed_10, BOTH, OF_NODE, "-", "turn: none, passed over 10")              \
+    X(status_0, BOTH, OF_NODE, "-", "flow control: awaited, status 0")          \
+    X(status_1, BOTH, OF_NODE, "-", "flow control: awaited, status 1")          \
+    X(status_2, BOTH, OF_NODE, "-", "flow control: awaited, status 2")          \
+    X(status_3, BOTH, OF_NODE, "-", "flow control: awaited, status 3")          \
+    X(status_4, BOTH, OF_NODE, "-", "flow control: awaited, status 4")          \
+    X(status_5, BOTH, OF_NODE, "-", "flow control: awaited, status 5")          \
+    X(status_6, BOTH, OF_NODE, "-", "flow control: awaited, status 6")          \
+    X(status_7, BOTH, OF_NODE, "-", "flow control: awaited, status 7")          \
+    X(status_8, BOTH, OF_NODE, "-", "flow control: awaited, status 8")          \
+    X(status_9, BOTH, OF_NODE, "-", "flow control: awaited, status 9")          \
+    X(status_10, BOTH, OF_NODE, "-", "flow control: awaited, status 10")        \
+    X(status_11, BOTH, OF_NODE, "-", "flow control: awaited, status 11")        \
+    X(status_12, BOTH, OF_NODE, "-", "flow control: awaited, status 12")        \
+    X(status_13, BOTH, OF_NODE, "-", "flow control: awaited, status 13")        \
+    X(status_14, BOTH, OF_NODE, "-", "flow control: awaited, status 14")        \
+    X(status_15, BOTH, OF_NODE, "-", "flow control: awaited, status 15")        \
+    X(stmin_ticks, BOTH, OF_NODE, "-", "going: STmin 01 to 7F")                 \
+    X(stmin_none, BOTH, OF_NODE, "-", "going: STmin 00")                        \
+    X(stmin_below_ms, BOTH, OF_NODE, "-", "going: STmin F1 to F9")              \
+    X(stmin_unknown, BOTH, OF_NODE, "-", "going: STmin reserved")               \
+    X(going_no_blocks, BOTH, OF_NODE, "-", "going: block size 0")               \
+    X(going_blocks_of_1, BOTH, OF_NODE, "-", "going: block size 1")             \
+    X(going_blocks, BOTH, OF_NODE, "-", "going: block size above 1")            \
+    X(show_no_berth, ONLY_SCENES, OF_NODE, "-", "show: berth above 9")          \
+    X(show_bad_node, ONLY_SCENES, OF_NODE, "-", "show: node out of order")      \
+    X(show_incoming, ONLY_SCENES, OF_NODE, "-", "show: incoming wrong only")    \
+    X(show_outgoing, ONLY_SCENES, OF_NODE, "-", "show: outgoing wrong only")    \
+    X(needs_zero, ONLY_SCENES, OF_NODE, "-", "needs: length 0")                 \
+    X(needs_single, ONLY_SCENES, OF_NODE, "-", "needs: length 1 to 7")          \
+    X(needs_more, ONLY_SCENES, OF_NODE, "-", "needs: length 8 to 4,095")        \
+    X(needs_none, ONLY_SCENES, OF_NODE, "-", "needs: length above 4,095")       \
+    X(record_bad, BOTH, OF_NODE, "-", "record: bad")                            \
+    X(record_short, BOTH, OF_NODE, "-", "record: short")
+
+#define AS_OUTCOME_OF_FAULT(name, sentence)                                     \
+    X_FAULT(fault_##name, ONLY_SCENES, OF_NODE, "-", "refused 1: " sentence)
+
+#define RECEIVE_OUTCOMES(X)                                                     \
+    X(frame_refused_4, ONLY_SCENES, OF_RECEIVE, "ioga", "frame: refused 4")     \
+    X(ignored_1, BOTH, OF_RECEIVE, "ioga", "no data: ignored 1")                \
+    X(ignored_2, BOTH, OF_RECEIVE, "ioga", "kind 4 to 15: ignored 2")           \
+    X(single_ignored, BOTH, OF_RECEIVE, "ioga", "single: ignored 3")            \
+    X(single_old_0, BOTH, OF_RECEIVE, "io", "single: delivered, old 0")         \
+    X(single_old_7, BOTH, OF_RECEIVE, "ga", "single: delivered, old 7")         \
+    X(first_ignored, BOTH, OF_RECEIVE, "ioga", "first: ignored 3")              \
+    X(first_old_0, BOTH, OF_RECEIVE, "io", "first: begun, old 0")               \
+    X(first_old_7, BOTH, OF_RECEIVE, "ga", "first: begun, old 7")               \
+    X(first_of_area, BOTH, OF_RECEIVE, "ioga", "first: begun, length A")        \
+    X(too_long_old_0, BOTH, OF_RECEIVE, "io", "first: toolong, old 0")          \
+    X(too_long_old_7, BOTH, OF_RECEIVE, "ga", "first: toolong, old 7")          \
+    X(too_long_escape, BOTH, OF_RECEIVE, "ioga", "first: toolong by escape")    \
+    X(consecutive_ignored_4, BOTH, OF_RECEIVE, "iog", "consecutive: ignored 4") \
+    X(consecutive_ignored_3, BOTH, OF_RECEIVE, "a", "consecutive: ignored 3")   \
+    X(consecutive_failed, BOTH, OF_RECEIVE, "a", "consecutive: failed 5")       \
+    X(took, BOTH, OF_RECEIVE, "a", "consecutive: took")                         \
+    X(took_full, BOTH, OF_RECEIVE, "a", "consecutive: took, block full")        \
+    X(took_no_blocks, ONLY_SCENES, OF_RECEIVE, "a", "consecutive: took, BS 0")  \
+    X(delivered, BOTH, OF_RECEIVE, "a", "consecutive: delivered")               \
+    X(delivered_full, BOTH, OF_RECEIVE, "a", "consecutive: delivered, block full") \
+    X(take_at_999, BOTH, OF_RECEIVE, "a", "consecutive: right at timer 999")    \
+    X(receive_tick, BOTH, OF_RECEIVE, "ioga", "tick: no code")                  \
+    X(receive_tick_2, BOTH, OF_RECEIVE, "og", "tick: code 2")                   \
+    X(receive_tick_4, BOTH, OF_RECEIVE, "a", "tick: code 4")                    \
+    X(turn_overflow, BOTH, OF_RECEIVE, "o", "turn: overflow handed over")       \
+    X(turn_go, BOTH, OF_RECEIVE, "g", "turn: go handed over")                   \
+    X(turn_flow_at_999, BOTH, OF_RECEIVE, "og", "turn: handed over at timer 999") \
+    X(sent_beside, BOTH, OF_RECEIVE, "ioga", "send: sent beside it")            \
+    X(show_arrived, ONLY_SCENES, OF_RECEIVE, "io", "show: last message arrived") \
+    X(show_no_arrived, ONLY_SCENES, OF_RECEIVE, "ioga", "show: no message arrived")
+
+#define SEND_OUTCOMES(X)                                                        \
+    X(flow_ignored_4, BOTH, OF_SEND, "isfcp", "flow control: ignored 4")        \
+    X(flow_ignored_3, BOTH, OF_SEND, "w", "flow control: ignored 3")            \
+    X(flow_going, BOTH, OF_SEND, "w", "flow control: going")                    \
+    X(flow_waiting, BOTH, OF_SEND, "w", "flow control: waiting")                \
+    X(flow_failed_9, BOTH, OF_SEND, "w", "flow control: failed 9")              \
+    X(flow_failed_6, BOTH, OF_SEND, "w", "flow control: failed 6")              \
+    X(flow_at_999, BOTH, OF_SEND, "w", "flow control: obeyed at timer 999")     \
+    X(sent, BOTH, OF_SEND, "i", "send: sent")                                   \
+    X(send_refused_6, BOTH, OF_SEND, "isfwcp", "send: refused 6")               \
+    X(send_refused_7, BOTH, OF_SEND, "isfwcp", "send: refused 7")               \
+    X(send_refused_8, BOTH, OF_SEND, "sfwcp", "send: refused 8")                \
+    X(send_tick, BOTH, OF_SEND, "isfwcp", "tick: no code")                      \
+    X(send_tick_2, BOTH, OF_SEND, "sfc", "tick: code 2")                        \
+    X(send_tick_3, BOTH, OF_SEND, "w", "tick: code 3")                          \
+    X(turn_single, BOTH, OF_SEND, "s", "turn: single handed over")              \
+    X(turn_first, BOTH, OF_SEND, "f", "turn: first handed over")                \
+    X(turn_more, BOTH, OF_SEND, "c", "turn: consecutive, more to go")           \
+    X(turn_full, BOTH, OF_SEND, "c", "turn: consecutive, block full")           \
+    X(turn_last, BOTH, OF_SEND, "c", "turn: consecutive, last")                 \
+    X(turn_last_full, BOTH, OF_SEND, "c", "turn: consecutive, last, block full") \
+    X(turn_at_999, BOTH, OF_SEND, "sfc", "turn: handed over at timer 999")      \
+    X(turn_flow_first, BOTH, OF_SEND, "isfwcp", "turn: flow control goes first") \
+    X(show_sending, ONLY_SCENES, OF_SEND, "sfwcp", "show: message being sent")  \
+    X(show_no_sending, ONLY_SCENES, OF_SEND, "i", "show: no message being sent")
+
+#endif

@@ -1,0 +1,15 @@
+/*
+ * program.h - the loops over standard input.
+ */
+#ifndef PROGRAM_H
+#define PROGRAM_H
+
+#include "records.h"
+
+/* The exerciser or the scenes program: one line of output for each record. */
+void run_program(enum program program, bool covering);
+
+/* The same input, each record in words. */
+void say_records(enum program program);
+
+#endif

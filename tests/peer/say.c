@@ -1,0 +1,130 @@
+/*
+ * say.c - an answer as its line of output.
+ */
+#include "say.h"
+
+static void say_frame(struct line *line, const struct frame_answer *answer)
+{
+    static const char *const words[] = {
+        [IGNORED] = "ignored", [DELIVERED] = "delivered", [BEGUN] = "begun", [TOO_LONG] = "toolong",
+        [TOOK] = "took", [GOING] = "going", [WAITING] = "waiting", [FAILED] = "failed",
+    };
+    enum word word = answer->word;
+    line_add(line, "berth %d old %d %s", answer->berth, answer->old, words[word]);
+    if (word == IGNORED || word == DELIVERED || word == BEGUN || word == FAILED)
+        line_add(line, " %d", answer->number);
+}
+
+static void say_tick(struct line *line, const struct tick_answer *answer)
+{
+    line_add(line, "tick");
+    for (int k = 0; k < BERTHS; k++)
+        if (answer->receive_code[k] != 0 || answer->send_code[k] != 0)
+            line_add(line, " %d:%d:%d", k, answer->receive_code[k], answer->send_code[k]);
+}
+
+static void say_turn(struct line *line, const struct answer *answer)
+{
+    if (answer->turn.none) {
+        line_add(line, "none");
+        return;
+    }
+    line_add(line, "frame %04X", answer->turn.identifier);
+    line_add_bytes(line, "", answer->buffer, FRAME_BYTES);
+    line_add(line, " passed %d code %d", answer->turn.passed_over, answer->turn.code);
+}
+
+static void say_receive_side(struct line *line, const struct receive_side *rx)
+{
+    line_add(line, " rx %d", (int)rx->state);
+    if (rx->state == OWES_GO || rx->state == AWAITS)
+        line_add(line, " %d %d %d %d", rx->total, rx->got, rx->sn, rx->taken);
+    if (rx->state != RX_IDLE)
+        line_add(line, " %d", rx->timer);
+    line_add(line, " last %d", rx->last);
+}
+
+static void say_send_side(struct line *line, const struct send_side *tx)
+{
+    line_add(line, " tx %d", (int)tx->state);
+    if (tx->state != TX_IDLE)
+        line_add(line, " %d", tx->length);
+    if (tx->state == AWAITS_FLOW || tx->state == CONSECUTIVE)
+        line_add(line, " %d %d %d %d %d %d", tx->position, tx->sn, tx->block_size, tx->sent,
+                 tx->gap, tx->gap_left);
+    if (tx->state != TX_IDLE)
+        line_add(line, " %d", tx->timer);
+}
+
+static void say_node(struct line *line, const struct node *node)
+{
+    line_add(line, "node %d %d %d %d", node->area, node->block_size, node->stmin, node->served);
+}
+
+/* The records that look at the node or change it without one of its calls. */
+static void say_scenes_answer(struct line *line, const struct world *world, const struct call *call,
+                              const struct answer *answer)
+{
+    switch (call->kind) {
+    case SHOW:
+        line_add_bytes(line, "show", answer->part.at, answer->part.length);
+        break;
+    case DUMP:
+        line_add_bytes(line, "area", answer->part.at, answer->part.length);
+        break;
+    case STATE:
+        line_add(line, "state");
+        say_receive_side(line, &world->node.rx[call->berth]);
+        say_send_side(line, &world->node.tx[call->berth]);
+        break;
+    case NODE:
+        say_node(line, &world->node);
+        break;
+    case HEADER:
+    case SET_UP:
+        line_add(line, "setup");
+        break;
+    case NEEDS:
+        line_add(line, "needs %d", answer->needs);
+        break;
+    default:
+        line_add(line, "loaded");
+        break;
+    }
+}
+
+static void say_answered(struct line *line, const struct world *world, const struct call *call,
+                         const struct answer *answer)
+{
+    switch (call->kind) {
+    case BAD:
+        line_add(line, "bad");
+        break;
+    case FRAME:
+        say_frame(line, &answer->frame);
+        break;
+    case TICK:
+        say_tick(line, &answer->tick);
+        break;
+    case SEND:
+        line_add(line, "sent %d", call->berth);
+        break;
+    case TURN:
+        say_turn(line, answer);
+        break;
+    default:
+        say_scenes_answer(line, world, call, answer);
+        break;
+    }
+}
+
+void say_answer(struct line *line, enum program program, const struct world *world,
+                const struct call *call, const struct answer *answer)
+{
+    if (answer->refusal != 0)
+        line_add(line, "refused %d", answer->refusal);
+    else
+        say_answered(line, world, call, answer);
+    if (program == SCENES && call->kind == TURN)
+        line_add_bytes(line, " buffer", answer->buffer, (size_t)call->buffer);
+}

@@ -1,0 +1,14 @@
+/*
+ * say.h - an answer as its line of output.
+ */
+#ifndef SAY_H
+#define SAY_H
+
+#include "line.h"
+#include "world.h"
+
+/* The world is the one after the call. */
+void say_answer(struct line *line, enum program program, const struct world *world,
+                const struct call *call, const struct answer *answer);
+
+#endif
