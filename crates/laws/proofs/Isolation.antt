@@ -1,0 +1,225 @@
+-- Demand 3, first half. A call that is answered changes berth k's part by k's own event and no other part; refused calls change
+-- nothing; so by induction a run leaves and says of each berth what its own events do on that berth alone.
+use mathlib.Core.Path.{_≡_, refl, sym, ap, ap₂, _∙_}
+use Prim.Native.Nat.{ℕ, zero, suc, _+_, _-_, _*_, _≤_, _<_}
+use native.Mathlib.Omega.{arith}
+use native.Mathlib.Nat.{mod-lt}
+use mathlib.Core.Bool.{Bool, true, false, not, _&&_}
+use mathlib.Core.List.{List, [], _∷_, _++_, map, append-assoc}
+use lib.ListN.{length, getD, take, set, replicate, List·getD-map, length-replicate}
+use lib.Seq.{sets, getD-set-same, getD-set-other}
+use lib.Dec.{T, eqb, ltb, leb, lit<}
+use mir.Facts.{yes-eqb, yes-ltb, yes-and}
+use Rattle.rules.specs.Tests.{pick, unless}
+use Rattle.rules.specs.Numbers.{berthCount, toBerth}
+use Rattle.rules.specs.Ranges.{fresh, berthAt, inOrder, SettingsRange}
+use Rattle.rules.specs.Ticks.{ticked, rxTicked, txTicked, rxCode, txCode}
+use Rattle.rules.specs.Turns.{sent as sentBerth, lengthSending}
+use Rattle.rules.specs.Stores.{Held, rightStore, areaOf, withBerth, tickedNode, servedNode, setUpNode, passedOver, reached, cameAt, handedAt}
+use Rattle.rules.specs.Answers.{Answer, refused, ready, heard, codes, sent, handed, none, shown, Side, receive, send as sendSide, Report, reported, wordReports, codesReports, reports}
+use Rattle.rules.specs.Refusals.{Call, frame, tick, send, turn, show, senderOf, refusal}
+use Rattle.rules.specs.Calls.{codesOf, afterFrame, done, reply, written, bufferOf, Outcome, refusedOutcome, outcome, setUpOutcome, answers, final, showable, shownLength, showing}
+use Rattle.rules.specs.Alone.{Part, partOf, Event, arrives, ticks, sends, turns, Says, hears, expires, accepts, hands, partAfter, says, alone, saysAll}
+use Rattle.rules.specs.declared.Settings.{Settings}
+use Rattle.rules.specs.declared.Berth.{Berth}
+use Rattle.rules.specs.declared.Node.{Node}
+use Rattle.rules.specs.declared.Codes.{Codes}
+use Rattle.rules.specs.declared.Word.{Word}
+use Rattle.rules.proofs.Cases.{Tested, holds, fails, eqb-cases, ltb-cases, eqb-is, eqb-not, is-true}
+use Rattle.rules.proofs.Areas.{area-same, area-other}
+use Rattle.rules.proofs.Ranges.{in-order-range}
+use Rattle.rules.proofs.Answered.{FrameAnswered, frame-answered, SendAnswered, send-answered, TurnAnswered, turn-answered}
+use Rattle.laws.specs.Own.{over, ownDone, own, owns, takerOf, noCodes, heardOf, ofBerth, saidReports, partShown}
+
+-- ---- one berth is written
+
+ten : (n : Node) → T (inOrder n) → length (n .berths) ≡ berthCount
+ten n t = in-order-range n t .ten
+
+pub part-path : {b b′ : Berth} {i i′ o o′ : List ℕ} → b ≡ b′ → i ≡ i′ → o ≡ o′
+    → _≡_ {A = Part} (record { berth = b; incoming = i; outgoing = o }) (record { berth = b′; incoming = i′; outgoing = o′ })
+part-path p q r = λ i. record { berth = p i; incoming = q i; outgoing = r i }
+
+module _ (k : ℕ) (n : Node) (j : ℕ) (b : Berth) where
+  berth-same : length (n .berths) ≡ berthCount → j < berthCount → j ≡ k → getD (set (n .berths) j b) k fresh ≡ b
+  berth-same l h e = rw e (getD-set-same (n .berths) k b fresh (omega arith))
+
+  berth-other : (j ≡ k → ⊥) → getD (set (n .berths) j b) k fresh ≡ berthAt n k
+  unfolding berthAt
+  berth-other ne = getD-set-other (n .berths) j k b fresh (λ e. ne (sym e))
+
+pub reached-small : (n : Node) → reached n < berthCount
+unfolding reached
+reached-small n = mod-lt (n .served + 1 + passedOver n) (lit< tt)
+
+-- ---- berth k's part after an answered call
+
+module _ (k : ℕ) where
+  part-frame : (h : Held) (id : ℕ) (d : List ℕ) → FrameAnswered h id d
+      → partOf k (done h (frame id d)) ≡ alone (h .node .settings) (partOf k h) (ownDone k h (frame id d))
+  unfolding partOf done afterFrame cameAt withBerth berthAt alone partAfter ownDone
+  part-frame h id d ok = go (eqb-cases (senderOf id) k)
+    where
+      go : Tested (eqb (senderOf id) k) (senderOf id ≡ k) (senderOf id ≡ k → ⊥)
+          → partOf k (done h (frame id d)) ≡ alone (h .node .settings) (partOf k h) (ownDone k h (frame id d))
+      go (holds t e) =
+          rw t (part-path (berth-same k (h .node) (senderOf id) (cameAt h (senderOf id) d .berth) (ten (h .node) (ok .order)) (ok .mine) e ∙ rw e)
+          (rw e (area-same (h .node .settings .area) k _ _ (h .incoming) (rw e at (ok .fits)))) refl)
+      go (fails t ne) =
+          rw t (part-path (berth-other k (h .node) (senderOf id) (cameAt h (senderOf id) d .berth) ne)
+          (area-other (h .node .settings .area) k (senderOf id) _ _ (h .incoming) (λ e. ne (sym e)) (ok .fits)) refl)
+
+  part-send : (h : Held) (j : ℕ) (m : List ℕ) → SendAnswered h j m
+      → partOf k (done h (send j m)) ≡ alone (h .node .settings) (partOf k h) (ownDone k h (send j m))
+  unfolding partOf done withBerth berthAt alone partAfter ownDone
+  part-send h j m ok = go (eqb-cases j k)
+    where
+      fits : 0 + length m ≤ h .node .settings .area
+      fits = omega (arith, ok .fits)
+
+      go : Tested (eqb j k) (j ≡ k) (j ≡ k → ⊥)
+          → partOf k (done h (send j m)) ≡ alone (h .node .settings) (partOf k h) (ownDone k h (send j m))
+      go (holds t e) =
+          rw t (part-path (berth-same k (h .node) j (sentBerth (berthAt (h .node) j) (length m)) (ten (h .node) (ok .order)) (ok .mine) e ∙ rw e)
+          refl (rw e (area-same (h .node .settings .area) k 0 m (h .outgoing) fits)))
+      go (fails t ne) =
+          rw t (part-path (berth-other k (h .node) j (sentBerth (berthAt (h .node) j) (length m)) ne)
+          refl (area-other (h .node .settings .area) k j 0 m (h .outgoing) (λ e. ne (sym e)) fits))
+
+  part-tick : (h : Held) → partOf k (done h tick) ≡ alone (h .node .settings) (partOf k h) (ownDone k h tick)
+  unfolding partOf done tickedNode berthAt alone partAfter ownDone ticked rxTicked txTicked
+  part-tick h = part-path (List·getD-map ticked (h .node .berths) k fresh) refl refl
+
+  part-turn : (h : Held) (buffer : List ℕ) → T (inOrder (h .node))
+      → partOf k (done h (turn buffer)) ≡ alone (h .node .settings) (partOf k h) (ownDone k h (turn buffer))
+  unfolding partOf done servedNode handedAt berthAt alone partAfter ownDone
+  part-turn h buffer ok = go (ltb-cases (passedOver (h .node)) berthCount) (eqb-cases (reached (h .node)) k)
+    where
+      go : Tested (ltb (passedOver (h .node)) berthCount) (passedOver (h .node) < berthCount) (berthCount ≤ passedOver (h .node))
+          → Tested (eqb (reached (h .node)) k) (reached (h .node) ≡ k) (reached (h .node) ≡ k → ⊥)
+          → partOf k (done h (turn buffer)) ≡ alone (h .node .settings) (partOf k h) (ownDone k h (turn buffer))
+      go (fails u l) t = rw u
+      go (holds u l) (holds t e) =
+          rw (u, t) (part-path (berth-same k (h .node) (reached (h .node)) (handedAt h (reached (h .node)) .berth) (ten (h .node) ok) (reached-small (h .node)) e ∙ rw e) refl refl)
+      go (holds u l) (fails t ne) =
+          rw (u, t) (part-path (berth-other k (h .node) (reached (h .node)) (handedAt h (reached (h .node)) .berth) ne) refl refl)
+
+  pub part-done : (h : Held) (c : Call) → refusal h c ≡ 0 → partOf k (done h c) ≡ alone (h .node .settings) (partOf k h) (ownDone k h c)
+  part-done h (frame id d) e = part-frame h id d (frame-answered h id d e)
+  part-done h tick e = part-tick h
+  part-done h (send j m) e = part-send h j m (send-answered h j m e)
+  part-done h (turn buffer) e = part-turn h buffer (turn-answered h buffer e .order)
+  part-done h (show j choice) e = unfold done ownDone alone in refl
+
+  pub part-step : (h : Held) (c : Call) → partOf k (outcome h c .held) ≡ alone (h .node .settings) (partOf k h) (own k h c)
+  unfolding outcome refusedOutcome own alone
+  part-step h c = go (refusal h c) refl
+    where
+      go : (n : ℕ) → refusal h c ≡ n
+          → partOf k (unless n (refusedOutcome h (bufferOf c)) (record { answer = reply h c; held = done h c; buffer = written h c }) .held)
+          ≡ alone (h .node .settings) (partOf k h) (unless n (λ m. []) (ownDone k h c))
+      go zero e = part-done h c e
+      go (suc n) e = refl
+
+  -- ---- what is said
+
+  says-tick : (h : Held) → heardOf k (reply h tick) ≡ saysAll (h .node .settings) (partOf k h) (ownDone k h tick)
+  unfolding heardOf reply saysAll ownDone says partOf berthAt codesOf rxCode txCode
+  says-tick h = ap {A = Codes} (λ p. expires (p .receive) (p .send) ∷ []) (List·getD-map codesOf (h .node .berths) k fresh)
+
+  said-to : (n : Node) → takerOf (toBerth + reached n) ≡ reached n
+  said-to n = omega arith
+
+  pub says-done : (h : Held) (c : Call) → heardOf k (reply h c) ≡ saysAll (h .node .settings) (partOf k h) (ownDone k h c)
+  unfolding heardOf reply saysAll ownDone says partOf cameAt handedAt
+  says-done h (frame id d) = go (eqb-cases (senderOf id) k)
+    where
+      go : Tested (eqb (senderOf id) k) (senderOf id ≡ k) (senderOf id ≡ k → ⊥)
+          → heardOf k (reply h (frame id d)) ≡ saysAll (h .node .settings) (partOf k h) (ownDone k h (frame id d))
+      go (holds t e) = rw (t, e)
+      go (fails t ne) = rw t
+  says-done h tick = says-tick h
+  says-done h (send j m) = go (eqb-cases j k)
+    where
+      go : Tested (eqb j k) (j ≡ k) (j ≡ k → ⊥)
+          → heardOf k (reply h (send j m)) ≡ saysAll (h .node .settings) (partOf k h) (ownDone k h (send j m))
+      go (holds t e) = rw t
+      go (fails t ne) = rw t
+  says-done h (turn buffer) = go (ltb-cases (passedOver (h .node)) berthCount) (eqb-cases (reached (h .node)) k)
+    where
+      go : Tested (ltb (passedOver (h .node)) berthCount) (passedOver (h .node) < berthCount) (berthCount ≤ passedOver (h .node))
+          → Tested (eqb (reached (h .node)) k) (reached (h .node) ≡ k) (reached (h .node) ≡ k → ⊥)
+          → heardOf k (reply h (turn buffer)) ≡ saysAll (h .node .settings) (partOf k h) (ownDone k h (turn buffer))
+      go (fails u l) t = rw u
+      go (holds u l) (holds t e) = rw (u, said-to (h .node), t, e)
+      go (holds u l) (fails t ne) = rw (u, said-to (h .node), t)
+  says-done h (show j choice) = refl
+
+  says-step : (h : Held) (c : Call) → heardOf k (outcome h c .answer) ≡ saysAll (h .node .settings) (partOf k h) (own k h c)
+  unfolding outcome refusedOutcome own saysAll heardOf
+  says-step h c = go (refusal h c)
+    where
+      go : (n : ℕ)
+          → heardOf k (unless n (refusedOutcome h (bufferOf c)) (record { answer = reply h c; held = done h c; buffer = written h c }) .answer)
+          ≡ saysAll (h .node .settings) (partOf k h) (unless n (λ m. []) (ownDone k h c))
+      go zero = says-done h c
+      go (suc n) = refl
+
+-- ---- the settings stay
+
+settings-done : (h : Held) (c : Call) → done h c .node .settings ≡ h .node .settings
+unfolding done afterFrame withBerth tickedNode servedNode
+settings-done h (frame id d) = refl
+settings-done h tick = refl
+settings-done h (send j m) = refl
+settings-done h (turn buffer) = go (ltb-cases (passedOver (h .node)) berthCount)
+  where
+    go : Tested (ltb (passedOver (h .node)) berthCount) (passedOver (h .node) < berthCount) (berthCount ≤ passedOver (h .node))
+        → done h (turn buffer) .node .settings ≡ h .node .settings
+    go (holds u l) = rw u
+    go (fails u l) = rw u
+settings-done h (show j choice) = refl
+
+pub settings-step : (h : Held) (c : Call) → outcome h c .held .node .settings ≡ h .node .settings
+unfolding outcome refusedOutcome
+settings-step h c = go (refusal h c)
+  where
+    go : (n : ℕ)
+        → unless n (refusedOutcome h (bufferOf c)) (record { answer = reply h c; held = done h c; buffer = written h c }) .held .node .settings
+        ≡ h .node .settings
+    go zero = settings-done h c
+    go (suc n) = refl
+
+-- ---- runs
+
+alone-append : (s : Settings) (p : Part) (es fs : List Event) → alone s p (es ++ fs) ≡ alone s (alone s p es) fs
+unfolding alone
+alone-append s p [] fs = refl
+alone-append s p (e ∷ es) fs = alone-append s (partAfter s p e) es fs
+
+says-append : (s : Settings) (p : Part) (es fs : List Event)
+    → saysAll s p (es ++ fs) ≡ saysAll s p es ++ saysAll s (alone s p es) fs
+unfolding alone saysAll
+says-append s p [] fs = refl
+says-append s p (e ∷ es) fs = ap (λ (r : List Says). says s p e ∷ r) (says-append s (partAfter s p e) es fs)
+
+-- EACH BERTH'S STATE AND AREAS. After any run of the five calls, from any start, berth k's state and its two areas are those that
+-- the rules give for that berth alone: its own frames and sends, all ticks, and the turns it received; refused calls left out.
+pub berth-alone : (k : ℕ) (h : Held) (cs : List Call)
+    → partOf k (final h cs) ≡ alone (h .node .settings) (partOf k h) (owns k h cs)
+unfolding final owns alone
+berth-alone k h [] = refl
+berth-alone k h (c ∷ cs) =
+    berth-alone k (outcome h c .held) cs
+    ∙ ap₂ (λ (s : Settings) (p : Part). alone s p (owns k (outcome h c .held) cs)) (settings-step h c) (part-step k h c)
+    ∙ sym (alone-append (h .node .settings) (partOf k h) (own k h c) (owns k (outcome h c .held) cs))
+
+-- EACH BERTH'S WORDS, CODES AND FRAMES. What the answers of any run say of berth k is what its own events say on that berth alone.
+pub berth-says : (k : ℕ) (h : Held) (cs : List Call)
+    → over (heardOf k) (answers h cs) ≡ saysAll (h .node .settings) (partOf k h) (owns k h cs)
+unfolding answers over owns saysAll
+berth-says k h [] = refl
+berth-says k h (c ∷ cs) =
+    ap₂ (λ (q r : List Says). q ++ r) (says-step k h c) (berth-says k (outcome h c .held) cs)
+    ∙ ap₂ (λ (s : Settings) (p : Part). saysAll (h .node .settings) (partOf k h) (own k h c) ++ saysAll s p (owns k (outcome h c .held) cs)) (settings-step h c) (part-step k h c)
+    ∙ sym (says-append (h .node .settings) (partOf k h) (own k h c) (owns k (outcome h c .held) cs))

@@ -1,0 +1,3 @@
+-- What the laws cite beside the rules.
+pub mod Own
+pub mod Rounds

@@ -1,0 +1,76 @@
+-- Demand 3: which events of the node's run are berth k's own, and what the answers say of that berth.
+use Prim.Native.Nat.{ℕ, _-_}
+use mathlib.Core.Bool.{Bool, true, false, _&&_}
+use mathlib.Core.List.{List, [], _∷_, _++_}
+use lib.ListN.{length, getD, take}
+use lib.Dec.{ltb, eqb}
+use Rattle.rules.specs.Tests.{pick, unless}
+use Rattle.rules.specs.Numbers.{berthCount, toBerth}
+use Rattle.rules.specs.Turns.{lengthSending}
+use Rattle.rules.specs.Stores.{Held, passedOver, reached}
+use Rattle.rules.specs.Answers.{Answer, refused, ready, heard, codes, sent, handed, none, shown, Side, receive, send as sendSide, Report, reported, wordReports, reports}
+use Rattle.rules.specs.Refusals.{Call, frame, tick, send, turn, show, senderOf, refusal}
+use Rattle.rules.specs.Calls.{Outcome, outcome}
+use Rattle.rules.specs.Alone.{Part, Event, arrives, ticks, sends, turns, Says, hears, expires, accepts, hands}
+use Rattle.rules.specs.declared.Codes.{Codes}
+
+-- one list for each element, all in one
+unfoldable pub over : {X Y : Type 0} → (X → List Y) → List X → List Y
+over f [] = []
+over f (x ∷ xs) = f x ++ over f xs
+
+-- ---- berth k's own events: its frames and sends, all ticks, and the turns it received
+
+unfoldable pub ownDone : ℕ → Held → Call → List Event
+ownDone k h (frame id d) = pick (eqb (senderOf id) k) (arrives d ∷ []) []
+ownDone k h tick = ticks ∷ []
+ownDone k h (send j m) = pick (eqb j k) (sends m ∷ []) []
+ownDone k h (turn buffer) = pick (ltb (passedOver (h .node)) berthCount && eqb (reached (h .node)) k) (turns ∷ []) []
+ownDone k h (show j choice) = []
+
+-- calls that the paper refuses are left out
+unfoldable pub own : ℕ → Held → Call → List Event
+own k h c = unless (refusal h c) (λ n. []) (ownDone k h c)
+
+unfoldable pub owns : ℕ → Held → List Call → List Event
+owns k h [] = []
+owns k h (c ∷ cs) = own k h c ++ owns k (outcome h c .held) cs
+
+-- ---- what an answer says of berth k
+
+-- the berth that the node sends to on an identifier
+abbrev pub takerOf : ℕ → ℕ
+takerOf id = id - toBerth
+
+abbrev pub noCodes : Codes
+noCodes = record { receive = 0; send = 0 }
+
+unfoldable pub heardOf : ℕ → Answer → List Says
+heardOf k (refused n) = []
+heardOf k ready = []
+heardOf k (heard j old w) = pick (eqb j k) (hears old w ∷ []) []
+heardOf k (codes cs) = expires (getD cs k noCodes .receive) (getD cs k noCodes .send) ∷ []
+heardOf k (sent j) = pick (eqb j k) (accepts ∷ []) []
+heardOf k (handed id f c passed) = pick (eqb (takerOf id) k) (hands f c ∷ []) []
+heardOf k (none passed) = []
+heardOf k (shown part) = []
+
+-- ---- reports
+
+-- those of berth k
+unfoldable pub ofBerth : ℕ → List Report → List Report
+ofBerth k [] = []
+ofBerth k (r ∷ rs) = pick (eqb (r .berth) k) (r ∷ ofBerth k rs) (ofBerth k rs)
+
+-- those in what berth k says
+unfoldable pub saidReports : ℕ → Says → List Report
+saidReports k (hears old w) = reported k receive old ++ wordReports k w
+saidReports k (expires r s) = reported k receive r ++ reported k sendSide s
+saidReports k accepts = []
+saidReports k (hands f c) = reported k sendSide c
+
+-- ---- show, from a berth's own part: the last message arrived, or, if the choice is true, the message now being sent
+
+unfoldable pub partShown : Part → Bool → List ℕ
+partShown p choice =
+    pick choice (take (lengthSending (p .berth .tx)) (p .outgoing)) (take (p .berth .last) (p .incoming))
