@@ -28,6 +28,7 @@ use Rattle.rules.specs.declared.Word.{Word}
 use Rattle.rules.proofs.Cases.{Tested, holds, fails, eqb-cases, ltb-cases, eqb-is, eqb-not, is-true}
 use Rattle.rules.proofs.Areas.{area-same, area-other}
 use Rattle.rules.proofs.Ranges.{in-order-range}
+use Rattle.rules.proofs.Order.{reached-small}
 use Rattle.rules.proofs.Answered.{FrameAnswered, frame-answered, SendAnswered, send-answered, TurnAnswered, turn-answered}
 use Rattle.laws.specs.Own.{over, ownDone, own, owns, takerOf, noCodes, heardOf, ofBerth, saidReports, partShown}
 
@@ -47,10 +48,6 @@ module _ (k : ℕ) (n : Node) (j : ℕ) (b : Berth) where
   berth-other : (j ≡ k → ⊥) → getD (set (n .berths) j b) k fresh ≡ berthAt n k
   unfolding berthAt
   berth-other ne = getD-set-other (n .berths) j k b fresh (λ e. ne (sym e))
-
-pub reached-small : (n : Node) → reached n < berthCount
-unfolding reached
-reached-small n = mod-lt (n .served + 1 + passedOver n) (lit< tt)
 
 -- ---- berth k's part after an answered call
 

@@ -1,2 +1,6 @@
 -- The laws.
 pub mod Isolation
+pub mod Reports
+pub mod SetUp
+pub mod Round
+pub mod Fairness

@@ -1,5 +1,6 @@
 -- Demand 3: which events of the node's run are berth k's own, and what the answers say of that berth.
-use Prim.Native.Nat.{ℕ, _-_}
+use Prim.Native.Nat.{ℕ, _-_, _*_}
+use mathlib.Core.Path.{_≡_}
 use mathlib.Core.Bool.{Bool, true, false, _&&_}
 use mathlib.Core.List.{List, [], _∷_, _++_}
 use lib.ListN.{length, getD, take}
@@ -7,11 +8,13 @@ use lib.Dec.{ltb, eqb}
 use Rattle.rules.specs.Tests.{pick, unless}
 use Rattle.rules.specs.Numbers.{berthCount, toBerth}
 use Rattle.rules.specs.Turns.{lengthSending}
-use Rattle.rules.specs.Stores.{Held, passedOver, reached}
+use Rattle.rules.specs.Ranges.{fresh, InOrder}
+use Rattle.rules.specs.Stores.{Held, areaOf, passedOver, reached}
 use Rattle.rules.specs.Answers.{Answer, refused, ready, heard, codes, sent, handed, none, shown, Side, receive, send as sendSide, Report, reported, wordReports, reports}
 use Rattle.rules.specs.Refusals.{Call, frame, tick, send, turn, show, senderOf, refusal}
-use Rattle.rules.specs.Calls.{Outcome, outcome}
-use Rattle.rules.specs.Alone.{Part, Event, arrives, ticks, sends, turns, Says, hears, expires, accepts, hands}
+use Rattle.rules.specs.Calls.{Outcome, outcome, setUpOutcome, answers, final, showing}
+use Rattle.rules.specs.Alone.{partOf, alone, saysAll, Part, Event, arrives, ticks, sends, turns, Says, hears, expires, accepts, hands}
+use Rattle.rules.specs.declared.Settings.{Settings}
 use Rattle.rules.specs.declared.Codes.{Codes}
 
 -- one list for each element, all in one
@@ -74,3 +77,30 @@ saidReports k (hands f c) = reported k sendSide c
 unfoldable pub partShown : Part → Bool → List ℕ
 partShown p choice =
     pick choice (take (lengthSending (p .berth .tx)) (p .outgoing)) (take (p .berth .last) (p .incoming))
+
+-- ---- what is lent is sound: the node in order, both stores of the right length
+
+pub record Sound (h : Held) : Type 0 where
+  pub order : InOrder (h .node)
+  pub incoming : length (h .incoming) ≡ berthCount * h .node .settings .area
+  pub outgoing : length (h .outgoing) ≡ berthCount * h .node .settings .area
+
+-- ---- after a set-up
+
+-- what a set-up leaves
+abbrev pub setUp : Held → Settings → Held
+setUp h s = setUpOutcome h (s .area) (s .block) (s .stmin) .held
+
+-- berth k fresh, and its areas as the stores have them
+abbrev pub freshPart : Held → Settings → ℕ → Part
+freshPart h s k = record { berth = fresh; incoming = areaOf (s .area) k (h .incoming); outgoing = areaOf (s .area) k (h .outgoing) }
+
+-- ---- demand 3, first half
+
+-- what demand 3 says of berth k in a run: its state and areas; its words, codes and frames; its reports; and, at any time after it,
+-- what a show of it returns, are those of its own events on that berth alone
+pub record Alone (s : Settings) (start : Part) (k : ℕ) (h : Held) (cs : List Call) : Type 0 where
+  pub part : partOf k (final h cs) ≡ alone s start (owns k h cs)
+  pub says : over (heardOf k) (answers h cs) ≡ saysAll s start (owns k h cs)
+  pub reported : ofBerth k (over reports (answers h cs)) ≡ over (saidReports k) (saysAll s start (owns k h cs))
+  pub shown : (choice : Bool) → showing (final h cs) k choice ≡ partShown (alone s start (owns k h cs)) choice

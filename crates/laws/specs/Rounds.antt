@@ -1,8 +1,9 @@
 -- Demand 3, second half: which berths had turns in a run, and what it is that a berth stays due.
-use Prim.Native.Nat.{ℕ}
+use Prim.Native.Nat.{ℕ, _≤_}
 use mathlib.Core.Path.{_≡_}
 use mathlib.Core.Bool.{Bool, true, false}
 use mathlib.Core.List.{List, [], _∷_, List·Memᴰ}
+use lib.ListN.{length, getD}
 use lib.Dec.{T, eqb}
 use Rattle.rules.specs.Tests.{pick}
 use Rattle.rules.specs.Ranges.{berthAt}
@@ -54,3 +55,11 @@ before k (t ∷ ts) = pick (isOf k t) [] (t ∷ before k ts)
 unfoldable pub NoTwice : List Turn → Type 0
 NoTwice [] = Unit {0}
 NoTwice (t ∷ ts) = (List·Memᴰ t ts → ⊥) × NoTwice ts
+
+-- what demand 3 says of the answered calls for a frame while berth k has a frame due at each: none answers None, no berth has two
+-- turns before k's first, these are at most nine, and k's own comes by the tenth
+pub record Fair (k : ℕ) (ts : List Turn) : Type 0 where
+  pub some : List·Memᴰ nobody ts → ⊥
+  pub once : NoTwice (before k ts)
+  pub short : length (before k ts) ≤ 9
+  pub tenth : 10 ≤ length ts → (i : ℕ) × (i ≤ 9) × (getD ts i nobody ≡ served k)

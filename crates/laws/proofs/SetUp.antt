@@ -1,0 +1,113 @@
+-- Demand 3, first half, in its own words: a run after a set-up. The set-up leaves every berth fresh, and order and the stores'
+-- lengths are kept by every call.
+use mathlib.Core.Path.{_≡_, refl, sym, ap, ap₂, _∙_}
+use Prim.Native.Nat.{ℕ, zero, suc, _+_, _*_, _<_}
+use native.Mathlib.Omega.{arith}
+use mathlib.Core.Bool.{Bool, true, false}
+use mathlib.Core.List.{List, [], _∷_}
+use lib.ListN.{length, getD, getD-replicate}
+use lib.Seq.{sets, length-sets}
+use lib.Dec.{T, ltb}
+use Rattle.rules.specs.Tests.{pick, unless}
+use Rattle.rules.specs.Numbers.{berthCount}
+use Rattle.rules.specs.Ranges.{fresh, berthAt, inOrder, InOrder}
+use Rattle.rules.specs.Stores.{Held, areaOf, stored, setUpNode, passedOver}
+use Rattle.rules.specs.Answers.{Answer, Report, reports}
+use Rattle.rules.specs.Refusals.{Call, frame, tick, send, turn, show, refusal, setUpRefusal}
+use Rattle.rules.specs.Calls.{afterFrame, done, reply, written, bufferOf, Outcome, refusedOutcome, outcome, setUpOutcome, answers, final, showing}
+use Rattle.rules.specs.Alone.{Part, partOf, Event, Says, alone, saysAll}
+use Rattle.rules.specs.declared.Settings.{Settings}
+use Rattle.rules.proofs.Cases.{pick-either}
+use Rattle.rules.proofs.Ranges.{range-in-order}
+use Rattle.rules.proofs.Order.{order-kept, run-in-order, set-up-in-order}
+use Rattle.laws.specs.Own.{over, owns, heardOf, ofBerth, saidReports, partShown, Sound, setUp, freshPart, Alone}
+use Rattle.laws.proofs.Isolation.{settings-step, berth-alone, berth-says}
+use Rattle.laws.proofs.Reports.{berth-reports, berth-shown}
+
+-- ---- every call keeps what is lent sound
+
+abbrev SameLengths : Held → Held → Type 0
+SameLengths h g = (length (g .incoming) ≡ length (h .incoming)) × (length (g .outgoing) ≡ length (h .outgoing))
+
+lengths-done : (h : Held) (c : Call) → SameLengths h (done h c)
+unfolding done afterFrame stored
+lengths-done h (frame id d) = (simp length-sets, refl)
+lengths-done h tick = (refl, refl)
+lengths-done h (send k m) = (refl, simp length-sets)
+lengths-done h (turn buffer) = pick-either (SameLengths h) (ltb (passedOver (h .node)) berthCount) _ _ (λ t. (refl, refl)) (λ t. (refl, refl))
+lengths-done h (show k choice) = (refl, refl)
+
+lengths-step : (h : Held) (c : Call) → SameLengths h (outcome h c .held)
+unfolding outcome refusedOutcome
+lengths-step h c = go (refusal h c)
+  where
+    go : (n : ℕ)
+        → SameLengths h (unless n (refusedOutcome h (bufferOf c)) (record { answer = reply h c; held = done h c; buffer = written h c }) .held)
+    go zero = lengths-done h c
+    go (suc n) = (refl, refl)
+
+pub sound-step : (h : Held) (c : Call) → Sound h → Sound (outcome h c .held)
+sound-step h c s =
+    let a : outcome h c .held .node .settings .area ≡ h .node .settings .area = ap (λ (t : Settings). t .area) (settings-step h c) in
+    record {
+      order = order-kept h c (s .order);
+      incoming = omega (arith, lengths-step h c .0, s .incoming, a);
+      outgoing = omega (arith, lengths-step h c .1, s .outgoing, a);
+    }
+
+pub sound-run : (h : Held) (cs : List Call) → Sound h → Sound (final h cs)
+unfolding final
+sound-run h [] s = s
+sound-run h (c ∷ cs) s = sound-run (outcome h c .held) cs (sound-step h c s)
+
+-- ---- after a set-up
+
+set-up-held : (h : Held) (s : Settings) → setUpRefusal (s .area) (s .block) (s .stmin) ≡ 0
+    → setUp h s ≡ record { node = setUpNode s; incoming = h .incoming; outgoing = h .outgoing }
+unfolding setUpOutcome
+set-up-held h s e =
+    ap (λ (n : ℕ).
+    unless n (refusedOutcome h [])
+    (record { answer = Answer.ready; held = record { node = setUpNode s; incoming = h .incoming; outgoing = h .outgoing }; buffer = [] }) .held)
+    e
+
+set-up-part : (h : Held) (s : Settings) (k : ℕ) → k < berthCount → setUpRefusal (s .area) (s .block) (s .stmin) ≡ 0
+    → partOf k (setUp h s) ≡ freshPart h s k
+unfolding partOf berthAt setUpNode
+set-up-part h s k l e =
+    ap (partOf k) (set-up-held h s e)
+    ∙ (λ i. record { berth = getD-replicate berthCount k fresh fresh l i; incoming = areaOf (s .area) k (h .incoming); outgoing = areaOf (s .area) k (h .outgoing) })
+
+set-up-settings : (h : Held) (s : Settings) → setUpRefusal (s .area) (s .block) (s .stmin) ≡ 0 → setUp h s .node .settings ≡ s
+unfolding setUpNode
+set-up-settings h s e = ap (λ (g : Held). g .node .settings) (set-up-held h s e)
+
+-- EACH BERTH ALONE, from any start in which the node is in order and the stores have their lengths.
+pub each-alone : (h : Held) (cs : List Call) (k : ℕ) → k < berthCount → Sound h → Alone (h .node .settings) (partOf k h) k h cs
+each-alone h cs k l s =
+    let g = sound-run h cs s in
+    record {
+      part = berth-alone k h cs;
+      says = berth-says k h cs;
+      reported = berth-reports k h cs;
+      shown = λ choice. berth-shown k (final h cs) choice l (range-in-order (final h cs .node) (g .order)) (g .incoming) (g .outgoing) ∙ ap (λ (p : Part). partShown p choice) (berth-alone k h cs);
+    }
+
+-- DEMAND 3, FIRST HALF. Take any run of the five calls after a set-up that was answered, the same node and the same two stores
+-- throughout. Each berth's state, areas, words, codes, frames, reports and what is shown of it are those that the rules give
+-- for that berth alone, fresh at the start: its own frames and sends, all ticks, and the turns it received, refused calls left out.
+pub each-alone-after-set-up : (h : Held) (s : Settings) (cs : List Call) (k : ℕ) → k < berthCount
+    → setUpRefusal (s .area) (s .block) (s .stmin) ≡ 0
+    → length (h .incoming) ≡ berthCount * s .area → length (h .outgoing) ≡ berthCount * s .area
+    → Alone s (freshPart h s k) k (setUp h s) cs
+each-alone-after-set-up h s cs k l e i o =
+    let t : setUp h s .node .settings ≡ s = set-up-settings h s e in
+    let a : setUp h s .node .settings .area ≡ s .area = ap (λ (x : Settings). x .area) t in
+    let q = set-up-held h s e in
+    let sound : Sound (setUp h s) =
+    record {
+      order = set-up-in-order h (s .area) (s .block) (s .stmin) e;
+      incoming = ap (λ (g : Held). length (g .incoming)) q ∙ i ∙ ap (λ (x : ℕ). berthCount * x) (sym a);
+      outgoing = ap (λ (g : Held). length (g .outgoing)) q ∙ o ∙ ap (λ (x : ℕ). berthCount * x) (sym a);
+    } in
+    rw (t, set-up-part h s k l e) at (each-alone (setUp h s) cs k l sound)
