@@ -189,12 +189,12 @@ settings-step h c = go (refusal h c)
 
 -- ---- runs
 
-alone-append : (s : Settings) (p : Part) (es fs : List Event) → alone s p (es ++ fs) ≡ alone s (alone s p es) fs
+pub alone-append : (s : Settings) (p : Part) (es fs : List Event) → alone s p (es ++ fs) ≡ alone s (alone s p es) fs
 unfolding alone
 alone-append s p [] fs = refl
 alone-append s p (e ∷ es) fs = alone-append s (partAfter s p e) es fs
 
-says-append : (s : Settings) (p : Part) (es fs : List Event)
+pub says-append : (s : Settings) (p : Part) (es fs : List Event)
     → saysAll s p (es ++ fs) ≡ saysAll s p es ++ saysAll s (alone s p es) fs
 unfolding alone saysAll
 says-append s p [] fs = refl

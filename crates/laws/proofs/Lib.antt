@@ -4,3 +4,4 @@ pub mod Reports
 pub mod SetUp
 pub mod Round
 pub mod Fairness
+pub mod Sides

@@ -1,3 +1,4 @@
 -- What the laws cite beside the rules.
 pub mod Own
 pub mod Rounds
+pub mod Sides

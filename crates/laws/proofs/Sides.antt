@@ -1,0 +1,342 @@
+-- Receiving and sending are independent. A frame of one kind reads and writes one side; a tick and a send work on each side by itself;
+-- a turn is the receive side's where flow control is owed and else the send side's.
+use mathlib.Core.Path.{_≡_, refl, sym, ap, ap₂, _∙_}
+use Prim.Native.Nat.{ℕ, zero, suc}
+use native.Mathlib.Omega.{arith}
+use mathlib.Core.Bool.{Bool, true, false, not, _||_}
+use mathlib.Core.List.{List, [], _∷_, _++_, map, append-assoc, append-nil}
+use lib.ListN.{length, getD}
+use lib.Seq.{sets}
+use lib.Dec.{T, eqb, ltb, leb}
+use Rattle.rules.specs.Tests.{pick}
+use Rattle.rules.specs.Numbers.{singleKind, firstKind, consecutiveKind, flowKind, goStatus, waitStatus, overflowStatus, consecutiveMost, noData, otherKind}
+use Rattle.rules.specs.Ranges.{fresh}
+use Rattle.rules.specs.Frames.{byteAt, kind, low, singleFits, announced, firstFits, consecutiveFits, flowFits}
+use Rattle.rules.specs.Arrivals.{Heard, Told, Came, ignored, singleCame, firstCame, turnedAway, begun, missing, completed, took, wrongSn, awaitedCame, consecutiveCame, byStatus, flowIgnored, flowCame, heardBy, toldBy, byKind, frameCame}
+use Rattle.rules.specs.Ticks.{ticked, rxTicked, txTicked, rxCode, txCode}
+use Rattle.rules.specs.Turns.{flowDue, messageDue, due, HandedOver, handOver, sent}
+use Rattle.rules.specs.Answers.{Side, receive, send, Report, reported, failedSide, wordReports, reports}
+use Rattle.rules.specs.Stores.{Held}
+use Rattle.rules.specs.Refusals.{Call}
+use Rattle.rules.specs.Calls.{final, answers}
+use Rattle.rules.specs.Alone.{Part, partOf, Event, arrives, ticks, sends, turns, Says, hears, expires, accepts, hands, partAfter, says, alone, saysAll}
+use Rattle.rules.specs.declared.Settings.{Settings}
+use Rattle.rules.specs.declared.Rx.{Rx}
+use Rattle.rules.specs.declared.Tx.{Tx}
+use Rattle.rules.specs.declared.Berth.{Berth}
+use Rattle.rules.specs.declared.Word.{Word}
+use Rattle.rules.specs.declared.Word.the-variants.{Delivered, Begun, Failed, Ignored, TooLong, Took, Going, Waiting}
+use Rattle.rules.proofs.Cases.{Tested, holds, fails, eqb-cases, eqb-is, eqb-not, pick-either}
+use Rattle.laws.specs.Own.{over, owns, ofBerth, saidReports}
+use Rattle.laws.specs.Sides.{sameSide, sideOf, frameSide, turnSide, forSide, sideEvents, onlySide, sideSays, ofSide}
+use Rattle.laws.proofs.Isolation.{berth-alone, alone-append, says-append}
+use Rattle.laws.proofs.Reports.{over-append, berth-reports}
+
+-- ---- a frame that is no flow control: the send side stays, and nothing depends on it
+
+-- the same with another send side
+unfoldable pub withTx : Tx → Came → Came
+withTx tx c =
+    record { berth = record { rx = c .berth .rx; last = c .berth .last; tx = tx }; old = c .old; word = c .word; place = c .place; bytes = c .bytes }
+
+pub came-receive : (set : Settings) (b : Berth) (d : List ℕ) → (kind d ≡ flowKind → ⊥)
+    → frameCame set b d ≡ withTx (b .tx) (frameCame set (record { rx = b .rx; last = b .last; tx = fresh .tx }) d)
+unfolding frameCame byKind heardBy withTx
+came-receive set b d ne =
+    rw (eqb-not (kind d) flowKind ne) (go (eqb (length d) 0) (eqb (kind d) singleKind) (eqb (kind d) firstKind) (eqb (kind d) consecutiveKind))
+  where
+    by : Berth → Bool → Bool → Bool → Bool → Came
+    by c t u v w =
+        pick t (heardBy c (ignored noData (c .rx) (c .last)))
+        (pick u (heardBy c (singleCame (c .rx) (c .last) d))
+        (pick v (heardBy c (firstCame set (c .rx) (c .last) d))
+        (pick w (heardBy c (consecutiveCame set (c .rx) (c .last) d))
+        (heardBy c (ignored otherKind (c .rx) (c .last))))))
+
+    go : (t u v w : Bool) → by b t u v w ≡ withTx (b .tx) (by (record { rx = b .rx; last = b .last; tx = fresh .tx }) t u v w)
+    go true u v w = refl
+    go false true v w = refl
+    go false false true w = refl
+    go false false false true = refl
+    go false false false false = refl
+
+-- ---- flow control: the receive side stays
+
+pub came-send : (set : Settings) (b : Berth) (d : List ℕ) → kind d ≡ flowKind → frameCame set b d ≡ toldBy b (flowCame (b .tx) d)
+unfolding frameCame byKind
+came-send set b [] e = let z : _≡_ {A = ℕ} 0 3 = unfold kind in e in absurd (omega arith)
+came-send set b (x ∷ d) e = rw (eqb-not (length (x ∷ d)) 0 (λ z. omega arith), e)
+
+-- ---- the reports of a frame are those of the side it is for
+
+of-side-append : (s : Side) (rs qs : List Report) → ofSide s (rs ++ qs) ≡ ofSide s rs ++ ofSide s qs
+unfolding ofSide
+of-side-append s [] qs = refl
+of-side-append s (r ∷ rs) qs = go (sameSide s (r .side)) (of-side-append s rs qs)
+  where
+    go : (b : Bool) → ofSide s (rs ++ qs) ≡ ofSide s rs ++ ofSide s qs
+        → pick b (r ∷ ofSide s (rs ++ qs)) (ofSide s (rs ++ qs)) ≡ pick b (r ∷ ofSide s rs) (ofSide s rs) ++ ofSide s qs
+    go true e = ap (λ q. r ∷ q) e
+    go false e = e
+
+module _ (k : ℕ) where
+  -- of these reports side s has all, if they are its own, or none
+  abbrev AllOf : Side → List Report → Type 0
+  AllOf side rs = (s : Side) → ofSide s rs ≡ pick (sameSide s side) rs []
+
+  no-reports : (side : Side) → AllOf side []
+  unfolding ofSide
+  no-reports receive receive = refl
+  no-reports receive send = refl
+  no-reports send receive = refl
+  no-reports send send = refl
+
+  reported-all : (side : Side) (c : ℕ) → AllOf side (reported k side c)
+  unfolding reported ofSide
+  reported-all receive zero receive = refl
+  reported-all receive zero send = refl
+  reported-all receive (suc c) receive = refl
+  reported-all receive (suc c) send = refl
+  reported-all send zero receive = refl
+  reported-all send zero send = refl
+  reported-all send (suc c) receive = refl
+  reported-all send (suc c) send = refl
+
+  both-all : (side : Side) (rs qs : List Report) → AllOf side rs → AllOf side qs → AllOf side (rs ++ qs)
+  both-all side rs qs a b s = of-side-append s rs qs ∙ ap₂ (λ (x y : List Report). x ++ y) (a s) (b s) ∙ go (sameSide s side)
+    where
+      go : (t : Bool) → pick t rs [] ++ pick t qs [] ≡ pick t (rs ++ qs) []
+      go true = refl
+      go false = refl
+
+  abbrev HeardAll : Heard → Type 0
+  HeardAll h = AllOf receive (wordReports k (h .word))
+
+  ignored-all : (why : ℕ) (rx : Rx) (last : ℕ) → HeardAll (ignored why rx last)
+  unfolding ignored wordReports
+  ignored-all why rx last = no-reports receive
+
+  single-all : (rx : Rx) (last : ℕ) (d : List ℕ) → HeardAll (singleCame rx last d)
+  unfolding singleCame wordReports
+  single-all rx last d = pick-either HeardAll (singleFits d) _ _ (λ t. reported-all receive 1) (λ t. ignored-all 3 rx last)
+
+  first-all : (set : Settings) (rx : Rx) (last : ℕ) (d : List ℕ) → HeardAll (firstCame set rx last d)
+  unfolding firstCame turnedAway begun wordReports
+  first-all set rx last d =
+      pick-either HeardAll (firstFits d) _ _
+      (λ t. pick-either HeardAll (ltb (set .area) (announced d)) _ _ (λ u. no-reports receive) (λ u. no-reports receive))
+      (λ t. ignored-all 3 rx last)
+
+  consecutive-all : (set : Settings) (rx : Rx) (last : ℕ) (d : List ℕ) → HeardAll (consecutiveCame set rx last d)
+  unfolding consecutiveCame awaitedCame completed took wrongSn wordReports failedSide
+  consecutive-all set Rx.Idle last d = ignored-all 4 Rx.Idle last
+  consecutive-all set (Rx.OwesOverflow t) last d = ignored-all 4 (Rx.OwesOverflow t) last
+  consecutive-all set (Rx.OwesGo p t) last d = ignored-all 4 (Rx.OwesGo p t) last
+  consecutive-all set (Rx.Awaits p t) last d =
+      pick-either HeardAll (consecutiveFits (missing p) d) _ _
+      (λ u. pick-either HeardAll (eqb (low d) (p .sn .0)) _ _
+      (λ v. pick-either HeardAll (leb (missing p) consecutiveMost) _ _ (λ w. reported-all receive 1) (λ w. no-reports receive))
+      (λ v. reported-all receive 5))
+      (λ u. ignored-all 3 (Rx.Awaits p t) last)
+
+  abbrev ToldAll : Told → Type 0
+  ToldAll t = AllOf send (wordReports k (t .word))
+
+  flow-all : (tx : Tx) (d : List ℕ) → ToldAll (flowCame tx d)
+  unfolding flowCame byStatus flowIgnored wordReports failedSide
+  flow-all Tx.Idle d = no-reports send
+  flow-all (Tx.SingleDue n t) d = no-reports send
+  flow-all (Tx.FirstDue n t) d = no-reports send
+  flow-all (Tx.AwaitsFlow o t) d =
+      pick-either ToldAll (flowFits d) _ _
+      (λ u. pick-either ToldAll (eqb (low d) goStatus) _ _ (λ v. no-reports send)
+      (λ v. pick-either ToldAll (eqb (low d) waitStatus) _ _ (λ w. no-reports send)
+      (λ w. pick-either ToldAll (eqb (low d) overflowStatus) _ _ (λ x. reported-all send 9) (λ x. reported-all send 6))))
+      (λ u. no-reports send)
+  flow-all (Tx.Consecutive o t) d = no-reports send
+
+  abbrev CameAll : Side → Came → Type 0
+  CameAll side c = AllOf side (reported k receive (c .old) ++ wordReports k (c .word))
+
+  heard-all : (b : Berth) (h : Heard) → HeardAll h → CameAll receive (heardBy b h)
+  unfolding heardBy
+  heard-all b h a = both-all receive (reported k receive (h .old)) (wordReports k (h .word)) (reported-all receive (h .old)) a
+
+  received-all : (set : Settings) (b : Berth) (d : List ℕ) → (kind d ≡ flowKind → ⊥) → CameAll receive (frameCame set b d)
+  unfolding frameCame byKind
+  received-all set b d ne =
+      rw (eqb-not (kind d) flowKind ne)
+      (pick-either (CameAll receive) (eqb (length d) 0) _ _ (λ u. heard-all b _ (ignored-all 1 (b .rx) (b .last)))
+      (λ u. pick-either (CameAll receive) (eqb (kind d) singleKind) _ _ (λ v. heard-all b _ (single-all (b .rx) (b .last) d))
+      (λ v. pick-either (CameAll receive) (eqb (kind d) firstKind) _ _ (λ w. heard-all b _ (first-all set (b .rx) (b .last) d))
+      (λ w. pick-either (CameAll receive) (eqb (kind d) consecutiveKind) _ _ (λ x. heard-all b _ (consecutive-all set (b .rx) (b .last) d))
+      (λ x. heard-all b _ (ignored-all 2 (b .rx) (b .last)))))))
+
+  frame-all : (set : Settings) (b : Berth) (d : List ℕ) → CameAll (frameSide d) (frameCame set b d)
+  unfolding frameSide
+  frame-all set b d = go (eqb-cases (kind d) flowKind)
+    where
+      go : Tested (eqb (kind d) flowKind) (kind d ≡ flowKind) (kind d ≡ flowKind → ⊥)
+          → CameAll (pick (eqb (kind d) flowKind) send receive) (frameCame set b d)
+      go (holds t e) = rw (t, came-send set b d e) (unfold toldBy reported in (flow-all (b .tx) d))
+      go (fails t ne) = rw t (received-all set b d ne)
+
+module _ (set : Settings) where
+  -- ---- one event
+
+  pub side-after : (s : Side) (p : Part) (e : Event) → sideOf s (partAfter set p e) ≡ alone set (sideOf s p) (forSide s p e)
+  unfolding sideOf partAfter alone forSide frameSide turnSide
+  side-after s p (arrives d) = go s (eqb-cases (kind d) flowKind)
+    where
+      go : (s : Side) → Tested (eqb (kind d) flowKind) (kind d ≡ flowKind) (kind d ≡ flowKind → ⊥)
+          → sideOf s (partAfter set p (arrives d)) ≡ alone set (sideOf s p) (forSide s p (arrives d))
+      go receive (holds t e) = rw (t, came-send set (p .berth) d e) (unfold toldBy in refl)
+      go send (holds t e) =
+          rw (t, came-send set (p .berth) d e, came-send set (sideOf send p .berth) d e) (unfold toldBy in refl)
+      go receive (fails t ne) =
+          rw (t, came-receive set (p .berth) d ne)
+          (unfold withTx in (sym (ap (λ (c : Came). record { berth = c .berth; incoming = sets (p .incoming) (c .place) (c .bytes); outgoing = [] })
+          (came-receive set (sideOf receive p .berth) d ne))))
+      go send (fails t ne) = rw (t, came-receive set (p .berth) d ne) (unfold withTx in refl)
+  side-after receive p ticks = unfold ticked txTicked in refl
+  side-after send p ticks = unfold ticked rxTicked in refl
+  side-after receive p (sends m) = unfold sent in refl
+  side-after send p (sends m) = unfold sent in refl
+  side-after s p turns = go s (flowDue (p .berth .rx)) refl
+    where
+      go : (s : Side) (b : Bool) → flowDue (p .berth .rx) ≡ b
+          → sideOf s (partAfter set p turns) ≡ alone set (sideOf s p) (forSide s p turns)
+      go receive true e = unfold handOver in (rw (e, e))
+      go send true e = unfold handOver in (rw e)
+      go receive false e = unfold handOver in (rw e)
+      go send false e = unfold handOver flowDue in (rw e)
+
+  -- what the berth says of it, for that side
+  side-said : (s : Side) (p : Part) (e : Event)
+      → map (λ x. onlySide s (says set p e)) (forSide s p e) ≡ saysAll set (sideOf s p) (forSide s p e)
+  unfolding sideOf saysAll says forSide frameSide turnSide onlySide
+  side-said s p (arrives d) = go s (eqb-cases (kind d) flowKind)
+    where
+      go : (s : Side) → Tested (eqb (kind d) flowKind) (kind d ≡ flowKind) (kind d ≡ flowKind → ⊥)
+          → map (λ x. onlySide s (says set p (arrives d))) (forSide s p (arrives d)) ≡ saysAll set (sideOf s p) (forSide s p (arrives d))
+      go receive (holds t e) = rw t
+      go send (holds t e) =
+          rw (t, came-send set (p .berth) d e, came-send set (sideOf send p .berth) d e) (unfold toldBy in refl)
+      go receive (fails t ne) = rw (t, came-receive set (p .berth) d ne) (unfold withTx in refl)
+      go send (fails t ne) = rw t
+  side-said receive p ticks = unfold txCode in refl
+  side-said send p ticks = unfold rxCode in refl
+  side-said receive p (sends m) = refl
+  side-said send p (sends m) = refl
+  side-said s p turns = go s (flowDue (p .berth .rx)) refl
+    where
+      go : (s : Side) (b : Bool) → flowDue (p .berth .rx) ≡ b
+          → map (λ x. onlySide s (says set p turns)) (forSide s p turns) ≡ saysAll set (sideOf s p) (forSide s p turns)
+      go receive true e = unfold handOver in (rw (e, e))
+      go send true e = rw e
+      go receive false e = rw e
+      go send false e = unfold handOver flowDue in (rw e)
+
+  -- ---- runs
+
+  -- EACH SIDE'S STATE AND AREA. After any events each side of a berth, with its area, is what its own events make of that side alone: the
+  -- frames for it, its sends, all ticks, and the turns that are its own. The other side matters only there: flow control goes first.
+  pub side-alone : (s : Side) (p : Part) (es : List Event) → sideOf s (alone set p es) ≡ alone set (sideOf s p) (sideEvents s set p es)
+  unfolding alone sideEvents
+  side-alone s p [] = refl
+  side-alone s p (e ∷ es) =
+      side-alone s (partAfter set p e) es
+      ∙ ap (λ (q : Part). alone set q (sideEvents s set (partAfter set p e) es)) (side-after s p e)
+      ∙ sym (alone-append set (sideOf s p) (forSide s p e) (sideEvents s set (partAfter set p e) es))
+
+  -- EACH SIDE'S WORDS, CODES AND FRAMES are those that its own events say on that side alone.
+  pub side-says : (s : Side) (p : Part) (es : List Event) → sideSays s set p es ≡ saysAll set (sideOf s p) (sideEvents s set p es)
+  unfolding sideSays saysAll sideEvents
+  side-says s p [] = refl
+  side-says s p (e ∷ es) =
+      ap₂ (λ (q r : List Says). q ++ r) (side-said s p e) (side-says s (partAfter set p e) es)
+      ∙ ap (λ (q : Part). saysAll set (sideOf s p) (forSide s p e) ++ saysAll set q (sideEvents s set (partAfter set p e) es)) (side-after s p e)
+      ∙ sym (says-append set (sideOf s p) (forSide s p e) (sideEvents s set (partAfter set p e) es))
+
+  -- ---- reports
+
+  -- the reports of one event, for that side
+  side-reported : (k : ℕ) (s : Side) (p : Part) (e : Event)
+      → ofSide s (saidReports k (says set p e)) ≡ over (saidReports k) (map (λ x. onlySide s (says set p e)) (forSide s p e))
+  unfolding says saidReports forSide onlySide over
+  side-reported k s p (arrives d) =
+      frame-all k set (p .berth) d s ∙ go (sameSide s (frameSide d))
+    where
+      rs : List Report
+      rs = reported k receive (frameCame set (p .berth) d .old) ++ wordReports k (frameCame set (p .berth) d .word)
+
+      go : (b : Bool)
+          → pick b rs []
+          ≡ over (saidReports k) (map (λ x. hears (frameCame set (p .berth) d .old) (frameCame set (p .berth) d .word)) (pick b (arrives d ∷ []) []))
+      go true = sym (append-nil rs)
+      go false = refl
+  side-reported k receive p ticks =
+      of-side-append receive (reported k receive (rxCode (p .berth .rx))) (reported k send (txCode (p .berth .tx)))
+      ∙ ap₂ (λ (x y : List Report). x ++ y) (reported-all k receive (rxCode (p .berth .rx)) receive) (reported-all k send (txCode (p .berth .tx)) receive)
+      ∙ unfold reported in (sym (append-nil _))
+  side-reported k send p ticks =
+      of-side-append send (reported k receive (rxCode (p .berth .rx))) (reported k send (txCode (p .berth .tx)))
+      ∙ ap₂ (λ (x y : List Report). x ++ y) (reported-all k receive (rxCode (p .berth .rx)) send) (reported-all k send (txCode (p .berth .tx)) send)
+      ∙ unfold reported in (sym (append-nil _))
+  side-reported k receive p (sends m) = unfold ofSide in refl
+  side-reported k send p (sends m) = unfold ofSide in refl
+  side-reported k s p turns = unfold handOver turnSide in (go s (flowDue (p .berth .rx)) refl)
+    where
+      go : (s : Side) (b : Bool) → flowDue (p .berth .rx) ≡ b
+          → ofSide s (reported k send (handOver set (p .berth) (p .outgoing) .code))
+          ≡ over (saidReports k) (map (λ x. hands (handOver set (p .berth) (p .outgoing) .frame) (handOver set (p .berth) (p .outgoing) .code)) (pick (sameSide s (pick b receive send)) (turns ∷ []) []))
+      go receive true e = unfold handOver in (rw e (unfold reported ofSide in refl))
+      go send true e = unfold handOver in (rw e (unfold reported ofSide in refl))
+      go receive false e = reported-all k send (handOver set (p .berth) (p .outgoing) .code) receive
+      go send false e = reported-all k send (handOver set (p .berth) (p .outgoing) .code) send ∙ sym (append-nil _)
+
+  side-reports-said : (k : ℕ) (s : Side) (p : Part) (es : List Event)
+      → ofSide s (over (saidReports k) (saysAll set p es)) ≡ over (saidReports k) (sideSays s set p es)
+  unfolding saysAll sideSays over
+  side-reports-said k s p [] = unfold ofSide in refl
+  side-reports-said k s p (e ∷ es) =
+      of-side-append s (saidReports k (says set p e)) (over (saidReports k) (saysAll set (partAfter set p e) es))
+      ∙ ap₂ (λ (x y : List Report). x ++ y) (side-reported k s p e) (side-reports-said k s (partAfter set p e) es)
+      ∙ sym (over-append (saidReports k) (map (λ x. onlySide s (says set p e)) (forSide s p e)) (sideSays s set (partAfter set p e) es))
+
+  -- EACH SIDE'S REPORTS, by the side that the paper gives to each code, are those of its own events on that side alone.
+  pub side-reports : (k : ℕ) (s : Side) (p : Part) (es : List Event)
+      → ofSide s (over (saidReports k) (saysAll set p es)) ≡ over (saidReports k) (saysAll set (sideOf s p) (sideEvents s set p es))
+  side-reports k s p es = side-reports-said k s p es ∙ ap (over (saidReports k)) (side-says s p es)
+
+  -- RECEIVING AND SENDING ARE INDEPENDENT. Take two states of a berth that agree in one side and its area. Any event makes the same of
+  -- that side and its area in both, and that side says the same, whatever the other sides are; but a turn must be the same side's
+  -- in both, for flow control goes first.
+  pub independent : (s : Side) (p q : Part) (e : Event) → sideOf s p ≡ sideOf s q → (e ≡ turns → turnSide p ≡ turnSide q)
+      → (sideOf s (partAfter set p e) ≡ sideOf s (partAfter set q e))
+      × (map (λ x. onlySide s (says set p e)) (forSide s p e) ≡ map (λ x. onlySide s (says set q e)) (forSide s q e))
+  independent s p q e same turn =
+      let f : forSide s p e ≡ forSide s q e = for e turn in (
+        side-after s p e ∙ ap₂ (λ (x : Part) (es : List Event). alone set x es) same f ∙ sym (side-after s q e),
+        side-said s p e ∙ ap₂ (λ (x : Part) (es : List Event). saysAll set x es) same f ∙ sym (side-said s q e),
+      )
+    where
+      for : (e : Event) → (e ≡ turns → turnSide p ≡ turnSide q) → forSide s p e ≡ forSide s q e
+      for (arrives d) t = unfold forSide in refl
+      for ticks t = unfold forSide in refl
+      for (sends m) t = unfold forSide in refl
+      for turns t = unfold forSide in (ap (λ (x : Side). pick (sameSide s x) (turns ∷ []) []) (t refl))
+
+-- ---- a run of the node
+
+-- EACH SIDE ALONE, in any run from any start: side s of berth k, with its area, and its reports are those of its own events on that
+-- side alone.
+pub side-alone-in-run : (s : Side) (k : ℕ) (h : Held) (cs : List Call)
+    → (sideOf s (partOf k (final h cs))
+    ≡ alone (h .node .settings) (sideOf s (partOf k h)) (sideEvents s (h .node .settings) (partOf k h) (owns k h cs)))
+    × (ofSide s (ofBerth k (over reports (answers h cs)))
+    ≡ over (saidReports k) (saysAll (h .node .settings) (sideOf s (partOf k h)) (sideEvents s (h .node .settings) (partOf k h) (owns k h cs))))
+side-alone-in-run s k h cs = (
+  ap (sideOf s) (berth-alone k h cs) ∙ side-alone (h .node .settings) s (partOf k h) (owns k h cs),
+  ap (ofSide s) (berth-reports k h cs) ∙ side-reports (h .node .settings) k s (partOf k h) (owns k h cs),
+)

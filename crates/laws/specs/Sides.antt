@@ -1,0 +1,89 @@
+-- Receiving and sending are independent: one side of a berth by itself, which of the berth's events are that side's, and which
+-- reports and frames.
+use Prim.Native.Nat.{ℕ}
+use mathlib.Core.Bool.{Bool, true, false, _&&_}
+use mathlib.Core.List.{List, [], _∷_, _++_, map}
+use lib.Dec.{eqb}
+use Rattle.rules.specs.Tests.{pick}
+use Rattle.rules.specs.Numbers.{flowKind}
+use Rattle.rules.specs.Ranges.{fresh}
+use Rattle.rules.specs.Frames.{kind}
+use Rattle.rules.specs.Turns.{flowDue}
+use Rattle.rules.specs.Answers.{Answer, refused, ready, heard, codes, sent, handed, none, shown, Side, receive, send, Report}
+use Rattle.rules.specs.Alone.{Part, Event, arrives, ticks, sends, turns, Says, hears, expires, accepts, hands, partAfter, says}
+use Rattle.rules.specs.declared.Settings.{Settings}
+use Rattle.laws.specs.Own.{takerOf}
+
+abbrev pub sameSide : Side → Side → Bool
+sameSide receive receive = true
+sameSide receive send = false
+sameSide send receive = false
+sameSide send send = true
+
+-- one side of a berth with its area: the other side fresh, the other area left out
+unfoldable pub sideOf : Side → Part → Part
+sideOf receive p =
+    record { berth = record { rx = p .berth .rx; last = p .berth .last; tx = fresh .tx }; incoming = p .incoming; outgoing = [] }
+sideOf send p =
+    record { berth = record { rx = fresh .rx; last = fresh .last; tx = p .berth .tx }; incoming = []; outgoing = p .outgoing }
+
+-- ---- the events of a side
+
+-- flow control arrives for the send side, the other frames for the receive side
+unfoldable pub frameSide : List ℕ → Side
+frameSide d = pick (eqb (kind d) flowKind) send receive
+
+-- in a turn flow control goes first
+unfoldable pub turnSide : Part → Side
+turnSide p = pick (flowDue (p .berth .rx)) receive send
+
+unfoldable pub forSide : Side → Part → Event → List Event
+forSide s p (arrives d) = pick (sameSide s (frameSide d)) (arrives d ∷ []) []
+forSide s p ticks = ticks ∷ []
+forSide s p (sends m) = pick (sameSide s send) (sends m ∷ []) []
+forSide s p turns = pick (sameSide s (turnSide p)) (turns ∷ []) []
+
+unfoldable pub sideEvents : Side → Settings → Part → List Event → List Event
+sideEvents s set p [] = []
+sideEvents s set p (e ∷ es) = forSide s p e ++ sideEvents s set (partAfter set p e) es
+
+-- ---- what a side says: of a tick its own code, of its other events all
+
+unfoldable pub onlySide : Side → Says → Says
+onlySide s (hears old w) = hears old w
+onlySide receive (expires r c) = expires r 0
+onlySide send (expires r c) = expires 0 c
+onlySide s accepts = accepts
+onlySide s (hands f c) = hands f c
+
+unfoldable pub sideSays : Side → Settings → Part → List Event → List Says
+sideSays s set p [] = []
+sideSays s set p (e ∷ es) = map (λ x. onlySide s (says set p e)) (forSide s p e) ++ sideSays s set (partAfter set p e) es
+
+-- ---- the reports and the frames of a side
+
+unfoldable pub ofSide : Side → List Report → List Report
+ofSide s [] = []
+ofSide s (r ∷ rs) = pick (sameSide s (r .side)) (r ∷ ofSide s rs) (ofSide s rs)
+
+-- the frame in what a berth says
+unfoldable pub handedIn : Says → List (List ℕ)
+handedIn (hears old w) = []
+handedIn (expires r c) = []
+handedIn accepts = []
+handedIn (hands f c) = f ∷ []
+
+-- flow control is the receive side's, any other frame the send side's
+unfoldable pub handedSide : List ℕ → Side
+handedSide f = pick (eqb (kind f) flowKind) receive send
+
+-- the frame that an answer hands over for a side of berth k
+unfoldable pub framesBy : Side → ℕ → Answer → List (List ℕ)
+framesBy s k (refused n) = []
+framesBy s k ready = []
+framesBy s k (heard j old w) = []
+framesBy s k (codes cs) = []
+framesBy s k (sent j) = []
+framesBy s k (handed id f c passed) = pick (eqb (takerOf id) k && sameSide s (handedSide f)) (f ∷ []) []
+framesBy s k (none passed) = []
+framesBy s k (shown part) = []
