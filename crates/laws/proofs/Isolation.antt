@@ -152,7 +152,7 @@ module _ (k : ℕ) where
       go (holds u l) (fails t ne) = rw (u, said-to (h .node), t)
   says-done h (show j choice) = refl
 
-  says-step : (h : Held) (c : Call) → heardOf k (outcome h c .answer) ≡ saysAll (h .node .settings) (partOf k h) (own k h c)
+  pub says-step : (h : Held) (c : Call) → heardOf k (outcome h c .answer) ≡ saysAll (h .node .settings) (partOf k h) (own k h c)
   unfolding outcome refusedOutcome own saysAll heardOf
   says-step h c = go (refusal h c)
     where

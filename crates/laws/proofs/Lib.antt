@@ -5,3 +5,4 @@ pub mod SetUp
 pub mod Round
 pub mod Fairness
 pub mod Sides
+pub mod Touch

@@ -2,3 +2,4 @@
 pub mod Own
 pub mod Rounds
 pub mod Sides
+pub mod Line

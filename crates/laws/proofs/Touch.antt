@@ -1,0 +1,415 @@
+-- What one call does to one side of a berth, as the answers tell it: it spares the side, or it is a tick or a turn of that side alone,
+-- or a frame for it.
+use mathlib.Core.Path.{_≡_, refl, sym, ap, ap₂, _∙_}
+use Prim.Native.Nat.{ℕ, zero, suc, _+_, _-_, _*_, _/_, _%_, _≤_, _<_, min}
+use native.Mathlib.Omega.{arith}
+use mathlib.Core.Bool.{Bool, true, false, not, _&&_, _||_}
+use mathlib.Core.List.{List, [], _∷_, _++_, map, append-nil}
+use mathlib.Core.Logic.{_⊎_, inl, inr, ⊎-elim}
+use lib.ListN.{length, getD, take, drop, length-take}
+use lib.Seq.{sets}
+use lib.Dec.{T, eqb, ltb, leb}
+use mir.Facts.{eqb-yes, yes-eqb, yes-ltb, yes-leb, yes-and}
+use Rattle.rules.specs.Tests.{pick, unless, Need, need, firstUnmet}
+use Rattle.rules.specs.Numbers.{berthCount, fromBerth, toBerth, frameLength, singleKind, firstKind, consecutiveKind, flowKind, goStatus, waitStatus, overflowStatus, consecutiveMost, shortMost}
+use Rattle.rules.specs.Ranges.{fresh, berthAt, inOrder, InOrder, BerthRange, TxRange}
+use Rattle.rules.specs.Frames.{byteAt, kind, low, padded, singleFits, announced, firstFits, consecutiveFits, flowFits, singleFrame, firstFrame, consecutiveFrame, goFrame, overflowFrame}
+use Rattle.rules.specs.Arrivals.{Heard, Told, Came, ignored, singleCame, firstCame, turnedAway, begun, missing, completed, took, wrongSn, awaitedCame, consecutiveCame, byStatus, flowIgnored, flowCame, heardBy, toldBy, byKind, frameCame}
+use Rattle.rules.specs.Ticks.{rxCode, txCode}
+use Rattle.rules.specs.Turns.{flowDue, messageDue, due, flowFrame, messageFrame, HandedOver, handOver}
+use Rattle.rules.specs.Stores.{Held, rightStore, inside, passedOver, reached, cameAt, handedAt}
+use Rattle.rules.specs.Answers.{Answer, Side, receive, send as sendSide, Report, reported, wordReports, reports}
+use Rattle.rules.specs.Refusals.{Call, frame, tick, send, turn, show, senderOf, needs, refusal}
+use Rattle.rules.specs.Calls.{done, reply, written, bufferOf, Outcome, refusedOutcome, outcome}
+use Rattle.rules.specs.Alone.{Part, partOf, Event, arrives, ticks, sends, turns, Says, hears, expires, accepts, hands, partAfter, says, alone, saysAll}
+use Rattle.rules.specs.declared.Settings.{Settings}
+use Rattle.rules.specs.declared.Rx.{Rx}
+use Rattle.rules.specs.declared.Tx.{Tx}
+use Rattle.rules.specs.declared.Berth.{Berth}
+use Rattle.rules.specs.declared.Word.{Word}
+use Rattle.rules.specs.declared.Word.the-variants.{Delivered, Begun, Failed, Ignored, TooLong, Took, Going, Waiting}
+use Rattle.rules.proofs.Cases.{Tested, holds, fails, test-cases, eqb-cases, ltb-cases, eqb-is, eqb-not, ltb-is, is-true, is-false, or-cases, pick-either}
+use Rattle.rules.proofs.Ranges.{in-order-range, range-in-order}
+use Rattle.rules.proofs.Answered.{frame-answered}
+use Rattle.rules.proofs.Order.{frame-inside, reached-small}
+use Rattle.laws.specs.Own.{over, ownDone, own, takerOf, heardOf, ofBerth, saidReports, Sound}
+use Rattle.laws.specs.Sides.{sameSide, sideOf, frameSide, turnSide, forSide, sideEvents, ofSide, handedIn, handedSide, framesBy}
+use Rattle.laws.specs.Line.{reportsBy, deliveredIn, isIgnored, tickCode, spares, Spares}
+use Rattle.laws.proofs.Isolation.{part-step, says-step}
+use Rattle.laws.proofs.Reports.{reports-of}
+use Rattle.laws.proofs.Round.{reached-due}
+use Rattle.laws.proofs.Sides.{came-receive, came-send, side-alone, side-reports}
+
+-- ---- ignored frames change nothing, timers included
+
+module _ (b : Berth) where
+  abbrev Nothing : Came → Type 0
+  Nothing c = T (isIgnored (c .word)) → (c .berth ≡ b) × (c .old ≡ 0) × (c .bytes ≡ [])
+
+  abbrev NothingHeard : Heard → Type 0
+  NothingHeard h = T (isIgnored (h .word)) → (h .rx ≡ b .rx) × (h .last ≡ b .last) × (h .old ≡ 0) × (h .bytes ≡ [])
+
+  ignored-nothing : (why : ℕ) → NothingHeard (ignored why (b .rx) (b .last))
+  unfolding ignored
+  ignored-nothing why t = (refl, refl, refl, refl)
+
+  single-nothing : (d : List ℕ) → NothingHeard (singleCame (b .rx) (b .last) d)
+  unfolding singleCame
+  single-nothing d = pick-either NothingHeard (singleFits d) _ _ (λ u t. absurd t) (λ u. ignored-nothing 3)
+
+  first-nothing : (set : Settings) (d : List ℕ) → NothingHeard (firstCame set (b .rx) (b .last) d)
+  unfolding firstCame turnedAway begun
+  first-nothing set d =
+      pick-either NothingHeard (firstFits d) _ _
+      (λ u. pick-either NothingHeard (ltb (set .area) (announced d)) _ _ (λ v t. absurd t) (λ v t. absurd t)) (λ u. ignored-nothing 3)
+
+  consecutive-nothing : (set : Settings) (rx : Rx) (d : List ℕ) → b .rx ≡ rx → NothingHeard (consecutiveCame set rx (b .last) d)
+  unfolding consecutiveCame awaitedCame completed took wrongSn ignored
+  consecutive-nothing set Rx.Idle d e = λ t. (sym e, refl, refl, refl)
+  consecutive-nothing set (Rx.OwesOverflow u) d e = λ t. (sym e, refl, refl, refl)
+  consecutive-nothing set (Rx.OwesGo p u) d e = λ t. (sym e, refl, refl, refl)
+  consecutive-nothing set (Rx.Awaits p u) d e =
+      pick-either NothingHeard (consecutiveFits (missing p) d) _ _
+      (λ v. pick-either NothingHeard (eqb (low d) (p .sn .0)) _ _
+      (λ w. pick-either NothingHeard (leb (missing p) consecutiveMost) _ _ (λ x t. absurd t) (λ x t. absurd t)) (λ w t. absurd t))
+      (λ v t. (sym e, refl, refl, refl))
+
+  abbrev NothingTold : Told → Type 0
+  NothingTold w = T (isIgnored (w .word)) → w .tx ≡ b .tx
+
+  flow-nothing : (tx : Tx) (d : List ℕ) → b .tx ≡ tx → NothingTold (flowCame tx d)
+  unfolding flowCame byStatus flowIgnored
+  flow-nothing Tx.Idle d e = λ t. sym e
+  flow-nothing (Tx.SingleDue n u) d e = λ t. sym e
+  flow-nothing (Tx.FirstDue n u) d e = λ t. sym e
+  flow-nothing (Tx.AwaitsFlow o u) d e =
+      pick-either NothingTold (flowFits d) _ _
+      (λ v. pick-either NothingTold (eqb (low d) goStatus) _ _ (λ w t. absurd t)
+      (λ w. pick-either NothingTold (eqb (low d) waitStatus) _ _ (λ x t. absurd t)
+      (λ x. pick-either NothingTold (eqb (low d) overflowStatus) _ _ (λ y t. absurd t) (λ y t. absurd t))))
+      (λ v t. sym e)
+  flow-nothing (Tx.Consecutive o u) d e = λ t. sym e
+
+  heard-nothing : (h : Heard) → NothingHeard h → Nothing (heardBy b h)
+  unfolding heardBy
+  heard-nothing h f t = let (x, y, z, v) = f t in ((λ i. record { rx = x i; last = y i; tx = b .tx }), z, v)
+
+  told-nothing : (w : Told) → NothingTold w → Nothing (toldBy b w)
+  unfolding toldBy
+  told-nothing w f t = ((λ i. record { rx = b .rx; last = b .last; tx = f t i }), refl, refl)
+
+  pub frame-nothing : (set : Settings) (d : List ℕ) → Nothing (frameCame set b d)
+  unfolding frameCame byKind
+  frame-nothing set d =
+      pick-either Nothing (eqb (length d) 0) _ _ (λ u. heard-nothing _ (ignored-nothing 1))
+      (λ u. pick-either Nothing (eqb (kind d) singleKind) _ _ (λ v. heard-nothing _ (single-nothing d))
+      (λ v. pick-either Nothing (eqb (kind d) firstKind) _ _ (λ w. heard-nothing _ (first-nothing set d))
+      (λ w. pick-either Nothing (eqb (kind d) consecutiveKind) _ _ (λ x. heard-nothing _ (consecutive-nothing set (b .rx) d refl))
+      (λ x. pick-either Nothing (eqb (kind d) flowKind) _ _ (λ y. told-nothing _ (flow-nothing (b .tx) d refl))
+      (λ y. heard-nothing _ (ignored-nothing 2))))))
+
+-- no report and no Delivered in an ignored frame's answer
+ignored-reports : (k : ℕ) (w : Word) → T (isIgnored w) → wordReports k w ≡ []
+unfolding wordReports
+ignored-reports k (Delivered n) t = absurd t
+ignored-reports k (Begun n) t = absurd t
+ignored-reports k (Failed c) t = absurd t
+ignored-reports k (Ignored i) t = refl
+ignored-reports k TooLong t = absurd t
+ignored-reports k Took t = absurd t
+ignored-reports k Going t = absurd t
+ignored-reports k Waiting t = absurd t
+
+ignored-delivers : (old : ℕ) (w : Word) → T (isIgnored w) → deliveredIn (hears old w) ≡ []
+unfolding deliveredIn
+ignored-delivers old (Delivered n) t = absurd t
+ignored-delivers old (Begun n) t = absurd t
+ignored-delivers old (Failed c) t = absurd t
+ignored-delivers old (Ignored i) t = refl
+ignored-delivers old TooLong t = absurd t
+ignored-delivers old Took t = absurd t
+ignored-delivers old Going t = absurd t
+ignored-delivers old Waiting t = absurd t
+
+-- flow control delivers nothing
+abbrev Undelivered : Told → Type 0
+Undelivered t = (old : ℕ) → deliveredIn (hears old (t .word)) ≡ []
+
+flow-delivers : (tx : Tx) (d : List ℕ) → Undelivered (flowCame tx d)
+unfolding flowCame byStatus flowIgnored deliveredIn
+flow-delivers Tx.Idle d = λ old. refl
+flow-delivers (Tx.SingleDue n t) d = λ old. refl
+flow-delivers (Tx.FirstDue n t) d = λ old. refl
+flow-delivers (Tx.AwaitsFlow o t) d =
+    pick-either Undelivered (flowFits d) _ _
+    (λ u. pick-either Undelivered (eqb (low d) goStatus) _ _ (λ v old. refl)
+    (λ v. pick-either Undelivered (eqb (low d) waitStatus) _ _ (λ w old. refl)
+    (λ w. pick-either Undelivered (eqb (low d) overflowStatus) _ _ (λ x old. refl) (λ x old. refl))))
+    (λ u old. refl)
+flow-delivers (Tx.Consecutive o t) d = λ old. refl
+
+-- ---- the frame handed over says whose turn it was
+
+flow-kind : (set : Settings) (rx : Rx) → T (flowDue rx) → kind (flowFrame set rx) ≡ flowKind
+unfolding flowDue flowFrame goFrame overflowFrame padded kind
+flow-kind set Rx.Idle t = absurd t
+flow-kind set (Rx.OwesOverflow u) t = refl
+flow-kind set (Rx.OwesGo p u) t = refl
+flow-kind set (Rx.Awaits p u) t = absurd t
+
+message-kind : (set : Settings) (tx : Tx) (area : List ℕ) → set .area ≤ shortMost → TxRange set tx → T (messageDue tx)
+    → kind (messageFrame tx area) ≡ flowKind → ⊥
+unfolding messageDue messageFrame singleFrame firstFrame consecutiveFrame padded kind
+message-kind set Tx.Idle area a r t e = absurd t
+message-kind set (Tx.SingleDue n u) area a r t e = omega (arith, r .0, r .1, length-take n area)
+message-kind set (Tx.FirstDue n u) area a r t e = omega (arith, r .1)
+message-kind set (Tx.AwaitsFlow o u) area a r t e = absurd t
+message-kind set (Tx.Consecutive o u) area a r t e = omega (arith, r .0 .sn-most)
+
+handed-side : (set : Settings) (p : Part) → set .area ≤ shortMost → BerthRange set (p .berth) → T (due (p .berth))
+    → handedSide (handOver set (p .berth) (p .outgoing) .frame) ≡ turnSide p
+unfolding handedSide turnSide handOver due
+handed-side set p a r t = go (test-cases (flowDue (p .berth .rx)))
+  where
+    go : Tested (flowDue (p .berth .rx)) (T (flowDue (p .berth .rx))) (T (not (flowDue (p .berth .rx))))
+        → handedSide (handOver set (p .berth) (p .outgoing) .frame) ≡ turnSide p
+    go (holds e u) = rw (e, eqb-is _ _ (flow-kind set (p .berth .rx) u))
+    go (fails e u) = rw (e, eqb-not _ _ (message-kind set (p .berth .tx) (p .outgoing) a (r .send) (rw e at t)))
+
+-- ---- the events of a side in one call
+
+module _ (k : ℕ) (h : Held) where
+  abbrev set : Settings
+  set = h .node .settings
+
+  -- the reports of side s of berth k in the answer are those that its own events say on that side alone
+  reports-by : (s : Side) (c : Call)
+      → reportsBy s k (outcome h c .answer) ≡ over (saidReports k) (saysAll set (sideOf s (partOf k h)) (sideEvents s set (partOf k h) (own k h c)))
+  reports-by s c =
+      ap (ofSide s) (reports-of k (outcome h c .answer) ∙ ap (over (saidReports k)) (says-step k h c))
+      ∙ side-reports set k s (partOf k h) (own k h c)
+
+  side-step : (s : Side) (c : Call)
+      → sideOf s (partOf k (outcome h c .held)) ≡ alone set (sideOf s (partOf k h)) (sideEvents s set (partOf k h) (own k h c))
+  side-step s c = ap (sideOf s) (part-step k h c) ∙ side-alone set s (partOf k h) (own k h c)
+
+  -- no event of the side
+  untouched : (s : Side) (c : Call) (es : List Event) → own k h c ≡ es → sideEvents s set (partOf k h) es ≡ []
+      → (sideOf s (partOf k (outcome h c .held)) ≡ sideOf s (partOf k h)) × (reportsBy s k (outcome h c .answer) ≡ [])
+  untouched s c es o e =
+      let q : sideEvents s set (partOf k h) (own k h c) ≡ [] = ap (sideEvents s set (partOf k h)) o ∙ e in (
+        side-step s c ∙ ap (alone set (sideOf s (partOf k h))) q ∙ unfold alone in refl,
+        reports-by s c ∙ ap (λ es. over (saidReports k) (saysAll set (sideOf s (partOf k h)) es)) q ∙ unfold saysAll over in refl,
+      )
+
+  -- one event of the side
+  touched : (s : Side) (c : Call) (e : Event) → own k h c ≡ e ∷ [] → sideEvents s set (partOf k h) (e ∷ []) ≡ e ∷ []
+      → (sideOf s (partOf k (outcome h c .held)) ≡ partAfter set (sideOf s (partOf k h)) e)
+      × (reportsBy s k (outcome h c .answer) ≡ saidReports k (says set (sideOf s (partOf k h)) e))
+  touched s c e o f =
+      let q : sideEvents s set (partOf k h) (own k h c) ≡ e ∷ [] = ap (sideEvents s set (partOf k h)) o ∙ f in (
+        side-step s c ∙ ap (alone set (sideOf s (partOf k h))) q ∙ unfold alone in refl,
+        reports-by s c ∙ ap (λ es. over (saidReports k) (saysAll set (sideOf s (partOf k h)) es)) q ∙ unfold saysAll over in (append-nil _),
+      )
+
+  -- a frame that is ignored
+  ignored-part : (d : List ℕ) → T (isIgnored (cameAt h k d .word)) → alone set (partOf k h) (arrives d ∷ []) ≡ partOf k h
+  unfolding cameAt alone partAfter partOf
+  ignored-part d t =
+      let (x, y, z) = frame-nothing (berthAt (h .node) k) set d t in
+      λ i. record {
+        berth = x i;
+        incoming = sets (partOf k h .incoming) (frameCame set (berthAt (h .node) k) d .place) (z i);
+        outgoing = partOf k h .outgoing;
+      }
+
+  ignored-said : (d : List ℕ) → T (isIgnored (cameAt h k d .word)) → over (saidReports k) (saysAll set (partOf k h) (arrives d ∷ [])) ≡ []
+  unfolding cameAt saysAll says over saidReports partOf reported
+  ignored-said d t =
+      let (x, y, z) = frame-nothing (berthAt (h .node) k) set d t in
+      append-nil _
+      ∙ ap₂ (λ (m : ℕ) (rs : List Report). reported k receive m ++ rs) y (ignored-reports k (frameCame set (berthAt (h .node) k) d .word) t)
+
+  passed-by : (s : Side) (c : Call) (d : List ℕ) → own k h c ≡ arrives d ∷ [] → T (isIgnored (cameAt h k d .word))
+      → (sideOf s (partOf k (outcome h c .held)) ≡ sideOf s (partOf k h)) × (reportsBy s k (outcome h c .answer) ≡ [])
+  unfolding ofSide
+  passed-by s c d o t = (
+    ap (sideOf s) (part-step k h c ∙ ap (alone set (partOf k h)) o ∙ ignored-part d t),
+    ap (ofSide s) (reports-of k (outcome h c .answer) ∙ ap (over (saidReports k)) (says-step k h c ∙ ap (saysAll set (partOf k h)) o) ∙ ignored-said d t),
+  )
+
+  -- what a call that spares the side does to it: nothing, a tick of it, or a turn of it
+  pub data Touched (s : Side) (p p′ : Part) (rs : List Report) (fs : List (List ℕ)) : Type 0 where
+    spared : p′ ≡ p → rs ≡ [] → fs ≡ [] → Touched s p p′ rs fs
+    clocked : p′ ≡ partAfter set p ticks → rs ≡ saidReports k (says set p ticks) → fs ≡ [] → tickCode s (p .berth) ≡ 0 → Touched s p p′ rs fs
+    turned : T (due (p .berth)) → p′ ≡ partAfter set p turns → rs ≡ saidReports k (says set p turns) → fs ≡ handedIn (says set p turns)
+        → Touched s p p′ rs fs
+
+  -- of the same call, by its outcome
+  abbrev TouchedBy : Side → Call → Type 0
+  TouchedBy s c =
+      Touched s (sideOf s (partOf k h)) (sideOf s (partOf k (outcome h c .held))) (reportsBy s k (outcome h c .answer))
+      (framesBy s k (outcome h c .answer))
+
+  own-is : (c : Call) → refusal h c ≡ 0 → own k h c ≡ ownDone k h c
+  unfolding own
+  own-is c e = rw e
+
+  answer-is : (c : Call) → refusal h c ≡ 0 → outcome h c .answer ≡ reply h c
+  unfolding outcome
+  answer-is c e = rw e
+
+  touch-frame : (s : Side) (id : ℕ) (d : List ℕ) → refusal h (frame id d) ≡ 0 → T (spares s k h (frame id d)) → TouchedBy s (frame id d)
+  unfolding spares
+  touch-frame s id d e t = go (eqb-cases (senderOf id) k)
+    where
+      fs : framesBy s k (outcome h (frame id d) .answer) ≡ []
+      fs = ap (framesBy s k) (answer-is (frame id d) e) ∙ unfold reply framesBy in refl
+
+      done-as : (b : Bool) → eqb (senderOf id) k ≡ b → own k h (frame id d) ≡ pick b (arrives d ∷ []) []
+      done-as b u = own-is (frame id d) e ∙ unfold ownDone in (rw u)
+
+      not-its : T (not (sameSide s (frameSide d))) → sideEvents s set (partOf k h) (arrives d ∷ []) ≡ []
+      not-its u = unfold sideEvents forSide in (rw (is-false (sameSide s (frameSide d)) u))
+
+      go : Tested (eqb (senderOf id) k) (senderOf id ≡ k) (senderOf id ≡ k → ⊥) → TouchedBy s (frame id d)
+      go (fails u q) = let (x, y) = untouched s (frame id d) [] (done-as false u) (unfold sideEvents in refl) in spared x y fs
+      go (holds u q) = by (or-cases (isIgnored (cameAt h k d .word)) _ (rw u at t))
+        where
+          by : T (isIgnored (cameAt h k d .word)) ⊎ T (not (sameSide s (frameSide d))) → TouchedBy s (frame id d)
+          by (inl v) = let (x, y) = passed-by s (frame id d) d (done-as true u) v in spared x y fs
+          by (inr v) = let (x, y) = untouched s (frame id d) (arrives d ∷ []) (done-as true u) (not-its v) in spared x y fs
+
+  touch-send : (s : Side) (j : ℕ) (m : List ℕ) → refusal h (send j m) ≡ 0 → T (spares s k h (send j m)) → TouchedBy s (send j m)
+  unfolding spares
+  touch-send s j m e t = go (eqb-cases j k)
+    where
+      fs : framesBy s k (outcome h (send j m) .answer) ≡ []
+      fs = ap (framesBy s k) (answer-is (send j m) e) ∙ unfold reply framesBy in refl
+
+      done-as : (b : Bool) → eqb j k ≡ b → own k h (send j m) ≡ pick b (sends m ∷ []) []
+      done-as b u = own-is (send j m) e ∙ unfold ownDone in (rw u)
+
+      not-its : T (not (sameSide s sendSide)) → sideEvents s set (partOf k h) (sends m ∷ []) ≡ []
+      not-its u = unfold sideEvents forSide in (rw (is-false (sameSide s sendSide) u))
+
+      go : Tested (eqb j k) (j ≡ k) (j ≡ k → ⊥) → TouchedBy s (send j m)
+      go (holds u q) = let (x, y) = untouched s (send j m) (sends m ∷ []) (done-as true u) (not-its (rw u at t)) in spared x y fs
+      go (fails u q) = let (x, y) = untouched s (send j m) [] (done-as false u) (unfold sideEvents in refl) in spared x y fs
+
+  side-code : (s : Side) → tickCode s (sideOf s (partOf k h) .berth) ≡ tickCode s (berthAt (h .node) k)
+  unfolding sideOf partOf
+  side-code receive = refl
+  side-code sendSide = refl
+
+  touch-tick : (s : Side) → refusal h tick ≡ 0 → T (spares s k h tick) → TouchedBy s tick
+  unfolding spares
+  touch-tick s e t =
+      let (x, y) = touched s tick ticks (own-is tick e ∙ unfold ownDone in refl) (unfold sideEvents forSide in refl) in
+      clocked x y (ap (framesBy s k) (answer-is tick e) ∙ unfold reply framesBy in refl) (side-code s ∙ eqb-yes t)
+
+  -- the side whose turn it is has a frame due
+  due-side : (p : Part) → T (due (p .berth)) → T (due (sideOf (turnSide p) p .berth))
+  unfolding due turnSide sideOf flowDue
+  due-side p t = go (test-cases (flowDue (p .berth .rx)))
+    where
+      go : Tested (flowDue (p .berth .rx)) (T (flowDue (p .berth .rx))) (T (not (flowDue (p .berth .rx)))) → T (due (sideOf (turnSide p) p .berth))
+      go (holds u v) = rw (u, u) tt
+      go (fails u v) = rw u (rw u at t)
+
+  same-side : (s t : Side) → T (sameSide s t) → t ≡ s
+  same-side receive receive u = refl
+  same-side receive sendSide u = absurd u
+  same-side sendSide receive u = absurd u
+  same-side sendSide sendSide u = refl
+
+  said-turn : (s : Side) (p : Part) → T (sameSide s (turnSide p)) → says set (sideOf s p) turns ≡ says set p turns
+  unfolding says sideOf turnSide handOver flowDue
+  said-turn s p t = go s (flowDue (p .berth .rx)) refl t
+    where
+      go : (s : Side) (b : Bool) → flowDue (p .berth .rx) ≡ b → T (sameSide s (turnSide p)) → says set (sideOf s p) turns ≡ says set p turns
+      go receive true e t = rw e
+      go receive false e t = absurd (rw e at t)
+      go sendSide true e t = absurd (rw e at t)
+      go sendSide false e t = rw e
+
+  module _ (sound : Sound h) (small : k < berthCount) where
+    range : BerthRange set (partOf k h .berth)
+    unfolding partOf
+    range = sound .order .berth k small
+
+    -- a turn that reached berth k
+    module _ (s : Side) (buffer : List ℕ) (e : refusal h (turn buffer) ≡ 0) (l : passedOver (h .node) < berthCount) (q : reached (h .node) ≡ k) where
+      due-k : T (due (partOf k h .berth))
+      unfolding partOf
+      due-k = rw q at (reached-due (h .node) (sound .order) l)
+
+      own-k : own k h (turn buffer) ≡ turns ∷ []
+      unfolding ownDone
+      own-k = own-is (turn buffer) e ∙ rw (ltb-is (passedOver (h .node)) berthCount l, eqb-is (reached (h .node)) k q)
+
+      frames-turn : framesBy s k (reply h (turn buffer))
+          ≡ pick (sameSide s (turnSide (partOf k h))) (handOver set (partOf k h .berth) (partOf k h .outgoing) .frame ∷ []) []
+      unfolding reply framesBy handedAt partOf
+      frames-turn =
+          let to : takerOf (toBerth + reached (h .node)) ≡ k = omega arith in
+          rw (ltb-is (passedOver (h .node)) berthCount l, eqb-is (takerOf (toBerth + reached (h .node))) k to, q,
+          handed-side set (partOf k h) (sound .order .settings .area-most) range due-k)
+
+      touch-own-turn : TouchedBy s (turn buffer)
+      touch-own-turn = go (test-cases (sameSide s (turnSide (partOf k h))))
+        where
+          frames : framesBy s k (outcome h (turn buffer) .answer)
+              ≡ pick (sameSide s (turnSide (partOf k h))) (handOver set (partOf k h .berth) (partOf k h .outgoing) .frame ∷ []) []
+          frames = ap (framesBy s k) (answer-is (turn buffer) e) ∙ frames-turn
+
+          go : Tested (sameSide s (turnSide (partOf k h))) (T (sameSide s (turnSide (partOf k h)))) (T (not (sameSide s (turnSide (partOf k h)))))
+              → TouchedBy s (turn buffer)
+          go (holds v t) =
+              let (x, y) = touched s (turn buffer) turns own-k (unfold sideEvents forSide in (rw v)) in
+              turned (rw (same-side s (turnSide (partOf k h)) t) at (due-side (partOf k h) due-k)) x y
+              (frames ∙ rw (v, said-turn s (partOf k h) t) (unfold says handedIn in refl))
+          go (fails v t) = let (x, y) = untouched s (turn buffer) (turns ∷ []) own-k (unfold sideEvents forSide in (rw v)) in spared x y (frames ∙ rw v)
+
+    touch-turn : (s : Side) (buffer : List ℕ) → refusal h (turn buffer) ≡ 0 → TouchedBy s (turn buffer)
+    touch-turn s buffer e = go (ltb-cases (passedOver (h .node)) berthCount) (eqb-cases (reached (h .node)) k)
+      where
+        to : takerOf (toBerth + reached (h .node)) ≡ reached (h .node)
+        to = omega arith
+
+        nobody : own k h (turn buffer) ≡ [] → framesBy s k (reply h (turn buffer)) ≡ [] → TouchedBy s (turn buffer)
+        nobody o f =
+            let (x, y) = untouched s (turn buffer) [] o (unfold sideEvents in refl) in
+            spared x y (ap (framesBy s k) (answer-is (turn buffer) e) ∙ f)
+
+        go : Tested (ltb (passedOver (h .node)) berthCount) (passedOver (h .node) < berthCount) (berthCount ≤ passedOver (h .node))
+            → Tested (eqb (reached (h .node)) k) (reached (h .node) ≡ k) (reached (h .node) ≡ k → ⊥) → TouchedBy s (turn buffer)
+        go (holds u l) (holds t q) = touch-own-turn s buffer e l q
+        go (holds u l) (fails t ne) =
+            nobody (own-is (turn buffer) e ∙ unfold ownDone in (rw (u, t))) (unfold reply framesBy in (rw (u, to, t)))
+        go (fails u l) w = nobody (own-is (turn buffer) e ∙ unfold ownDone in (rw u)) (unfold reply framesBy in (rw u))
+
+    touch-answered : (s : Side) (c : Call) → refusal h c ≡ 0 → T (spares s k h c) → TouchedBy s c
+    touch-answered s (frame id d) e t = touch-frame s id d e t
+    touch-answered s tick e t = touch-tick s e t
+    touch-answered s (send j m) e t = touch-send s j m e t
+    touch-answered s (turn buffer) e t = touch-turn s buffer e
+    touch-answered s (show j choice) e t =
+        let (x, y) = untouched s (show j choice) [] (own-is (show j choice) e ∙ unfold ownDone in refl) (unfold sideEvents in refl) in
+        spared x y (ap (framesBy s k) (answer-is (show j choice) e) ∙ unfold reply framesBy in refl)
+
+    -- what a call that spares side s of berth k does to that side
+    pub touch : (s : Side) (c : Call) → Spares s k h c → TouchedBy s c
+    touch s c t = go (refusal h c) refl
+      where
+        go : (n : ℕ) → refusal h c ≡ n → TouchedBy s c
+        go zero e = touch-answered s c e (t e)
+        go (suc n) e =
+            let (x, y) = untouched s c [] (unfold own in (rw e)) (unfold sideEvents in refl) in
+            spared x y (unfold outcome refusedOutcome framesBy in (rw e))
+
+    -- ---- a frame carried to the side
+
+    carried-met : (d : List ℕ) → length d ≤ frameLength → refusal h (frame (fromBerth + k) d) ≡ 0
+    unfolding refusal needs firstUnmet rightStore inside
+    carried-met d l = ?

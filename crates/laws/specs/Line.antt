@@ -1,0 +1,187 @@
+-- The line's law: two nodes, and a line between berth i of node A, which sends, and berth j of node B, which takes. Any calls on both
+-- nodes, and the carrying of frames. What was handed over and reported is read off the answers alone.
+use Prim.Native.Nat.{ℕ, _+_}
+use mathlib.Core.Path.{_≡_}
+use mathlib.Core.Bool.{Bool, true, false, not, _||_}
+use mathlib.Core.List.{List, [], _∷_, _++_, map}
+use lib.Dec.{T, eqb}
+use Rattle.rules.specs.Tests.{pick}
+use Rattle.rules.specs.Numbers.{fromBerth}
+use Rattle.rules.specs.Ranges.{berthAt}
+use Rattle.rules.specs.Frames.{counted, fillsBlock, goFrame}
+use Rattle.rules.specs.Arrivals.{Came}
+use Rattle.rules.specs.Ticks.{rxCode, txCode}
+use Rattle.rules.specs.Turns.{flowDue, messageDue}
+use Rattle.rules.specs.Stores.{Held, cameAt}
+use Rattle.rules.specs.Answers.{Answer, Side, receive, send as sendSide, Report, reports}
+use Rattle.rules.specs.Refusals.{Call, frame, tick, send, turn, show, senderOf, refusal}
+use Rattle.rules.specs.Calls.{Outcome, outcome}
+use Rattle.rules.specs.Alone.{Says, hears, expires, accepts, hands}
+use Rattle.rules.specs.declared.Settings.{Settings}
+use Rattle.rules.specs.declared.Rx.{Rx}
+use Rattle.rules.specs.declared.Tx.{Tx}
+use Rattle.rules.specs.declared.Berth.{Berth}
+use Rattle.rules.specs.declared.Word.{Word}
+use Rattle.rules.specs.declared.Word.the-variants.{Delivered, Begun, Failed, Ignored, TooLong, Took, Going, Waiting}
+use Rattle.laws.specs.Own.{over, heardOf, ofBerth}
+use Rattle.laws.specs.Sides.{sameSide, frameSide, ofSide, framesBy}
+
+-- ---- two nodes and the line
+
+-- a frame handed over: there, of the message, or back, flow control
+pub data Handed : Type 0 where
+  there : List ℕ → Handed
+  back : List ℕ → Handed
+
+-- the nodes with their stores; the frames on the way; what was handed over, both ways, in order; what the
+-- two sides reported; the lengths that the taker answered with Delivered
+pub record World : Type 0 where
+  pub a : Held
+  pub b : Held
+  pub toB : List (List ℕ)
+  pub toA : List (List ℕ)
+  pub log : List Handed
+  pub said : List Report
+  pub heard : List Report
+  pub delivered : List ℕ
+
+-- the reports in an answer of side s of berth k
+abbrev pub reportsBy : Side → ℕ → Answer → List Report
+reportsBy s k answer = ofSide s (ofBerth k (reports answer))
+
+-- the length in a Delivered
+unfoldable pub deliveredIn : Says → List ℕ
+deliveredIn (hears old (Delivered n)) = n ∷ []
+deliveredIn (hears old (Begun n)) = []
+deliveredIn (hears old (Failed c)) = []
+deliveredIn (hears old (Ignored why)) = []
+deliveredIn (hears old TooLong) = []
+deliveredIn (hears old Took) = []
+deliveredIn (hears old Going) = []
+deliveredIn (hears old Waiting) = []
+deliveredIn (expires r c) = []
+deliveredIn accepts = []
+deliveredIn (hands f c) = []
+
+-- a call on A: the frames of berth i's message go on the way, and the send side's reports are noted
+unfoldable pub callA : ℕ → World → Call → World
+callA i w c =
+    record {
+      a = outcome (w .a) c .held;
+      b = w .b;
+      toB = w .toB ++ framesBy sendSide i (outcome (w .a) c .answer);
+      toA = w .toA;
+      log = w .log ++ map there (framesBy sendSide i (outcome (w .a) c .answer));
+      said = w .said ++ reportsBy sendSide i (outcome (w .a) c .answer);
+      heard = w .heard;
+      delivered = w .delivered;
+    }
+
+-- a call on B: the flow control of berth j goes on the way back, and the receive side's reports and Delivereds are noted
+unfoldable pub callB : ℕ → World → Call → World
+callB j w c =
+    record {
+      a = w .a;
+      b = outcome (w .b) c .held;
+      toB = w .toB;
+      toA = w .toA ++ framesBy receive j (outcome (w .b) c .answer);
+      log = w .log ++ map back (framesBy receive j (outcome (w .b) c .answer));
+      said = w .said;
+      heard = w .heard ++ reportsBy receive j (outcome (w .b) c .answer);
+      delivered = w .delivered ++ over deliveredIn (heardOf j (outcome (w .b) c .answer));
+    }
+
+-- the first frame on the way comes in under the identifier that is expected there; with none on the way nothing happens
+unfoldable pub carriedA : ℕ → World → List (List ℕ) → World
+carriedA i w [] = w
+carriedA i w (d ∷ q) =
+    callA i (record { a = w .a; b = w .b; toB = w .toB; toA = q; log = w .log; said = w .said; heard = w .heard; delivered = w .delivered }) (frame (fromBerth + i) d)
+
+unfoldable pub carriedB : ℕ → World → List (List ℕ) → World
+carriedB j w [] = w
+carriedB j w (d ∷ q) =
+    callB j (record { a = w .a; b = w .b; toB = q; toA = w .toA; log = w .log; said = w .said; heard = w .heard; delivered = w .delivered }) (frame (fromBerth + j) d)
+
+pub data Deed : Type 0 where
+  atA atB : Call → Deed
+  carryA carryB : Deed
+
+unfoldable pub acts : (i j : ℕ) → World → Deed → World
+acts i j w (atA c) = callA i w c
+acts i j w (atB c) = callB j w c
+acts i j w carryA = carriedA i w (w .toA)
+acts i j w carryB = carriedB j w (w .toB)
+
+unfoldable pub living : (i j : ℕ) → World → List Deed → World
+living i j w [] = w
+living i j w (d ∷ ds) = living i j (acts i j w d) ds
+
+-- ---- no other frame, send or set-up touches these two sides, and no timer of theirs reaches 1,000
+
+abbrev pub isIgnored : Word → Bool
+isIgnored (Delivered n) = false
+isIgnored (Begun n) = false
+isIgnored (Failed c) = false
+isIgnored (Ignored why) = true
+isIgnored TooLong = false
+isIgnored Took = false
+isIgnored Going = false
+isIgnored Waiting = false
+
+-- the code that a tick has for a side
+abbrev pub tickCode : Side → Berth → ℕ
+tickCode receive b = rxCode (b .rx)
+tickCode sendSide b = txCode (b .tx)
+
+-- an answered call spares side s of berth k: a frame is another berth's, or ignored, or for the other side; a send is to another
+-- berth or s is the receive side; a tick ends no timer of s. Turns and shows are free.
+unfoldable pub spares : Side → ℕ → Held → Call → Bool
+spares s k h (frame id d) = not (eqb (senderOf id) k) || (isIgnored (cameAt h k d .word) || not (sameSide s (frameSide d)))
+spares s k h tick = eqb (tickCode s (berthAt (h .node) k)) 0
+spares s k h (send j m) = not (eqb j k) || not (sameSide s sendSide)
+spares s k h (turn buffer) = true
+spares s k h (show j choice) = true
+
+-- a refused call spares every side
+abbrev pub Spares : Side → ℕ → Held → Call → Type 0
+Spares s k h c = refusal h c ≡ 0 → T (spares s k h c)
+
+abbrev pub Apart : (i j : ℕ) → World → Deed → Type 0
+Apart i j w (atA c) = Spares sendSide i (w .a) c
+Apart i j w (atB c) = Spares receive j (w .b) c
+Apart i j w carryA = Unit {0}
+Apart i j w carryB = Unit {0}
+
+unfoldable pub AllApart : (i j : ℕ) → World → List Deed → Type 0
+AllApart i j w [] = Unit {0}
+AllApart i j w (d ∷ ds) = Apart i j w d × AllApart i j (acts i j w d) ds
+
+-- ---- none is on the way, and neither side has one due or a gap left
+
+unfoldable pub gapLeft : Tx → ℕ
+gapLeft Tx.Idle = 0
+gapLeft (Tx.SingleDue n t) = 0
+gapLeft (Tx.FirstDue n t) = 0
+gapLeft (Tx.AwaitsFlow o t) = o .left
+gapLeft (Tx.Consecutive o t) = o .left
+
+pub record AtRest (i j : ℕ) (w : World) : Type 0 where
+  pub none-there : w .toB ≡ []
+  pub none-back : w .toA ≡ []
+  pub none-due : messageDue (berthAt (w .a .node) i .tx) ≡ false
+  pub no-gap : gapLeft (berthAt (w .a .node) i .tx) ≡ 0
+  pub no-flow : flowDue (berthAt (w .b .node) j .rx) ≡ false
+
+-- ---- what is handed over both ways: one go after the first frame, and one after each full block with frames still to come
+
+unfoldable pub inBlocks : Settings → ℕ → List (List ℕ) → List Handed
+inBlocks s n [] = []
+inBlocks s n (f ∷ []) = there f ∷ []
+inBlocks s n (f ∷ g ∷ fs) =
+    there f
+    ∷ pick (fillsBlock (s .block) n) (back (goFrame s) ∷ inBlocks s 0 (g ∷ fs)) (inBlocks s (counted (s .block) n) (g ∷ fs))
+
+unfoldable pub exchanged : Settings → List (List ℕ) → List Handed
+exchanged s [] = []
+exchanged s (f ∷ []) = there f ∷ []
+exchanged s (f ∷ g ∷ fs) = there f ∷ back (goFrame s) ∷ inBlocks s 0 (g ∷ fs)
