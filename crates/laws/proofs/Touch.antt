@@ -8,7 +8,7 @@ use mathlib.Core.List.{List, [], _∷_, _++_, map, append-nil}
 use mathlib.Core.Logic.{_⊎_, inl, inr, ⊎-elim}
 use lib.ListN.{length, getD, take, drop, length-take}
 use lib.Seq.{sets}
-use lib.Dec.{T, eqb, ltb, leb}
+use lib.Dec.{T, eqb, ltb, leb, le→leb, lt→ltb}
 use mir.Facts.{eqb-yes, yes-eqb, yes-ltb, yes-leb, yes-and}
 use Rattle.rules.specs.Tests.{pick, unless, Need, need, firstUnmet}
 use Rattle.rules.specs.Numbers.{berthCount, fromBerth, toBerth, frameLength, singleKind, firstKind, consecutiveKind, flowKind, goStatus, waitStatus, overflowStatus, consecutiveMost, shortMost}
@@ -38,7 +38,7 @@ use Rattle.laws.specs.Line.{reportsBy, deliveredIn, isIgnored, tickCode,
 use Rattle.laws.proofs.Isolation.{part-step, says-step}
 use Rattle.laws.proofs.Reports.{reports-of}
 use Rattle.laws.proofs.Round.{reached-due}
-use Rattle.laws.proofs.Sides.{came-receive, came-send, side-alone, side-reports}
+use Rattle.laws.proofs.Sides.{withTx, came-receive, came-send, side-alone, side-reports}
 
 -- ---- ignored frames change nothing, timers included
 
@@ -175,6 +175,31 @@ handed-side set p a r t = go (test-cases (flowDue (p .berth .rx)))
         → handedSide (handOver set (p .berth) (p .outgoing) .frame) ≡ turnSide p
     go (holds e u) = rw (e, eqb-is _ _ (flow-kind set (p .berth .rx) u))
     go (fails e u) = rw (e, eqb-not _ _ (message-kind set (p .berth .tx) (p .outgoing) a (r .send) (rw e at t)))
+
+-- ---- which frames are flow control
+
+not-flow : (d : List ℕ) → frameSide d ≡ receive → kind d ≡ flowKind → ⊥
+unfolding frameSide
+not-flow d e q = let z : _≡_ {A = ℕ} 0 1 = cc (rw (eqb-is (kind d) flowKind q) at e) in omega arith
+
+is-flow : (d : List ℕ) → T (not (sameSide receive (frameSide d))) → kind d ≡ flowKind
+unfolding frameSide
+is-flow d t = go (eqb-cases (kind d) flowKind)
+  where
+    go : Tested (eqb (kind d) flowKind) (kind d ≡ flowKind) (kind d ≡ flowKind → ⊥) → kind d ≡ flowKind
+    go (holds u e) = e
+    go (fails u ne) = absurd (rw u at t)
+
+-- ---- a call whose needs are all met is answered
+
+abbrev AllMet : List Need → Type 0
+AllMet [] = Unit {0}
+AllMet (n ∷ ns) = T (n .met) × AllMet ns
+
+pub all-met : (ns : List Need) → AllMet ns → firstUnmet ns ≡ 0
+unfolding firstUnmet
+all-met [] t = refl
+all-met (n ∷ ns) t = rw (is-true (n .met) (t .0)) (all-met ns (t .1))
 
 -- ---- the events of a side in one call
 
@@ -410,6 +435,80 @@ module _ (k : ℕ) (h : Held) where
 
     -- ---- a frame carried to the side
 
+    back-again : senderOf (fromBerth + k) ≡ k
+    back-again = omega arith
+
     carried-met : (d : List ℕ) → length d ≤ frameLength → refusal h (frame (fromBerth + k) d) ≡ 0
-    unfolding refusal needs firstUnmet rightStore inside
-    carried-met d l = ?
+    unfolding refusal needs rightStore inside
+    carried-met d l =
+        let i : senderOf (fromBerth + k) < berthCount = omega arith in
+        let known : T (leb fromBerth (fromBerth + k) && ltb (fromBerth + k) (fromBerth + berthCount)) =
+        yes-and (leb fromBerth (fromBerth + k)) (ltb (fromBerth + k) (fromBerth + berthCount)) (le→leb fromBerth (fromBerth + k) (omega arith)) (lt→ltb (fromBerth + k) (fromBerth + berthCount) (omega arith)) in
+        all-met (needs h (frame (fromBerth + k) d))
+        (range-in-order (h .node) (sound .order), (yes-eqb (sound .incoming), (known, (yes-leb l,
+        (yes-leb (frame-inside h (senderOf (fromBerth + k)) d i (sound .order)), tt)))))
+
+    own-carried : (d : List ℕ) → length d ≤ frameLength → own k h (frame (fromBerth + k) d) ≡ arrives d ∷ []
+    unfolding ownDone
+    own-carried d l = own-is (frame (fromBerth + k) d) (carried-met d l) ∙ rw (eqb-is (senderOf (fromBerth + k)) k back-again)
+
+    -- it is one event of the side it is for, and no frame is handed over
+    pub record Carried (s : Side) (d : List ℕ) : Type 0 where
+      pub part : sideOf s (partOf k (outcome h (frame (fromBerth + k) d) .held)) ≡ partAfter set (sideOf s (partOf k h)) (arrives d)
+      pub reported : reportsBy s k (outcome h (frame (fromBerth + k) d) .answer) ≡ saidReports k (says set (sideOf s (partOf k h)) (arrives d))
+      pub frames : framesBy s k (outcome h (frame (fromBerth + k) d) .answer) ≡ []
+
+    pub carry : (s : Side) (d : List ℕ) → length d ≤ frameLength → frameSide d ≡ s → Carried s d
+    carry s d l e =
+        let (x, y) = touched s (frame (fromBerth + k) d) (arrives d) (own-carried d l) (its s e) in
+        record { part = x; reported = y; frames = ap (framesBy s k) (answer-is (frame (fromBerth + k) d) (carried-met d l)) ∙ unfold reply framesBy in refl }
+      where
+        its : (s : Side) → frameSide d ≡ s → sideEvents s set (partOf k h) (arrives d ∷ []) ≡ arrives d ∷ []
+        its receive e = unfold sideEvents forSide in (rw e)
+        its sendSide e = unfold sideEvents forSide in (rw e)
+
+    -- ---- the Delivereds of the receive side
+
+    delivered-own : (c : Call) (es : List Event) → own k h c ≡ es
+        → over deliveredIn (heardOf k (outcome h c .answer)) ≡ over deliveredIn (saysAll set (partOf k h) es)
+    delivered-own c es o = ap (over deliveredIn) (says-step k h c ∙ ap (saysAll set (partOf k h)) o)
+
+    pub delivered-carried : (d : List ℕ) → length d ≤ frameLength → frameSide d ≡ receive
+        → over deliveredIn (heardOf k (outcome h (frame (fromBerth + k) d) .answer)) ≡ deliveredIn (says set (sideOf receive (partOf k h)) (arrives d))
+    unfolding saysAll over says sideOf withTx
+    delivered-carried d l e =
+        delivered-own (frame (fromBerth + k) d) (arrives d ∷ []) (own-carried d l)
+        ∙ append-nil _
+        ∙ ap (λ (c : Came). deliveredIn (hears (c .old) (c .word))) (came-receive set (partOf k h .berth) d (not-flow d e))
+
+    frame-delivers : (d : List ℕ) → T (isIgnored (cameAt h k d .word) || not (sameSide receive (frameSide d)))
+        → deliveredIn (says set (partOf k h) (arrives d)) ≡ []
+    unfolding says partOf cameAt
+    frame-delivers d t = by (or-cases (isIgnored (cameAt h k d .word)) _ t)
+      where
+        by : T (isIgnored (cameAt h k d .word)) ⊎ T (not (sameSide receive (frameSide d))) → deliveredIn (says set (partOf k h) (arrives d)) ≡ []
+        by (inl u) = ignored-delivers _ _ u
+        by (inr u) = rw (came-send set (berthAt (h .node) k) d (is-flow d u)) (unfold toldBy in (flow-delivers (berthAt (h .node) k .tx) d 0))
+
+    delivers : (c : Call) → T (spares receive k h c) → over deliveredIn (saysAll set (partOf k h) (ownDone k h c)) ≡ []
+    unfolding ownDone saysAll over spares
+    delivers (frame id d) t = go (eqb-cases (senderOf id) k)
+      where
+        go : Tested (eqb (senderOf id) k) (senderOf id ≡ k) (senderOf id ≡ k → ⊥) → over deliveredIn (saysAll set (partOf k h) (ownDone k h (frame id d))) ≡ []
+        go (holds u e) = rw u (append-nil _ ∙ frame-delivers d (rw u at t))
+        go (fails u e) = rw u
+    delivers tick t = unfold says deliveredIn in refl
+    delivers (send j m) t =
+        pick-either (λ es. over deliveredIn (saysAll set (partOf k h) es) ≡ []) (eqb j k) (sends m ∷ []) [] (λ u. unfold says deliveredIn in refl) (λ u. refl)
+    delivers (turn buffer) t =
+        pick-either (λ es. over deliveredIn (saysAll set (partOf k h) es) ≡ []) (ltb (passedOver (h .node)) berthCount && eqb (reached (h .node)) k) (turns ∷ []) []
+        (λ u. unfold says deliveredIn in refl) (λ u. refl)
+    delivers (show j choice) t = refl
+
+    -- a call that spares the receive side delivers nothing
+    pub none-delivered : (c : Call) → Spares receive k h c → over deliveredIn (heardOf k (outcome h c .answer)) ≡ []
+    none-delivered c t = go (refusal h c) refl
+      where
+        go : (n : ℕ) → refusal h c ≡ n → over deliveredIn (heardOf k (outcome h c .answer)) ≡ []
+        go zero e = delivered-own c (ownDone k h c) (own-is c e) ∙ delivers c (t e)
+        go (suc n) e = delivered-own c [] (unfold own in (rw e)) ∙ unfold saysAll over in refl
