@@ -6,3 +6,4 @@ pub mod Round
 pub mod Fairness
 pub mod Sides
 pub mod Touch
+pub mod Frames

@@ -378,8 +378,12 @@ module _ (k : ℕ) (h : Held) where
       unfolding reply framesBy handedAt partOf
       frames-turn =
           let to : takerOf (toBerth + reached (h .node)) ≡ k = omega arith in
-          rw (ltb-is (passedOver (h .node)) berthCount l, eqb-is (takerOf (toBerth + reached (h .node))) k to, q,
-          handed-side set (partOf k h) (sound .order .settings .area-most) range due-k)
+          rw (
+            ltb-is (passedOver (h .node)) berthCount l,
+            eqb-is (takerOf (toBerth + reached (h .node))) k to,
+            q,
+            handed-side set (partOf k h) (sound .order .settings .area-most) range due-k,
+          )
 
       touch-own-turn : TouchedBy s (turn buffer)
       touch-own-turn = go (test-cases (sameSide s (turnSide (partOf k h))))
@@ -444,9 +448,19 @@ module _ (k : ℕ) (h : Held) where
         let i : senderOf (fromBerth + k) < berthCount = omega arith in
         let known : T (leb fromBerth (fromBerth + k) && ltb (fromBerth + k) (fromBerth + berthCount)) =
         yes-and (leb fromBerth (fromBerth + k)) (ltb (fromBerth + k) (fromBerth + berthCount)) (le→leb fromBerth (fromBerth + k) (omega arith)) (lt→ltb (fromBerth + k) (fromBerth + berthCount) (omega arith)) in
-        all-met (needs h (frame (fromBerth + k) d))
-        (range-in-order (h .node) (sound .order), (yes-eqb (sound .incoming), (known, (yes-leb l,
-        (yes-leb (frame-inside h (senderOf (fromBerth + k)) d i (sound .order)), tt)))))
+        all-met (needs h (frame (fromBerth + k) d)) (
+          range-in-order (h .node) (sound .order),
+          (
+            yes-eqb (sound .incoming),
+            (
+              known,
+              (
+                yes-leb l,
+                (yes-leb (frame-inside h (senderOf (fromBerth + k)) d i (sound .order)), tt),
+              ),
+            ),
+          ),
+        )
 
     own-carried : (d : List ℕ) → length d ≤ frameLength → own k h (frame (fromBerth + k) d) ≡ arrives d ∷ []
     unfolding ownDone
