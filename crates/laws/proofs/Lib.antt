@@ -7,3 +7,4 @@ pub mod Fairness
 pub mod Sides
 pub mod Touch
 pub mod Frames
+pub mod Line

@@ -1,0 +1,590 @@
+-- THE LINE'S LAW on the two sides and the frames on the way: the phases of a transfer, that every step leads from phase to phase, and
+-- what is left at rest. Each phase says what is still to be handed over, and how many steps are still to come at most.
+use mathlib.Core.Path.{_≡_, refl, sym, ap, ap₂, _∙_}
+use Prim.Native.Nat.{ℕ, zero, suc, _+_, _-_, _*_, _/_, _%_, _≤_, _<_, min}
+use native.Mathlib.Omega.{arith}
+use native.Mathlib.Nat.{zero-add}
+use mathlib.Core.Bool.{Bool, true, false, not, _&&_, _||_}
+use mathlib.Core.List.{List, [], _∷_, _++_, nil≢cons, head-eq-of-cons-eq, tail-eq-of-cons-eq, append-nil}
+use lib.ListN.{length, getD, take, drop}
+use lib.Seq.{sets, length-sets, length-take-le, append-snoc}
+use lib.Dec.{T, eqb, ltb, leb}
+use mir.Facts.{eqb-yes}
+use Rattle.rules.specs.Tests.{pick}
+use Rattle.rules.specs.Numbers.{timeout, singleKind, firstKind, consecutiveKind, flowKind, goStatus, frameLength, singleMost, firstBytes, consecutiveMost, leastLong, shortMost, longestGap, mostMillis, leastFraction, mostFraction, N-OK}
+use Rattle.rules.specs.Frames.{byteAt, kind, low, singleFits, announced, firstFits, consecutiveFits, flowFits, padded, goFrame, nextSn, firstSn, counted, fillsBlock, gapOf, share}
+use Rattle.rules.specs.Arrivals.{Heard, Told, Came, ignored, oldCode, singleCame, firstCame, taking, begun, missing, piece, grown, completed, afterTook, took, awaitedCame, consecutiveCame, granted, byStatus, flowCame, heardBy, toldBy, byKind, frameCame}
+use Rattle.rules.specs.Ticks.{ran, rxTicked, rxCode, closer, txTicked, txCode}
+use Rattle.rules.specs.Turns.{flowDue, messageDue, flowFrame, newBlock, afterFlow, toGo, messageFrame, messageCode, opened, moved, afterConsecutive, afterMessage, beginsWith}
+use Rattle.rules.specs.Answers.{Side, receive, send, Report, reported, wordReports}
+use Rattle.rules.specs.Alone.{hears}
+use Rattle.rules.specs.declared.Settings.{Settings}
+use Rattle.rules.specs.declared.Sn.{Sn}
+use Rattle.rules.specs.declared.Taking.{Taking}
+use Rattle.rules.specs.declared.Sending.{Sending}
+use Rattle.rules.specs.declared.Rx.{Rx}
+use Rattle.rules.specs.declared.Tx.{Tx}
+use Rattle.rules.specs.declared.Berth.{Berth}
+use Rattle.rules.specs.declared.Word.{Word}
+use Rattle.rules.specs.declared.Word.the-variants.{Delivered, Begun, Failed, Ignored, TooLong, Took, Going, Waiting}
+use Rattle.rules.proofs.Cases.{Tested, holds, fails, eqb-cases, ltb-cases, leb-cases, eqb-is, eqb-not, leb-is, leb-not, ltb-is, ltb-not, is-true, pick-either, tests}
+use Rattle.rules.proofs.Order.{fills-cases}
+use Rattle.laws.specs.Line.{Handed, there, back, deliveredIn, gapLeft, inBlocks, exchanged}
+use Rattle.laws.proofs.Frames.{padded-length, extended, fills-no, fills-yes, counted-on, snAt, posAt, sn-next, partAt, frameAt, span, span-snoc, singleOf, firstOf, frame-length, frame-kind, frame-low, frame-data, grows, single-length, single-low, single-kind, single-data, single-fits, first-length, first-kind, first-data, first-announced, first-fits, frames-single, frames-long}
+
+-- the sender's side, the taker's side with its area, and the line between them
+pub record Line : Type 0 where
+  pub tx : Tx
+  pub toR : List (List ℕ)
+  pub toS : List (List ℕ)
+  pub log : List Handed
+  pub said : List Report
+  pub rx : Rx
+  pub last : ℕ
+  pub ina : List ℕ
+  pub heard : List Report
+  pub delivered : List ℕ
+
+-- the send side stands before its frame k: the bytes before it have gone, and there are more
+pub record SendAt (n : ℕ) (o : Sending) (k : ℕ) : Type 0 where
+  pub length : o .length ≡ n
+  pub position : o .position ≡ posAt k
+  pub sn : o .sn ≡ snAt k
+  pub more : posAt k < n
+
+-- the receive side waits for frame k: the bytes before it are there, and more are missing
+pub record TakeAt (n : ℕ) (out : List ℕ) (p : Taking) (k : ℕ) (ina : List ℕ) : Type 0 where
+  pub total : p .total ≡ n
+  pub got : p .got ≡ posAt k
+  pub sn : p .sn ≡ snAt k
+  pub more : posAt k < n
+  pub fits : n ≤ length ina
+  pub same : take (posAt k) ina ≡ take (posAt k) out
+
+-- from frame k on there are l frames and one, the last
+pub record Ahead (n k l : ℕ) : Type 0 where
+  pub more : posAt (k + l) < n
+  pub last : n ≤ posAt (k + suc l)
+
+-- a bound of the steps from one frame to the next: the gap, and what else is to be done
+abbrev pub pace : ℕ
+pace = longestGap + 10
+
+module _ (i j : ℕ) (set : Settings) (n : ℕ) (out : List ℕ) (E : List Handed) where
+  -- neither side has reported yet; the sender has; both have
+  abbrev pub under-way : Tx → List (List ℕ) → List (List ℕ) → List Handed → Rx → ℕ → List ℕ → Line
+  under-way tx toR toS log rx last ina =
+      record { tx = tx; toR = toR; toS = toS; log = log; said = []; rx = rx; last = last; ina = ina; heard = []; delivered = [] }
+
+  abbrev pub all-sent : List (List ℕ) → List Handed → Rx → ℕ → List ℕ → Line
+  all-sent toR log rx last ina =
+      record {
+        tx = Tx.Idle;
+        toR = toR;
+        toS = [];
+        log = log;
+        said = reported i send N-OK;
+        rx = rx;
+        last = last;
+        ina = ina;
+        heard = [];
+        delivered = [];
+      }
+
+  abbrev pub all-there : List Handed → List ℕ → Line
+  all-there log ina =
+      record {
+        tx = Tx.Idle;
+        toR = [];
+        toS = [];
+        log = log;
+        said = reported i send N-OK;
+        rx = Rx.Idle;
+        last = n;
+        ina = ina;
+        heard = reported j receive N-OK;
+        delivered = n ∷ [];
+      }
+
+  -- what is still to be handed over from frame k on, with so many frames of the block gone
+  abbrev rest : ℕ → ℕ → ℕ → List Handed
+  rest count k l = inBlocks set count (span n out (suc l) k)
+
+  -- the phases of a transfer, and a bound of the steps to come
+  pub data Phase : Line → ℕ → Type 0 where
+    single-ready : (t last : ℕ) (ina : List ℕ) → n ≤ singleMost → n ≤ length ina → there (singleOf n out) ∷ [] ≡ E
+        → Phase (under-way (Tx.SingleDue n t) [] [] [] Rx.Idle last ina) 2
+    single-sent : (last : ℕ) (ina : List ℕ) (g : List Handed) → n ≤ singleMost → n ≤ length ina → g ≡ E
+        → Phase (all-sent (singleOf n out ∷ []) g Rx.Idle last ina) 1
+    first-ready : (t last : ℕ) (ina : List ℕ) (l : ℕ) → leastLong ≤ n → n ≤ length ina → Ahead n 0 l
+        → there (firstOf n out) ∷ back (goFrame set) ∷ rest 0 0 l ≡ E
+        → Phase (under-way (Tx.FirstDue n t) [] [] [] Rx.Idle last ina) (pace * suc l + 4)
+    first-sent : (o : Sending) (t last : ℕ) (ina : List ℕ) (l : ℕ) (g : List Handed) → leastLong ≤ n → n ≤ length ina → SendAt n o 0
+        → Ahead n 0 l → g ++ (back (goFrame set) ∷ rest 0 0 l) ≡ E
+        → Phase (under-way (Tx.AwaitsFlow o t) (firstOf n out ∷ []) [] g Rx.Idle last ina) (pace * suc l + 3)
+    go-owed : (o : Sending) (t : ℕ) (p : Taking) (u last : ℕ) (ina : List ℕ) (k l : ℕ) (g : List Handed) → SendAt n o k → TakeAt n out p k ina
+        → Ahead n k l → g ++ (back (goFrame set) ∷ rest 0 k l) ≡ E
+        → Phase (under-way (Tx.AwaitsFlow o t) [] [] g (Rx.OwesGo p u) last ina) (pace * suc l + 2)
+    go-sent : (o : Sending) (t : ℕ) (p : Taking) (u last : ℕ) (ina : List ℕ) (k l : ℕ) (g : List Handed) → SendAt n o k → TakeAt n out p k ina
+        → p .taken ≡ 0 → Ahead n k l → g ++ rest 0 k l ≡ E
+        → Phase (under-way (Tx.AwaitsFlow o t) [] (goFrame set ∷ []) g (Rx.Awaits p u) last ina) (pace * suc l + 1)
+    -- c frames are on the way, and the block is not full
+    in-block : (o : Sending) (t : ℕ) (q : List (List ℕ)) (p : Taking) (u last : ℕ) (ina : List ℕ) (k c l : ℕ) (g : List Handed)
+        → q ≡ span n out c k → SendAt n o (k + c) → TakeAt n out p k ina → o .block ≡ set .block
+        → (0 < set .block → (o .sent ≡ p .taken + c) × (o .sent < set .block)) → o .gap ≤ longestGap → o .left ≤ longestGap
+        → Ahead n (k + c) l → g ++ rest (o .sent) (k + c) l ≡ E
+        → Phase (under-way (Tx.Consecutive o t) q [] g (Rx.Awaits p u) last ina) (pace * suc l + (o .left + c))
+    -- the last c frames and one of a full block are on the way
+    block-full : (o : Sending) (t : ℕ) (q : List (List ℕ)) (p : Taking) (u last : ℕ) (ina : List ℕ) (k c l : ℕ) (g : List Handed)
+        → q ≡ span n out (suc c) k → SendAt n o (k + suc c) → TakeAt n out p k ina → 0 < set .block → p .taken + suc c ≡ set .block
+        → Ahead n (k + suc c) l → g ++ (back (goFrame set) ∷ rest 0 (k + suc c) l) ≡ E
+        → Phase (under-way (Tx.AwaitsFlow o t) q [] g (Rx.Awaits p u) last ina) (pace * suc l + (3 + c))
+    -- the last c frames and one of the message are on the way
+    last-sent : (q : List (List ℕ)) (p : Taking) (u last : ℕ) (ina : List ℕ) (k c : ℕ) (g : List Handed)
+        → q ≡ span n out (suc c) k → Ahead n k c → TakeAt n out p k ina → (0 < set .block → p .taken + suc c ≤ set .block) → g ≡ E
+        → Phase (all-sent q g (Rx.Awaits p u) last ina) (suc c)
+    arrived : (ina : List ℕ) (g : List Handed) → take n ina ≡ take n out → g ≡ E → Phase (all-there g ina) 0
+
+  -- a phase with fewer steps to come
+  abbrev pub Nearer : ℕ → Line → Type 0
+  Nearer m l = (m′ : ℕ) × (m′ < m) × Phase l m′
+
+  -- and one with at most as many
+  abbrev pub NoFarther : ℕ → Line → Type 0
+  NoFarther m l = (m′ : ℕ) × (m′ ≤ m) × Phase l m′
+
+  nearer : {l : Line} {m m′ : ℕ} → Phase l m′ → m′ < m → Nearer m l
+  nearer {m′ = m′} ph h = (m′, h, ph)
+
+  stays : {l : Line} {m : ℕ} → Phase l m → NoFarther m l
+  stays {m = m} ph = (m, omega arith, ph)
+
+  -- ---- the steps
+
+  -- a frame of the message is handed over
+  abbrev pub handS : Line → Line
+  handS l =
+      record {
+        tx = afterMessage (l .tx);
+        toR = l .toR ++ (messageFrame (l .tx) out ∷ []);
+        toS = l .toS;
+        log = l .log ++ (there (messageFrame (l .tx) out) ∷ []);
+        said = l .said ++ reported i send (messageCode (l .tx));
+        rx = l .rx;
+        last = l .last;
+        ina = l .ina;
+        heard = l .heard;
+        delivered = l .delivered;
+      }
+
+  -- flow control is handed over
+  abbrev pub handR : Line → Line
+  handR l =
+      record {
+        tx = l .tx;
+        toR = l .toR;
+        toS = l .toS ++ (flowFrame set (l .rx) ∷ []);
+        log = l .log ++ (back (flowFrame set (l .rx)) ∷ []);
+        said = l .said;
+        rx = afterFlow (l .rx);
+        last = l .last;
+        ina = l .ina;
+        heard = l .heard;
+        delivered = l .delivered;
+      }
+
+  -- ticks that end no timer
+  abbrev pub tickS : Line → Line
+  tickS l =
+      record {
+        tx = txTicked (l .tx);
+        toR = l .toR;
+        toS = l .toS;
+        log = l .log;
+        said = l .said;
+        rx = l .rx;
+        last = l .last;
+        ina = l .ina;
+        heard = l .heard;
+        delivered = l .delivered;
+      }
+
+  abbrev pub tickR : Line → Line
+  tickR l =
+      record {
+        tx = l .tx;
+        toR = l .toR;
+        toS = l .toS;
+        log = l .log;
+        said = l .said;
+        rx = rxTicked (l .rx);
+        last = l .last;
+        ina = l .ina;
+        heard = l .heard;
+        delivered = l .delivered;
+      }
+
+  -- a frame comes in at the receive side, or at the send side, and leaves the queue q
+  unfoldable pub tookR : Line → List (List ℕ) → Came → Line
+  tookR l q c =
+      record {
+        tx = l .tx;
+        toR = q;
+        toS = l .toS;
+        log = l .log;
+        said = l .said;
+        rx = c .berth .rx;
+        last = c .berth .last;
+        ina = sets (l .ina) (c .place) (c .bytes);
+        heard = l .heard ++ (reported j receive (c .old) ++ wordReports j (c .word));
+        delivered = l .delivered ++ deliveredIn (hears (c .old) (c .word));
+      }
+
+  abbrev pub receiving : Line → Berth
+  receiving l = record { rx = l .rx; last = l .last; tx = Tx.Idle }
+
+  unfoldable pub tookS : Line → List (List ℕ) → Came → Line
+  tookS l q c =
+      record {
+        tx = c .berth .tx;
+        toR = l .toR;
+        toS = q;
+        log = l .log;
+        said = l .said ++ (reported i receive (c .old) ++ wordReports i (c .word));
+        rx = l .rx;
+        last = l .last;
+        ina = l .ina;
+        heard = l .heard;
+        delivered = l .delivered;
+      }
+
+  abbrev pub sending : Line → Berth
+  sending l = record { rx = Rx.Idle; last = 0; tx = l .tx }
+
+  -- ---- ticks
+
+  -- a timer that does not end its side
+  ran-short : (t c : ℕ) → ran t (λ u. 0) (suc c) ≡ 0 → ltb (t + 1) timeout ≡ true
+  unfolding ran
+  ran-short t c k = go (ltb-cases (t + 1) timeout) k
+    where
+      go : Tested (ltb (t + 1) timeout) (t + 1 < timeout) (timeout ≤ t + 1) → pick (ltb (t + 1) timeout) 0 (suc c) ≡ 0 → ltb (t + 1) timeout ≡ true
+      go (holds e h) k = e
+      go (fails e h) k = let z : suc c ≡ 0 = rw e at k in absurd (omega arith)
+
+  ran-on {ℓ} : {X : Type ℓ} (on : ℕ → X) (ended : X) (t c : ℕ) → ran t (λ u. 0) (suc c) ≡ 0 → ran t on ended ≡ on (t + 1)
+  unfolding ran
+  ran-on on ended t c k = rw (ran-short t c k)
+
+  closer-at : (o : Sending) (k : ℕ) → SendAt n o k → SendAt n (closer o) k
+  unfolding closer
+  closer-at o k s = record { length = s .length; position = s .position; sn = s .sn; more = s .more }
+
+  gap-falls : (o : Sending) → closer o .left ≡ o .left - 1
+  unfolding closer
+  gap-falls o = refl
+
+  pub ticks-S : (l : Line) (m : ℕ) → txCode (l .tx) ≡ 0 → Phase l m → NoFarther m (tickS l)
+  unfolding txTicked txCode
+  ticks-S l m k (single-ready t last ina a b e) = rw (ran-on (λ u. Tx.SingleDue n u) Tx.Idle t 1 k) (stays (single-ready (t + 1) last ina a b e))
+  ticks-S l m k (single-sent last ina g a b e) = (stays (single-sent last ina g a b e))
+  ticks-S l m k (first-ready t last ina h a b c e) = rw (ran-on (λ u. Tx.FirstDue n u) Tx.Idle t 1 k) (stays (first-ready (t + 1) last ina h a b c e))
+  ticks-S l m k (first-sent o t last ina h g a b c d e) =
+      rw (ran-on (λ u. Tx.AwaitsFlow o u) Tx.Idle t 2 k) (stays (first-sent o (t + 1) last ina h g a b c d e))
+  ticks-S l m k (go-owed o t p u last ina f h g a b c e) =
+      rw (ran-on (λ v. Tx.AwaitsFlow o v) Tx.Idle t 2 k) (stays (go-owed o (t + 1) p u last ina f h g a b c e))
+  ticks-S l m k (go-sent o t p u last ina f h g a b c d e) =
+      rw (ran-on (λ v. Tx.AwaitsFlow o v) Tx.Idle t 2 k) (stays (go-sent o (t + 1) p u last ina f h g a b c d e))
+  ticks-S l m k (in-block o t q p u last ina f c h g a b d e x y z v w) = go (eqb-cases (o .left) 0)
+    where
+      closing : {l : Line} → Phase l (pace * suc h + (closer o .left + c)) → NoFarther (pace * suc h + (o .left + c)) l
+      closing ph = (pace * suc h + (closer o .left + c), omega (arith, gap-falls o), ph)
+
+      go : Tested (eqb (o .left) 0) (o .left ≡ 0) (o .left ≡ 0 → ⊥)
+          → NoFarther (pace * suc h + (o .left + c)) (tickS (under-way (Tx.Consecutive o t) q [] g (Rx.Awaits p u) last ina))
+      go (holds r s) =
+          rw (r, ran-on (λ v. Tx.Consecutive o v) Tx.Idle t 1 (rw r at k))
+          (stays (in-block o (t + 1) q p u last ina f c h g a b d e x y z v w))
+      go (fails r s) =
+          rw r (closing (in-block (closer o) t q p u last ina f c h g a (closer-at o (f + c) b) d (unfold closer in e) (unfold closer in x) (unfold closer in y) (unfold closer in (omega arith)) v (unfold closer in w)))
+  ticks-S l m k (block-full o t q p u last ina f c h g a b d e x v w) =
+      rw (ran-on (λ v. Tx.AwaitsFlow o v) Tx.Idle t 2 k) (stays (block-full o (t + 1) q p u last ina f c h g a b d e x v w))
+  ticks-S l m k (last-sent q p u last ina f c g a b d e x) = (stays (last-sent q p u last ina f c g a b d e x))
+  ticks-S l m k (arrived ina g a e) = (stays (arrived ina g a e))
+
+  pub ticks-R : (l : Line) (m : ℕ) → rxCode (l .rx) ≡ 0 → Phase l m → NoFarther m (tickR l)
+  unfolding rxTicked rxCode
+  ticks-R l m k (single-ready t last ina a b e) = (stays (single-ready t last ina a b e))
+  ticks-R l m k (single-sent last ina g a b e) = (stays (single-sent last ina g a b e))
+  ticks-R l m k (first-ready t last ina h a b c e) = (stays (first-ready t last ina h a b c e))
+  ticks-R l m k (first-sent o t last ina h g a b c d e) = (stays (first-sent o t last ina h g a b c d e))
+  ticks-R l m k (go-owed o t p u last ina f h g a b c e) =
+      rw (ran-on (λ v. Rx.OwesGo p v) Rx.Idle u 1 k) (stays (go-owed o t p (u + 1) last ina f h g a b c e))
+  ticks-R l m k (go-sent o t p u last ina f h g a b c d e) =
+      rw (ran-on (λ v. Rx.Awaits p v) Rx.Idle u 3 k) (stays (go-sent o t p (u + 1) last ina f h g a b c d e))
+  ticks-R l m k (in-block o t q p u last ina f c h g a b d e x y z v w) =
+      rw (ran-on (λ v. Rx.Awaits p v) Rx.Idle u 3 k) (stays (in-block o t q p (u + 1) last ina f c h g a b d e x y z v w))
+  ticks-R l m k (block-full o t q p u last ina f c h g a b d e x v w) =
+      rw (ran-on (λ v. Rx.Awaits p v) Rx.Idle u 3 k) (stays (block-full o t q p (u + 1) last ina f c h g a b d e x v w))
+  ticks-R l m k (last-sent q p u last ina f c g a b d e x) =
+      rw (ran-on (λ v. Rx.Awaits p v) Rx.Idle u 3 k) (stays (last-sent q p (u + 1) last ina f c g a b d e x))
+  ticks-R l m k (arrived ina g a e) = (stays (arrived ina g a e))
+
+  -- ---- a frame of the message is handed over
+
+  frame-of : (o : Sending) (t k : ℕ) → SendAt n o k → messageFrame (Tx.Consecutive o t) out ≡ frameAt n out k
+  unfolding messageFrame frameAt partAt toGo
+  frame-of o t k s = rw (s .length, s .position, s .sn)
+
+  to-go : (o : Sending) (k : ℕ) → SendAt n o k → toGo o ≡ n - posAt k
+  unfolding toGo
+  to-go o k s = ap₂ (λ (a b : ℕ). a - b) (s .length) (s .position)
+
+  sent-on : (o : Sending) (k k′ count left : ℕ) → SendAt n o k → k′ ≡ k + 1 → posAt k′ < n → SendAt n (moved o count left) k′
+  unfolding moved toGo share posAt
+  sent-on o k k′ count left s e m =
+      record { length = s .length; position = omega (arith, s .position, s .length, m, e); sn = ap nextSn (s .sn) ∙ sn-next k ∙ ap snAt (sym e); more = m }
+
+  -- what is left after a frame that is not the last
+  after-frame : (count k k′ l : ℕ) → k′ ≡ suc k
+      → rest count k (suc l)
+      ≡ there (frameAt n out k) ∷ pick (fillsBlock (set .block) count) (back (goFrame set) ∷ rest 0 k′ l) (rest (counted (set .block) count) k′ l)
+  unfolding span inBlocks
+  after-frame count k k′ l e = rw e
+
+  hand-on : (o : Sending) (t : ℕ) (q : List (List ℕ)) (p : Taking) (u last : ℕ) (ina : List ℕ) (k c l : ℕ) (g : List Handed)
+      → q ≡ span n out c k → SendAt n o (k + c) → TakeAt n out p k ina → o .block ≡ set .block
+      → (0 < set .block → (o .sent ≡ p .taken + c) × (o .sent < set .block)) → o .gap ≤ longestGap → o .left ≤ longestGap
+      → Ahead n (k + c) l → g ++ rest (o .sent) (k + c) l ≡ E
+      → Nearer (pace * suc l + (o .left + c)) (handS (under-way (Tx.Consecutive o t) q [] g (Rx.Awaits p u) last ina))
+  unfolding afterMessage afterConsecutive messageCode reported moved
+  hand-on o t q p u last ina k c zero g e s r b f gap left a w =
+      let d : leb (toGo o) consecutiveMost ≡ true = leb-is (toGo o) consecutiveMost (unfold posAt in (omega (arith, to-go o (k + c) s, a .last))) in
+      let queue : q ++ (messageFrame (Tx.Consecutive o t) out ∷ []) ≡ span n out (suc c) k =
+      ap₂ (λ (x : List (List ℕ)) (y : List ℕ). x ++ (y ∷ [])) e (frame-of o t (k + c) s) ∙ sym (span-snoc n out c k) in
+      let log : g ++ (there (messageFrame (Tx.Consecutive o t) out) ∷ []) ≡ E =
+      ap (λ (y : List ℕ). g ++ (there y ∷ [])) (frame-of o t (k + c) s) ∙ unfold inBlocks span in w in
+      rw d (nearer (last-sent _ p u last ina k c _ queue (record { more = s .more; last = unfold posAt in (omega (arith, a .last)) }) r
+      (λ h. let (x, y) = f h in omega arith) log) (omega arith))
+  hand-on o t q p u last ina k c (suc l) g e s r b f gap left a w = go (fills-cases (o .block) (o .sent))
+    where
+      next : k + suc c ≡ suc (k + c)
+      next = omega arith
+
+      more : posAt (k + suc c) < n
+      more = unfold posAt in (omega (arith, a .more))
+
+      long : leb (toGo o) consecutiveMost ≡ false
+      long = leb-not (toGo o) consecutiveMost (unfold posAt in (omega (arith, to-go o (k + c) s, a .more)))
+
+      queue : q ++ (messageFrame (Tx.Consecutive o t) out ∷ []) ≡ span n out (suc c) k
+      queue = ap₂ (λ (x : List (List ℕ)) (y : List ℕ). x ++ (y ∷ [])) e (frame-of o t (k + c) s) ∙ sym (span-snoc n out c k)
+
+      ahead : Ahead n (k + suc c) l
+      ahead = record { more = unfold posAt in (omega (arith, a .more)); last = unfold posAt in (omega (arith, a .last)) }
+
+      log : (b : Bool) → fillsBlock (o .block) (o .sent) ≡ b
+          → (g ++ (there (messageFrame (Tx.Consecutive o t) out) ∷ []))
+          ++ pick b (back (goFrame set) ∷ rest 0 (k + suc c) l) (rest (counted (o .block) (o .sent)) (k + suc c) l)
+          ≡ E
+      log x y =
+          append-snoc g (there (messageFrame (Tx.Consecutive o t) out)) _
+          ∙ ap₂ (λ (z : List ℕ) (v : List Handed). g ++ there z ∷ v) (frame-of o t (k + c) s)
+          (ap₂ (λ (z : ℕ) (v : Bool). pick v (back (goFrame set) ∷ rest 0 (k + suc c) l) (rest (counted z (o .sent)) (k + suc c) l)) b (sym y ∙ ap (λ (z : ℕ). fillsBlock z (o .sent)) b))
+          ∙ ap (λ (v : List Handed). g ++ v) (sym (after-frame (o .sent) (k + c) (k + suc c) l next))
+          ∙ w
+
+      go : Tested (fillsBlock (o .block) (o .sent)) ((0 < o .block) × (o .sent + 1 ≡ o .block)) (0 < o .block → o .sent + 1 ≡ o .block → ⊥)
+          → Nearer (pace * suc (suc l) + (o .left + c)) (handS (under-way (Tx.Consecutive o t) q [] g (Rx.Awaits p u) last ina))
+      go (holds d x) =
+          let (y, z) = f (omega (arith, x .0, b)) in
+          rw (long, d) (nearer (block-full (moved o 0 0) 0 _ p u last ina k c l _ queue (sent-on o (k + c) (k + suc c) 0 0 s (omega arith) more) r
+          (omega (arith, x .0, b)) (omega (arith, x .1, b)) ahead (log true d)) (omega arith))
+      go (fails d x) =
+          rw (long, d) (nearer (in-block (moved o (counted (o .block) (o .sent)) (o .gap)) 0 _ p u last ina k (suc c) l _ queue
+          (sent-on o (k + c) (k + suc c) (counted (o .block) (o .sent)) (o .gap) s (omega arith) more) r b
+          counts gap gap ahead (log false d)) (omega arith))
+        where
+          counts : 0 < set .block → (counted (o .block) (o .sent) ≡ p .taken + suc c) × (counted (o .block) (o .sent) < set .block)
+          counts h =
+              let (y, z) = f h in
+              let v : 0 < o .block = omega (arith, b) in
+              let ne : o .sent + 1 ≡ o .block → ⊥ = x v in
+              (omega (arith, counted-on (o .block) (o .sent) v), omega (arith, counted-on (o .block) (o .sent) v, b))
+
+  open-at : leastLong ≤ n → SendAt n (opened n) 0
+  unfolding opened posAt snAt
+  open-at h = record { length = refl; position = refl; sn = refl; more = omega arith }
+
+  pub hands-S : (l : Line) (m : ℕ) → T (messageDue (l .tx)) → Phase l m → Nearer m (handS l)
+  unfolding messageDue
+  hands-S l m t (single-ready u last ina a b e) =
+      unfold afterMessage messageFrame messageCode singleOf in (nearer (single-sent last ina _ a b e) (omega arith))
+  hands-S l m t (single-sent last ina g a b e) = absurd t
+  hands-S l m t (first-ready u last ina h a b c e) =
+      unfold afterMessage messageFrame messageCode reported firstOf in (nearer (first-sent (opened n) 0 last ina h _ a b (open-at a) c e) (omega arith))
+  hands-S l m t (first-sent o u last ina h g a b c d e) = absurd t
+  hands-S l m t (go-owed o u p v last ina f h g a b c e) = absurd t
+  hands-S l m t (go-sent o u p v last ina f h g a b c d e) = absurd t
+  hands-S l m t (in-block o u q p v last ina f c h g a b d e x y z s w) = hand-on o u q p v last ina f c h g a b d e x y z s w
+  hands-S l m t (block-full o u q p v last ina f c h g a b d e x s w) = absurd t
+  hands-S l m t (last-sent q p u last ina f c g a b d e x) = absurd t
+  hands-S l m t (arrived ina g a e) = absurd t
+
+  -- ---- flow control is handed over
+
+  new-block-at : (p : Taking) (k : ℕ) (ina : List ℕ) → TakeAt n out p k ina → TakeAt n out (newBlock p) k ina
+  unfolding newBlock
+  new-block-at p k ina r = record { total = r .total; got = r .got; sn = r .sn; more = r .more; fits = r .fits; same = r .same }
+
+  pub hands-R : (l : Line) (m : ℕ) → T (flowDue (l .rx)) → Phase l m → Nearer m (handR l)
+  unfolding flowDue
+  hands-R l m t (single-ready u last ina a b e) = absurd t
+  hands-R l m t (single-sent last ina g a b e) = absurd t
+  hands-R l m t (first-ready u last ina h a b c e) = absurd t
+  hands-R l m t (first-sent o u last ina h g a b c d e) = absurd t
+  hands-R l m t (go-owed o u p v last ina f h g a b c e) =
+      unfold flowFrame afterFlow in (nearer (go-sent o u (newBlock p) 0 last ina f h _ a (new-block-at p f ina b) (unfold newBlock in refl) c
+      (append-snoc g (back (goFrame set)) (rest 0 f h) ∙ e)) (omega arith))
+  hands-R l m t (go-sent o u p v last ina f h g a b c d e) = absurd t
+  hands-R l m t (in-block o u q p v last ina f c h g a b d e x y z s w) = absurd t
+  hands-R l m t (block-full o u q p v last ina f c h g a b d e x s w) = absurd t
+  hands-R l m t (last-sent q p u last ina f c g a b d e x) = absurd t
+  hands-R l m t (arrived ina g a e) = absurd t
+
+  -- ---- flow control comes in
+
+  gap-small : (stmin : ℕ) → gapOf stmin ≤ longestGap
+  unfolding gapOf
+  gap-small stmin =
+      pick-either (λ (k : ℕ). k ≤ longestGap) (leb stmin mostMillis) _ _ (λ t. omega tests)
+      (λ t. pick-either (λ (k : ℕ). k ≤ longestGap) (leb leastFraction stmin && leb stmin mostFraction) _ _ (λ u. omega arith) (λ u. omega arith))
+
+  granted-at : (o : Sending) (d : List ℕ) (k k′ : ℕ) → SendAt n o k → k′ ≡ k → SendAt n (granted o d) k′
+  unfolding granted
+  granted-at o d k k′ s e = rw e (record { length = s .length; position = s .position; sn = s .sn; more = s .more })
+
+  went : (setS : Settings) (o : Sending) (t : ℕ)
+      → frameCame setS (record { rx = Rx.Idle; last = 0; tx = Tx.AwaitsFlow o t }) (goFrame set)
+      ≡ record {
+        berth = record { rx = Rx.Idle; last = 0; tx = Tx.Consecutive (granted o (goFrame set)) 0 };
+        old = 0;
+        word = Going;
+        place = 0;
+        bytes = [];
+      }
+  unfolding frameCame byKind toldBy flowCame flowFits byStatus kind low goFrame padded
+  went setS o t = refl
+
+  no-shift : (f : ℕ) → f + 0 ≡ f
+  no-shift f = omega arith
+
+  granted-go : (o : Sending) → (granted o (goFrame set) .block ≡ set .block) × (granted o (goFrame set) .gap ≡ gapOf (set .stmin)) × (granted o (goFrame set) .sent ≡ 0) × (granted o (goFrame set) .left ≡ 0)
+  unfolding granted goFrame padded
+  granted-go o = (refl, refl, refl, refl)
+
+  take-go : (setS : Settings) (o : Sending) (t : ℕ) (p : Taking) (u last : ℕ) (ina : List ℕ) (k l : ℕ) (g : List Handed) → SendAt n o k
+      → TakeAt n out p k ina → p .taken ≡ 0 → Ahead n k l → g ++ rest 0 k l ≡ E
+      → (line : Line) → line ≡ under-way (Tx.AwaitsFlow o t) [] (goFrame set ∷ []) g (Rx.Awaits p u) last ina
+      → Nearer (pace * suc l + 1) (tookS line [] (frameCame setS (sending line) (goFrame set)))
+  unfolding tookS reported wordReports
+  take-go setS o t p u last ina k l g s r z a w line e =
+      let (x, y, v, left) = granted-go o in
+      let gap : granted o (goFrame set) .gap ≤ longestGap = omega (arith, gap-small (set .stmin)) in
+      rw (e, went setS o t)
+      (nearer (in-block (granted o (goFrame set)) 0 [] p u last ina k 0 l g (unfold span in refl) (granted-at o (goFrame set) k (k + 0) s (no-shift k)) r x
+      (λ h. (omega arith, omega arith)) gap (omega arith)
+      (rw (no-shift k) a) (rw (v, no-shift k) w)) (omega arith))
+
+  pub carries-S : (setS : Settings) (l : Line) (m : ℕ) (d : List ℕ) (q : List (List ℕ)) → l .toS ≡ d ∷ q → Phase l m
+      → Nearer m (tookS l q (frameCame setS (sending l) d))
+  carries-S setS l m d q z (single-ready t last ina a b e) = absurd (nil≢cons z)
+  carries-S setS l m d q z (single-sent last ina g a b e) = absurd (nil≢cons z)
+  carries-S setS l m d q z (first-ready t last ina h a b c e) = absurd (nil≢cons z)
+  carries-S setS l m d q z (first-sent o t last ina h g a b c x e) = absurd (nil≢cons z)
+  carries-S setS l m d q z (go-owed o t p u last ina f h g a b c e) = absurd (nil≢cons z)
+  carries-S setS l m d q z (go-sent o t p u last ina f h g a b c x e) =
+      rw (← (head-eq-of-cons-eq z), ← (tail-eq-of-cons-eq z)) (take-go setS o t p u last ina f h g a b c x e _ refl)
+  carries-S setS l m d q z (in-block o t r p u last ina f c h g a b x e y v w k s) = absurd (nil≢cons z)
+  carries-S setS l m d q z (block-full o t r p u last ina f c h g a b x e y k s) = absurd (nil≢cons z)
+  carries-S setS l m d q z (last-sent r p u last ina f c g a b x e y) = absurd (nil≢cons z)
+  carries-S setS l m d q z (arrived ina g a e) = absurd (nil≢cons z)
+
+  -- ---- a frame of the message comes in
+
+  module _ (fit : n ≤ length out) where
+    missing-at : (p : Taking) (k : ℕ) (ina : List ℕ) → TakeAt n out p k ina → missing p ≡ n - posAt k
+    unfolding missing
+    missing-at p k ina r = ap₂ (λ (a b : ℕ). a - b) (r .total) (r .got)
+
+    piece-at : (p : Taking) (k : ℕ) (ina : List ℕ) → TakeAt n out p k ina → piece p (frameAt n out k) ≡ partAt n out k
+    unfolding piece
+    piece-at p k ina r =
+        ap (λ (m : ℕ). take (share consecutiveMost m) (drop 1 (frameAt n out k))) (missing-at p k ina r) ∙ frame-data n out fit k
+
+    -- the right frame at the right time
+    heard-right : (p : Taking) (u last : ℕ) (ina : List ℕ) (k : ℕ) → TakeAt n out p k ina
+        → frameCame set (record { rx = Rx.Awaits p u; last = last; tx = Tx.Idle }) (frameAt n out k)
+        ≡ heardBy (record { rx = Rx.Awaits p u; last = last; tx = Tx.Idle })
+        (pick (leb (missing p) consecutiveMost) (completed p (frameAt n out k)) (took set p last (frameAt n out k)))
+    unfolding frameCame byKind consecutiveCame awaitedCame consecutiveFits
+    heard-right p u last ina k r =
+        rw (frame-length n out fit k, frame-kind n out fit k, eqb-is (low (frameAt n out k)) (p .sn .0) (frame-low n out fit k ∙ sym (ap (λ (x : Sn). x .0) (r .sn))))
+
+    -- one more frame is there, and it was not the last
+    take-on : (p : Taking) (k count : ℕ) (ina : List ℕ) → TakeAt n out p k ina → posAt (suc k) < n
+        → TakeAt n out (grown p count) (suc k) (sets ina (posAt k) (partAt n out k))
+    unfolding grown
+    take-on p k count ina r m =
+        let e : posAt k + share consecutiveMost (n - posAt k) ≡ posAt (suc k) = unfold posAt share in (omega (arith, m)) in
+        let f : nextSn (p .sn) ≡ snAt (suc k) = ap nextSn (r .sn) ∙ sn-next k ∙ ap snAt (one-more k) in
+        record {
+          total = r .total;
+          got = ap₂ (λ (a b : ℕ). a + share consecutiveMost b) (r .got) (missing-at p k ina r) ∙ e;
+          sn = f;
+          more = m;
+          fits = rw length-sets (r .fits);
+          same = rw e at (grows n out fit ina k (r .fits) (omega (arith, r .more)) (r .same));
+        }
+      where
+        one-more : (k : ℕ) → k + 1 ≡ suc k
+        one-more k = omega arith
+
+    -- the line after a frame that was not the last, and after the last
+    took-more : (l : Line) (q : List (List ℕ)) (p : Taking) (u k : ℕ) → l .rx ≡ Rx.Awaits p u → TakeAt n out p k (l .ina) → posAt (suc k) < n
+        → tookR l q (frameCame set (receiving l) (frameAt n out k))
+        ≡ record {
+          tx = l .tx;
+          toR = q;
+          toS = l .toS;
+          log = l .log;
+          said = l .said;
+          rx = pick (fillsBlock (set .block) (p .taken)) (Rx.OwesGo (grown p 0) 0) (Rx.Awaits (grown p (counted (set .block) (p .taken))) 0);
+          last = l .last;
+          ina = sets (l .ina) (posAt k) (partAt n out k);
+          heard = l .heard ++ [];
+          delivered = l .delivered ++ [];
+        }
+    unfolding tookR heardBy took afterTook wordReports reported deliveredIn
+    took-more l q p u k e r m =
+        let g : leb (missing p) consecutiveMost ≡ false = leb-not (missing p) consecutiveMost (unfold posAt in (omega (arith, m, missing-at p k (l .ina) r))) in
+        rw (e, heard-right p u (l .last) (l .ina) k r, g, piece-at p k (l .ina) r, r .got)
+
+    took-last : (l : Line) (q : List (List ℕ)) (p : Taking) (u k : ℕ) → l .rx ≡ Rx.Awaits p u → TakeAt n out p k (l .ina) → n ≤ posAt (suc k)
+        → tookR l q (frameCame set (receiving l) (frameAt n out k))
+        ≡ record {
+          tx = l .tx;
+          toR = q;
+          toS = l .toS;
+          log = l .log;
+          said = l .said;
+          rx = Rx.Idle;
+          last = n;
+          ina = sets (l .ina) (posAt k) (partAt n out k);
+          heard = l .heard ++ reported j receive N-OK;
+          delivered = l .delivered ++ (n ∷ []);
+        }
+    unfolding tookR heardBy completed wordReports deliveredIn
+    took-last l q p u k e r m =
+        let g : leb (missing p) consecutiveMost ≡ true = leb-is (missing p) consecutiveMost (unfold posAt in (omega (arith, m, missing-at p k (l .ina) r))) in
+        rw (e, heard-right p u (l .last) (l .ina) k r, g, piece-at p k (l .ina) r, r .got, r .total) (unfold reported in refl)
