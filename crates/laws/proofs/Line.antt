@@ -588,3 +588,125 @@ module _ (i j : ℕ) (set : Settings) (n : ℕ) (out : List ℕ) (E : List Hande
     took-last l q p u k e r m =
         let g : leb (missing p) consecutiveMost ≡ true = leb-is (missing p) consecutiveMost (unfold posAt in (omega (arith, m, missing-at p k (l .ina) r))) in
         rw (e, heard-right p u (l .last) (l .ina) k r, g, piece-at p k (l .ina) r, r .got, r .total) (unfold reported in refl)
+
+    take-in-block : (o : Sending) (t : ℕ) (q : List (List ℕ)) (p : Taking) (u last : ℕ) (ina : List ℕ) (k c l : ℕ) (g : List Handed)
+        → SendAt n o (k + suc c) → TakeAt n out p k ina → o .block ≡ set .block
+        → (0 < set .block → (o .sent ≡ p .taken + suc c) × (o .sent < set .block)) → o .gap ≤ longestGap → o .left ≤ longestGap
+        → Ahead n (k + suc c) l → g ++ rest (o .sent) (k + suc c) l ≡ E
+        → (line : Line) → line ≡ under-way (Tx.Consecutive o t) q [] g (Rx.Awaits p u) last ina
+        → Nearer (pace * suc l + (o .left + suc c)) (tookR line (span n out c (suc k)) (frameCame set (receiving line) (frameAt n out k)))
+    take-in-block o t q p u last ina k c l g s r b f gap left a w line e =
+        let m : posAt (suc k) < n = unfold posAt in (omega (arith, s .more)) in
+        let no : fillsBlock (set .block) (p .taken) ≡ false = fills-no (set .block) (p .taken) (λ h. let (x, y) = f h in omega arith) in
+        let next : k + suc c ≡ suc k + c = omega arith in
+        rw e (rw (took-more (under-way (Tx.Consecutive o t) q [] g (Rx.Awaits p u) last ina) (span n out c (suc k)) p u k refl r m, no)
+        (nearer (in-block o t _ (grown p (counted (set .block) (p .taken))) 0 last _ (suc k) c l g refl (rw next at s) (take-on p k _ ina r m) b
+        (λ h. let (x, y) = f h in unfold grown in (omega (arith, counted-on (set .block) (p .taken) h))) gap left (rw next at a) (rw next at w))
+        (omega arith)))
+
+    take-block-full : (o : Sending) (t : ℕ) (q : List (List ℕ)) (p : Taking) (u last : ℕ) (ina : List ℕ) (k c l : ℕ) (g : List Handed)
+        → SendAt n o (k + suc c) → TakeAt n out p k ina → 0 < set .block → p .taken + suc c ≡ set .block
+        → Ahead n (k + suc c) l → g ++ (back (goFrame set) ∷ rest 0 (k + suc c) l) ≡ E
+        → (line : Line) → line ≡ under-way (Tx.AwaitsFlow o t) q [] g (Rx.Awaits p u) last ina
+        → Nearer (pace * suc l + (3 + c)) (tookR line (span n out c (suc k)) (frameCame set (receiving line) (frameAt n out k)))
+    unfolding span
+    take-block-full o t q p u last ina k zero l g s r b f a w line e =
+        let m : posAt (suc k) < n = unfold posAt in (omega (arith, s .more)) in
+        let yes : fillsBlock (set .block) (p .taken) ≡ true = fills-yes (set .block) (p .taken) b (omega arith) in
+        let next : k + 1 ≡ suc k = omega arith in
+        rw e (rw (took-more (under-way (Tx.AwaitsFlow o t) q [] g (Rx.Awaits p u) last ina) [] p u k refl r m, yes)
+        (nearer (go-owed o t (grown p 0) 0 last _ (suc k) l g (rw next at s) (take-on p k 0 ina r m) (rw next at a) (rw next at w)) (omega arith)))
+    take-block-full o t q p u last ina k (suc c) l g s r b f a w line e =
+        let m : posAt (suc k) < n = unfold posAt in (omega (arith, s .more)) in
+        let no : fillsBlock (set .block) (p .taken) ≡ false = fills-no (set .block) (p .taken) (λ h. omega arith) in
+        let next : k + suc (suc c) ≡ suc k + suc c = omega arith in
+        rw e (rw (took-more (under-way (Tx.AwaitsFlow o t) q [] g (Rx.Awaits p u) last ina) (span n out (suc c) (suc k)) p u k refl r m, no)
+        (nearer (block-full o t _ (grown p (counted (set .block) (p .taken))) 0 last _ (suc k) c l g refl (rw next at s) (take-on p k _ ina r m) b
+        (unfold grown in (omega (arith, counted-on (set .block) (p .taken) b, f))) (rw next at a) (rw next at w)) (omega arith)))
+
+    take-last : (q : List (List ℕ)) (p : Taking) (u last : ℕ) (ina : List ℕ) (k c : ℕ) (g : List Handed)
+        → Ahead n k c → TakeAt n out p k ina → (0 < set .block → p .taken + suc c ≤ set .block) → g ≡ E
+        → (line : Line) → line ≡ all-sent q g (Rx.Awaits p u) last ina
+        → Nearer (suc c) (tookR line (span n out c (suc k)) (frameCame set (receiving line) (frameAt n out k)))
+    unfolding span
+    take-last q p u last ina k zero g a r f w line e =
+        let m : n ≤ posAt (suc k) = unfold posAt in (omega (arith, a .last)) in
+        let whole : posAt k + share consecutiveMost (n - posAt k) ≡ n = unfold posAt share in (omega (arith, a .last, r .more)) in
+        rw e (rw (took-last (all-sent q g (Rx.Awaits p u) last ina) [] p u k refl r m)
+        (nearer (arrived _ g (rw whole at (grows n out fit ina k (r .fits) (omega (arith, r .more)) (r .same))) w) (omega arith)))
+    take-last q p u last ina k (suc c) g a r f w line e =
+        let m : posAt (suc k) < n = unfold posAt in (omega (arith, a .more)) in
+        let no : fillsBlock (set .block) (p .taken) ≡ false = fills-no (set .block) (p .taken) (λ h. let x : p .taken + suc (suc c) ≤ set .block = f h in omega arith) in
+        rw e (rw (took-more (all-sent q g (Rx.Awaits p u) last ina) (span n out (suc c) (suc k)) p u k refl r m, no)
+        (nearer (last-sent _ (grown p (counted (set .block) (p .taken))) 0 last _ (suc k) c g refl
+        (record { more = unfold posAt in (omega (arith, a .more)); last = unfold posAt in (omega (arith, a .last)) }) (take-on p k _ ina r m)
+        (λ h. let x : p .taken + suc (suc c) ≤ set .block = f h in unfold grown in (omega (arith, counted-on (set .block) (p .taken) h))) w) (omega arith)))
+
+    front : (ina : List ℕ) (k : ℕ) → k ≤ n → n ≤ length ina → take k (sets ina 0 (take k out)) ≡ take k out
+    front ina k a b =
+        rw (zero-add k) at (extended ina 0 (take k out) k (length-take-le k out (omega arith)) (omega arith))
+
+    taking-at : leastLong ≤ n → (ina : List ℕ) → n ≤ length ina → TakeAt n out (taking n) 0 (sets ina 0 (take firstBytes out))
+    unfolding taking posAt snAt
+    taking-at a ina b =
+        record { total = refl; got = refl; sn = refl; more = omega arith; fits = rw length-sets b; same = front ina firstBytes (omega arith) b }
+
+    module _ (some : 1 ≤ n) (in-area : n ≤ set .area) (small : set .area ≤ shortMost) where
+      heard-single : n ≤ singleMost → (last : ℕ)
+          → frameCame set (record { rx = Rx.Idle; last = last; tx = Tx.Idle }) (singleOf n out)
+          ≡ record { berth = record { rx = Rx.Idle; last = n; tx = Tx.Idle }; old = 0; word = Delivered n; place = 0; bytes = take n out }
+      unfolding frameCame byKind heardBy singleCame oldCode
+      heard-single b last =
+          rw (single-length n out fit b, single-kind n out fit b, single-fits n out fit some b, single-low n out fit b, single-data n out fit)
+
+      heard-first : leastLong ≤ n → (last : ℕ)
+          → frameCame set (record { rx = Rx.Idle; last = last; tx = Tx.Idle }) (firstOf n out)
+          ≡ record { berth = record { rx = Rx.OwesGo (taking n) 0; last = 0; tx = Tx.Idle }; old = 0; word = Begun n; place = 0; bytes = take firstBytes out }
+      unfolding frameCame byKind heardBy firstCame begun oldCode
+      heard-first a last =
+          let c : n ≤ shortMost = omega arith in
+          rw (first-length n out fit, first-kind n out fit c, first-fits n out fit a c, first-announced n out fit a c, ltb-not (set .area) n in-area, first-data n out fit a)
+
+      pub carries-R : (l : Line) (m : ℕ) (d : List ℕ) (q : List (List ℕ)) → l .toR ≡ d ∷ q → Phase l m
+          → Nearer m (tookR l q (frameCame set (receiving l) d))
+      unfolding span
+      carries-R l m d q z (single-ready t last ina a b e) = absurd (nil≢cons z)
+      carries-R l m d q z (single-sent last ina g a b e) =
+          rw (← (head-eq-of-cons-eq z), ← (tail-eq-of-cons-eq z), heard-single a last)
+          (unfold tookR wordReports reported deliveredIn in (nearer (arrived _ g (front ina n (omega arith) b) e) (omega arith)))
+      carries-R l m d q z (first-ready t last ina h a b c e) = absurd (nil≢cons z)
+      carries-R l m d q z (first-sent o t last ina h g a b c x e) =
+          rw (← (head-eq-of-cons-eq z), ← (tail-eq-of-cons-eq z), heard-first a last)
+          (unfold tookR wordReports reported deliveredIn in (nearer (go-owed o t (taking n) 0 0 _ 0 h g c (taking-at a ina b) x e) (omega arith)))
+      carries-R l m d q z (go-owed o t p u last ina f h g a b c e) = absurd (nil≢cons z)
+      carries-R l m d q z (go-sent o t p u last ina f h g a b c x e) = absurd (nil≢cons z)
+      carries-R l m d q z (in-block o t r p u last ina f zero h g a b x e y v w k s) = absurd (nil≢cons (sym a ∙ z))
+      carries-R l m d q z (in-block o t r p u last ina f (suc c) h g a b x e y v w k s) =
+          rw (← (head-eq-of-cons-eq (sym a ∙ z)), ← (tail-eq-of-cons-eq (sym a ∙ z))) (take-in-block o t r p u last ina f c h g b x e y v w k s _ refl)
+      carries-R l m d q z (block-full o t r p u last ina f c h g a b x e y k s) =
+          rw (← (head-eq-of-cons-eq (sym a ∙ z)), ← (tail-eq-of-cons-eq (sym a ∙ z))) (take-block-full o t r p u last ina f c h g b x e y k s _ refl)
+      carries-R l m d q z (last-sent r p u last ina f c g a b x e y) =
+          rw (← (head-eq-of-cons-eq (sym a ∙ z)), ← (tail-eq-of-cons-eq (sym a ∙ z))) (take-last r p u last ina f c g b x e y _ refl)
+      carries-R l m d q z (arrived ina g a e) = absurd (nil≢cons z)
+
+      consecutive-whole : (k : ℕ) (d : List ℕ) → frameAt n out k ≡ d → (length d ≡ frameLength) × (kind d ≡ flowKind → ⊥)
+      consecutive-whole k d h = (rw h at (frame-length n out fit k), (λ y. omega (arith, frame-kind n out fit k, ap kind h)))
+
+      -- a frame on the way is a whole frame, and no flow control; one on the way back is flow control
+      pub there-whole : (l : Line) (m : ℕ) (d : List ℕ) (q : List (List ℕ)) → l .toR ≡ d ∷ q → Phase l m → (length d ≡ frameLength) × (kind d ≡ flowKind → ⊥)
+      unfolding span
+      there-whole l m d q z (single-ready t last ina a b e) = absurd (nil≢cons z)
+      there-whole l m d q z (single-sent last ina g a b e) =
+          let h = head-eq-of-cons-eq z in
+          (rw h at (single-length n out fit a), (λ y. omega (arith, single-kind n out fit a, ap kind h)))
+      there-whole l m d q z (first-ready t last ina h a b c e) = absurd (nil≢cons z)
+      there-whole l m d q z (first-sent o t last ina h g a b c x e) =
+          let h = head-eq-of-cons-eq z in
+          (rw h at (first-length n out fit), (λ y. omega (arith, first-kind n out fit (omega arith), ap kind h)))
+      there-whole l m d q z (go-owed o t p u last ina f h g a b c e) = absurd (nil≢cons z)
+      there-whole l m d q z (go-sent o t p u last ina f h g a b c x e) = absurd (nil≢cons z)
+      there-whole l m d q z (in-block o t r p u last ina f zero h g a b x e y v w k s) = absurd (nil≢cons (sym a ∙ z))
+      there-whole l m d q z (in-block o t r p u last ina f (suc c) h g a b x e y v w k s) = consecutive-whole f d (head-eq-of-cons-eq (sym a ∙ z))
+      there-whole l m d q z (block-full o t r p u last ina f c h g a b x e y k s) = consecutive-whole f d (head-eq-of-cons-eq (sym a ∙ z))
+      there-whole l m d q z (last-sent r p u last ina f c g a b x e y) = consecutive-whole f d (head-eq-of-cons-eq (sym a ∙ z))
+      there-whole l m d q z (arrived ina g a e) = absurd (nil≢cons z)
