@@ -12,7 +12,7 @@ use lib.Dec.{T, eqb, ltb, leb}
 use mir.Facts.{eqb-yes}
 use Rattle.rules.specs.Tests.{pick}
 use Rattle.rules.specs.Numbers.{timeout, singleKind, firstKind, consecutiveKind, flowKind, goStatus, frameLength, singleMost, firstBytes, consecutiveMost, leastLong, shortMost, longestGap, mostMillis, leastFraction, mostFraction, N-OK}
-use Rattle.rules.specs.Frames.{byteAt, kind, low, singleFits, announced, firstFits, consecutiveFits, flowFits, padded, goFrame, nextSn, firstSn, counted, fillsBlock, gapOf, share}
+use Rattle.rules.specs.Frames.{byteAt, kind, low, singleFits, announced, firstFits, consecutiveFits, flowFits, padded, goFrame, nextSn, firstSn, counted, fillsBlock, gapOf, share, framesOf}
 use Rattle.rules.specs.Arrivals.{Heard, Told, Came, ignored, oldCode, singleCame, firstCame, taking, begun, missing, piece, grown, completed, afterTook, took, awaitedCame, consecutiveCame, granted, byStatus, flowCame, heardBy, toldBy, byKind, frameCame}
 use Rattle.rules.specs.Ticks.{ran, rxTicked, rxCode, closer, txTicked, txCode}
 use Rattle.rules.specs.Turns.{flowDue, messageDue, flowFrame, newBlock, afterFlow, toGo, messageFrame, messageCode, opened, moved, afterConsecutive, afterMessage, beginsWith}
@@ -710,3 +710,62 @@ module _ (i j : ℕ) (set : Settings) (n : ℕ) (out : List ℕ) (E : List Hande
       there-whole l m d q z (block-full o t r p u last ina f c h g a b x e y k s) = consecutive-whole f d (head-eq-of-cons-eq (sym a ∙ z))
       there-whole l m d q z (last-sent r p u last ina f c g a b x e y) = consecutive-whole f d (head-eq-of-cons-eq (sym a ∙ z))
       there-whole l m d q z (arrived ina g a e) = absurd (nil≢cons z)
+
+      go-whole : (d : List ℕ) → goFrame set ≡ d → (length d ≡ frameLength) × (kind d ≡ flowKind)
+      go-whole d h = (sym (ap length h) ∙ unfold goFrame padded in refl, sym (ap kind h) ∙ unfold goFrame padded kind in refl)
+
+      pub back-whole : (l : Line) (m : ℕ) (d : List ℕ) (q : List (List ℕ)) → l .toS ≡ d ∷ q → Phase l m → (length d ≡ frameLength) × (kind d ≡ flowKind)
+      back-whole l m d q z (single-ready t last ina a b e) = absurd (nil≢cons z)
+      back-whole l m d q z (single-sent last ina g a b e) = absurd (nil≢cons z)
+      back-whole l m d q z (first-ready t last ina h a b c e) = absurd (nil≢cons z)
+      back-whole l m d q z (first-sent o t last ina h g a b c x e) = absurd (nil≢cons z)
+      back-whole l m d q z (go-owed o t p u last ina f h g a b c e) = absurd (nil≢cons z)
+      back-whole l m d q z (go-sent o t p u last ina f h g a b c x e) = go-whole d (head-eq-of-cons-eq z)
+      back-whole l m d q z (in-block o t r p u last ina f c h g a b x e y v w k s) = absurd (nil≢cons z)
+      back-whole l m d q z (block-full o t r p u last ina f c h g a b x e y k s) = absurd (nil≢cons z)
+      back-whole l m d q z (last-sent r p u last ina f c g a b x e y) = absurd (nil≢cons z)
+      back-whole l m d q z (arrived ina g a e) = absurd (nil≢cons z)
+
+      -- ---- the start
+
+      pub starts : exchanged set (framesOf (take n out)) ≡ E → (last : ℕ) (ina : List ℕ) → n ≤ length ina
+          → (m : ℕ) × Phase (under-way (beginsWith n) [] [] [] Rx.Idle last ina) m
+      unfolding beginsWith exchanged span
+      starts w last ina h = go (leb-cases n singleMost)
+        where
+          go : Tested (leb n singleMost) (n ≤ singleMost) (singleMost < n) → (m : ℕ) × Phase (under-way (beginsWith n) [] [] [] Rx.Idle last ina) m
+          go (holds e a) = rw e (2, single-ready 0 last ina a h (ap (exchanged set) (sym (frames-single n out fit a)) ∙ w))
+          go (fails e a) =
+              let more : posAt ((n - 7) / 7) < n = unfold posAt in (omega arith) in
+              let last′ : n ≤ posAt (suc ((n - 7) / 7)) = unfold posAt in (omega arith) in
+              rw e (_, first-ready 0 last ina ((n - 7) / 7) a h (record { more = unfold posAt in (omega arith); last = unfold posAt in (omega arith) })
+              (ap (exchanged set) (sym (frames-long n out fit ((n - 7) / 7) a more last′)) ∙ w))
+
+  -- ---- at rest
+
+  -- the same bytes are there, and both sides have reported 1, once and nothing else
+  pub record Landed (l : Line) : Type 0 where
+    pub bytes : take n (l .ina) ≡ take n out
+    pub last : l .last ≡ n
+    pub said : l .said ≡ reported i send N-OK
+    pub heard : l .heard ≡ reported j receive N-OK
+    pub delivered : l .delivered ≡ n ∷ []
+    pub log : l .log ≡ E
+    pub tx : l .tx ≡ Tx.Idle
+    pub rx : l .rx ≡ Rx.Idle
+
+  pub at-rest : (l : Line) (m : ℕ) → Phase l m → l .toR ≡ [] → l .toS ≡ [] → messageDue (l .tx) ≡ false → gapLeft (l .tx) ≡ 0
+      → flowDue (l .rx) ≡ false → Landed l
+  unfolding messageDue flowDue gapLeft span
+  at-rest l m (single-ready t last ina a b e) r s due gap flow = let z : _≡_ {A = ℕ} 0 1 = cc in absurd (omega arith)
+  at-rest l m (single-sent last ina g a b e) r s due gap flow = absurd (nil≢cons (sym r))
+  at-rest l m (first-ready t last ina h a b c e) r s due gap flow = let z : _≡_ {A = ℕ} 0 1 = cc in absurd (omega arith)
+  at-rest l m (first-sent o t last ina h g a b c x e) r s due gap flow = absurd (nil≢cons (sym r))
+  at-rest l m (go-owed o t p u last ina f h g a b c e) r s due gap flow = let z : _≡_ {A = ℕ} 0 1 = cc in absurd (omega arith)
+  at-rest l m (go-sent o t p u last ina f h g a b c x e) r s due gap flow = absurd (nil≢cons (sym s))
+  at-rest l m (in-block o t q p u last ina f c h g a b x e y v w k z) r s due gap flow =
+      let d : _≡_ {A = ℕ} 0 1 = cc (eqb-is (o .left) 0 gap) in absurd (omega arith)
+  at-rest l m (block-full o t q p u last ina f c h g a b x e y k z) r s due gap flow = absurd (nil≢cons (sym r ∙ a))
+  at-rest l m (last-sent q p u last ina f c g a b x e y) r s due gap flow = absurd (nil≢cons (sym r ∙ a))
+  at-rest l m (arrived ina g a e) r s due gap flow =
+      record { bytes = a; last = refl; said = refl; heard = refl; delivered = refl; log = e; tx = refl; rx = refl }
