@@ -8,3 +8,4 @@ pub mod Sides
 pub mod Touch
 pub mod Frames
 pub mod Line
+pub mod World

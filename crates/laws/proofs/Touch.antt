@@ -276,7 +276,7 @@ module _ (k : ℕ) (h : Held) where
       Touched s (sideOf s (partOf k h)) (sideOf s (partOf k (outcome h c .held))) (reportsBy s k (outcome h c .answer))
       (framesBy s k (outcome h c .answer))
 
-  own-is : (c : Call) → refusal h c ≡ 0 → own k h c ≡ ownDone k h c
+  pub own-is : (c : Call) → refusal h c ≡ 0 → own k h c ≡ ownDone k h c
   unfolding own
   own-is c e = rw e
 

@@ -1,0 +1,356 @@
+-- THE LINE'S LAW over two nodes. Every deed that keeps apart is, for the two sides and the line between them, nothing, a tick, a
+-- hand-over or a frame that comes in; so a transfer goes from phase to phase, and at rest only the last is left.
+use mathlib.Core.Path.{_≡_, refl, sym, ap, ap₂, _∙_, subst}
+use Prim.Native.Nat.{ℕ, zero, suc, _+_, _-_, _*_, _≤_, _<_}
+use native.Mathlib.Omega.{arith}
+use native.Mathlib.Nat.{mul-le-mul-right, zero-add}
+use mathlib.Core.Bool.{Bool, true, false, not, _||_}
+use mathlib.Core.List.{List, [], _∷_, _++_, map, append-nil}
+use mathlib.Core.Logic.{_⊎_, inl, inr, ⊎-elim}
+use lib.ListN.{length, take, drop, length-take, length-drop}
+use lib.Seq.{sets, length-sets, take-length}
+use lib.Dec.{T, eqb}
+use mir.Facts.{yes-eqb, yes-leb, yes-ltb}
+use Rattle.rules.specs.Tests.{pick}
+use Rattle.rules.specs.Numbers.{berthCount, fromBerth, frameLength, flowKind, shortMost, N-OK}
+use Rattle.rules.specs.Ranges.{berthAt, InOrder}
+use Rattle.rules.specs.Frames.{kind, framesOf}
+use Rattle.rules.specs.Arrivals.{Came, frameCame}
+use Rattle.rules.specs.Ticks.{rxTicked, rxCode, txTicked, txCode, ticked}
+use Rattle.rules.specs.Turns.{flowDue, messageDue, due, flowFrame, afterFlow, messageFrame, messageCode, afterMessage, HandedOver, handOver, beginsWith, sent as sentBerth, busy}
+use Rattle.rules.specs.Stores.{Held, rightStore, areaOf}
+use Rattle.rules.specs.Answers.{Answer, Side, receive, send as sendSide, Report, reported, wordReports}
+use Rattle.rules.specs.Refusals.{Call, frame, tick, send, turn, show, needs, refusal}
+use Rattle.rules.specs.Calls.{Outcome, outcome}
+use Rattle.rules.specs.Alone.{Part, partOf, Event, arrives, ticks, sends, turns, Says, hears, expires, hands, partAfter, says, alone}
+use Rattle.rules.specs.declared.Settings.{Settings}
+use Rattle.rules.specs.declared.Rx.{Rx}
+use Rattle.rules.specs.declared.Tx.{Tx}
+use Rattle.rules.specs.declared.Berth.{Berth}
+use Rattle.rules.proofs.Cases.{is-true, is-false, eqb-is, eqb-not, or-cases}
+use Rattle.rules.proofs.Ranges.{range-in-order}
+use Rattle.laws.specs.Own.{over, ownDone, own, heardOf, saidReports, Sound}
+use Rattle.laws.specs.Sides.{sideOf, frameSide, handedIn, framesBy}
+use Rattle.laws.specs.Line.{Handed, there, back, World, reportsBy, deliveredIn, callA, callB, carriedA, carriedB, Deed, atA, atB, carryA, carryB, acts, living, tickCode, Spares, Apart, AllApart, gapLeft, AtRest, exchanged}
+use Rattle.laws.proofs.Isolation.{settings-step, part-step}
+use Rattle.laws.proofs.SetUp.{sound-step}
+use Rattle.laws.proofs.Touch.{Touched, spared, clocked, turned, touch, Carried, carry, delivered-carried, none-delivered, own-is, all-met}
+use Rattle.laws.proofs.Frames.{extended}
+use Rattle.laws.proofs.Line.{Line, Phase, under-way, handS, handR, tickS, tickR, tookR, tookS, receiving, sending, ticks-S, ticks-R, hands-S, hands-R, carries-S, carries-R, there-whole, back-whole, starts, Landed, at-rest}
+
+-- the two sides and the line between them
+unfoldable pub lineOf : (i j : ℕ) → World → Line
+lineOf i j w =
+    record {
+      tx = berthAt (w .a .node) i .tx;
+      toR = w .toB;
+      toS = w .toA;
+      log = w .log;
+      said = w .said;
+      rx = berthAt (w .b .node) j .rx;
+      last = berthAt (w .b .node) j .last;
+      ina = partOf j (w .b) .incoming;
+      heard = w .heard;
+      delivered = w .delivered;
+    }
+
+-- the line with the sender's end moved on, and with the taker's
+unfoldable fromA : Line → Tx → List (List ℕ) → List Report → Line
+fromA l tx fs rs =
+    record {
+      tx = tx;
+      toR = l .toR ++ fs;
+      toS = l .toS;
+      log = l .log ++ map there fs;
+      said = l .said ++ rs;
+      rx = l .rx;
+      last = l .last;
+      ina = l .ina;
+      heard = l .heard;
+      delivered = l .delivered;
+    }
+
+unfoldable fromB : Line → Rx → ℕ → List ℕ → List (List ℕ) → List Report → List ℕ → Line
+fromB l rx last ina fs rs ds =
+    record {
+      tx = l .tx;
+      toR = l .toR;
+      toS = l .toS ++ fs;
+      log = l .log ++ map back fs;
+      said = l .said;
+      rx = rx;
+      last = last;
+      ina = ina;
+      heard = l .heard ++ rs;
+      delivered = l .delivered ++ ds;
+    }
+
+path-A : (l : Line) {tx tx′ : Tx} {fs fs′ : List (List ℕ)} {rs rs′ : List Report} → tx ≡ tx′ → fs ≡ fs′ → rs ≡ rs′ → fromA l tx fs rs ≡ fromA l tx′ fs′ rs′
+path-A l p q r = λ i. fromA l (p i) (q i) (r i)
+
+path-B : (l : Line) {rx rx′ : Rx} {last last′ : ℕ} {ina ina′ : List ℕ} {fs fs′ : List (List ℕ)} {rs rs′ : List Report} {ds ds′ : List ℕ}
+    → rx ≡ rx′ → last ≡ last′ → ina ≡ ina′ → fs ≡ fs′ → rs ≡ rs′ → ds ≡ ds′ → fromB l rx last ina fs rs ds ≡ fromB l rx′ last′ ina′ fs′ rs′ ds′
+path-B l p q r s t u = λ i. fromB l (p i) (q i) (r i) (s i) (t i) (u i)
+
+-- no frame and no report: only the side has moved
+only-A : (l : Line) (tx : Tx) → fromA l tx [] []
+    ≡ record { tx = tx; toR = l .toR; toS = l .toS; log = l .log; said = l .said; rx = l .rx; last = l .last; ina = l .ina; heard = l .heard; delivered = l .delivered }
+unfolding fromA
+only-A l tx =
+    λ i. record {
+      tx = tx;
+      toR = append-nil (l .toR) i;
+      toS = l .toS;
+      log = append-nil (l .log) i;
+      said = append-nil (l .said) i;
+      rx = l .rx;
+      last = l .last;
+      ina = l .ina;
+      heard = l .heard;
+      delivered = l .delivered;
+    }
+
+only-B : (l : Line) (rx : Rx) (last : ℕ) (ina : List ℕ) → fromB l rx last ina [] [] []
+    ≡ record { tx = l .tx; toR = l .toR; toS = l .toS; log = l .log; said = l .said; rx = rx; last = last; ina = ina; heard = l .heard; delivered = l .delivered }
+unfolding fromB
+only-B l rx last ina =
+    λ i. record {
+      tx = l .tx;
+      toR = l .toR;
+      toS = append-nil (l .toS) i;
+      log = append-nil (l .log) i;
+      said = l .said;
+      rx = rx;
+      last = last;
+      ina = ina;
+      heard = append-nil (l .heard) i;
+      delivered = append-nil (l .delivered) i;
+    }
+
+-- flow control, and no report
+flow-B : (l : Line) (rx : Rx) (f : List ℕ) → fromB l rx (l .last) (l .ina) (f ∷ []) [] []
+    ≡ record {
+      tx = l .tx;
+      toR = l .toR;
+      toS = l .toS ++ (f ∷ []);
+      log = l .log ++ (back f ∷ []);
+      said = l .said;
+      rx = rx;
+      last = l .last;
+      ina = l .ina;
+      heard = l .heard;
+      delivered = l .delivered;
+    }
+unfolding fromB
+flow-B l rx f =
+    λ i. record {
+      tx = l .tx;
+      toR = l .toR;
+      toS = l .toS ++ (f ∷ []);
+      log = l .log ++ (back f ∷ []);
+      said = l .said;
+      rx = rx;
+      last = l .last;
+      ina = l .ina;
+      heard = append-nil (l .heard) i;
+      delivered = append-nil (l .delivered) i;
+    }
+
+module _ (i j : ℕ) (small-i : i < berthCount) (small-j : j < berthCount) (set : Settings) (n : ℕ) (out : List ℕ) (E : List Handed) where
+  -- ---- what a step is for the line
+
+  pub data StepS (l l′ : Line) : Type 0 where
+    idle-S : l′ ≡ l → StepS l l′
+    tick-S : txCode (l .tx) ≡ 0 → l′ ≡ tickS i j set n out E l → StepS l l′
+    hand-S : T (messageDue (l .tx)) → l′ ≡ handS i j set n out E l → StepS l l′
+
+  pub data StepR (l l′ : Line) : Type 0 where
+    idle-R : l′ ≡ l → StepR l l′
+    tick-R : rxCode (l .rx) ≡ 0 → l′ ≡ tickR i j set n out E l → StepR l l′
+    hand-R : T (flowDue (l .rx)) → l′ ≡ handR i j set n out E l → StepR l l′
+
+  -- the send side of berth i in a node
+  abbrev sideA : Held → Part
+  sideA h = sideOf sendSide (partOf i h)
+
+  abbrev sideB : Held → Part
+  sideB h = sideOf receive (partOf j h)
+
+  line-A : (w : World) (c : Call) → lineOf i j (callA i w c)
+      ≡ fromA (lineOf i j w) (berthAt (outcome (w .a) c .held .node) i .tx) (framesBy sendSide i (outcome (w .a) c .answer)) (reportsBy sendSide i (outcome (w .a) c .answer))
+  unfolding lineOf callA fromA
+  line-A w c = refl
+
+  line-B : (w : World) (c : Call) → lineOf i j (callB j w c)
+      ≡ fromB (lineOf i j w) (berthAt (outcome (w .b) c .held .node) j .rx) (berthAt (outcome (w .b) c .held .node) j .last) (partOf j (outcome (w .b) c .held) .incoming)
+      (framesBy receive j (outcome (w .b) c .answer)) (reportsBy receive j (outcome (w .b) c .answer)) (over deliveredIn (heardOf j (outcome (w .b) c .answer)))
+  unfolding lineOf callB fromB
+  line-B w c = refl
+
+  -- the side's parts, by name
+  tx-of : (h : Held) (p : Part) → sideA h ≡ p → (berthAt (h .node) i .tx ≡ p .berth .tx) × (partOf i h .outgoing ≡ p .outgoing)
+  unfolding sideOf partOf
+  tx-of h p e = (ap (λ (q : Part). q .berth .tx) e, ap (λ (q : Part). q .outgoing) e)
+
+  rx-of : (h : Held) (p : Part) → sideB h ≡ p
+      → (berthAt (h .node) j .rx ≡ p .berth .rx) × (berthAt (h .node) j .last ≡ p .berth .last) × (partOf j h .incoming ≡ p .incoming)
+  unfolding sideOf partOf
+  rx-of h p e = (ap (λ (q : Part). q .berth .rx) e, ap (λ (q : Part). q .berth .last) e, ap (λ (q : Part). q .incoming) e)
+
+  -- a tick and a turn of the send side alone
+  ticked-A : (h : Held) → (partAfter (h .node .settings) (sideA h) ticks .berth .tx ≡ txTicked (berthAt (h .node) i .tx))
+      × (partAfter (h .node .settings) (sideA h) ticks .outgoing ≡ partOf i h .outgoing)
+      × (saidReports i (says (h .node .settings) (sideA h) ticks) ≡ reported i sendSide (txCode (berthAt (h .node) i .tx)))
+      × (tickCode sendSide (sideA h .berth) ≡ txCode (berthAt (h .node) i .tx))
+  unfolding partAfter sideOf partOf ticked says saidReports rxCode reported
+  ticked-A h = (refl, refl, refl, refl)
+
+  turned-A : (h : Held) → (partAfter (h .node .settings) (sideA h) turns .berth .tx ≡ afterMessage (berthAt (h .node) i .tx))
+      × (partAfter (h .node .settings) (sideA h) turns .outgoing ≡ partOf i h .outgoing)
+      × (saidReports i (says (h .node .settings) (sideA h) turns) ≡ reported i sendSide (messageCode (berthAt (h .node) i .tx)))
+      × (handedIn (says (h .node .settings) (sideA h) turns) ≡ messageFrame (berthAt (h .node) i .tx) (partOf i h .outgoing) ∷ [])
+  unfolding partAfter sideOf partOf handOver flowDue says saidReports handedIn
+  turned-A h = (refl, refl, refl, refl)
+
+  due-A : (h : Held) → T (due (sideA h .berth)) → T (messageDue (berthAt (h .node) i .tx))
+  unfolding due sideOf partOf flowDue
+  due-A h t = t
+
+  -- what a call on A that spares the send side of berth i is for the line; the message stays in its area
+  step-A : (w : World) (c : Call) → partOf i (w .a) .outgoing ≡ out
+      → Touched i (w .a) sendSide (sideA (w .a)) (sideA (outcome (w .a) c .held)) (reportsBy sendSide i (outcome (w .a) c .answer)) (framesBy sendSide i (outcome (w .a) c .answer))
+      → StepS (lineOf i j w) (lineOf i j (callA i w c)) × (partOf i (outcome (w .a) c .held) .outgoing ≡ out)
+  unfolding lineOf sideOf partOf
+  step-A w c kept (spared x y z) =
+      let (tx, o) = tx-of (outcome (w .a) c .held) (sideA (w .a)) x in
+      (idle-S (line-A w c ∙ path-A (lineOf i j w) tx z y ∙ only-A (lineOf i j w) (lineOf i j w .tx)), o ∙ kept)
+  step-A w c kept (clocked x y z k) =
+      let (tx, o) = tx-of (outcome (w .a) c .held) (partAfter (w .a .node .settings) (sideA (w .a)) ticks) x in
+      let (a, b, r, d) = ticked-A (w .a) in
+      let code : txCode (berthAt (w .a .node) i .tx) ≡ 0 = sym d ∙ k in
+      let none : reported i sendSide (txCode (berthAt (w .a .node) i .tx)) ≡ [] = ap (reported i sendSide) code ∙ unfold reported in refl in
+      (tick-S code (line-A w c ∙ path-A (lineOf i j w) (tx ∙ a) z (y ∙ r ∙ none) ∙ only-A (lineOf i j w) (txTicked (lineOf i j w .tx))), o ∙ b ∙ kept)
+  step-A w c kept (turned t x y z) =
+      let (tx, o) = tx-of (outcome (w .a) c .held) (partAfter (w .a .node .settings) (sideA (w .a)) turns) x in
+      let (a, b, r, d) = turned-A (w .a) in
+      let f : messageFrame (berthAt (w .a .node) i .tx) (partOf i (w .a) .outgoing) ∷ [] ≡ messageFrame (berthAt (w .a .node) i .tx) out ∷ [] =
+      ap (λ (area : List ℕ). messageFrame (berthAt (w .a .node) i .tx) area ∷ []) kept in
+      (hand-S (due-A (w .a) t) (line-A w c ∙ path-A (lineOf i j w) (tx ∙ a) (z ∙ d ∙ f) (y ∙ r) ∙ unfold fromA in refl), o ∙ b ∙ kept)
+
+  -- a tick and a turn of the receive side alone
+  ticked-B : (h : Held) → (partAfter (h .node .settings) (sideB h) ticks .berth .rx ≡ rxTicked (berthAt (h .node) j .rx))
+      × (partAfter (h .node .settings) (sideB h) ticks .berth .last ≡ berthAt (h .node) j .last)
+      × (partAfter (h .node .settings) (sideB h) ticks .incoming ≡ partOf j h .incoming)
+      × (saidReports j (says (h .node .settings) (sideB h) ticks) ≡ reported j receive (rxCode (berthAt (h .node) j .rx)) ++ [])
+      × (tickCode receive (sideB h .berth) ≡ rxCode (berthAt (h .node) j .rx))
+  unfolding partAfter sideOf partOf ticked says saidReports txCode reported
+  ticked-B h = (refl, refl, refl, refl, refl)
+
+  due-B : (h : Held) → T (due (sideB h .berth)) → flowDue (berthAt (h .node) j .rx) ≡ true
+  unfolding due sideOf partOf messageDue
+  due-B h t = is-true (flowDue (berthAt (h .node) j .rx)) (⊎-elim (λ u. u) (λ u. absurd u) (or-cases (flowDue (berthAt (h .node) j .rx)) false t))
+
+  turned-B : (h : Held) → flowDue (berthAt (h .node) j .rx) ≡ true
+      → (partAfter (h .node .settings) (sideB h) turns .berth .rx ≡ afterFlow (berthAt (h .node) j .rx))
+      × (partAfter (h .node .settings) (sideB h) turns .berth .last ≡ berthAt (h .node) j .last)
+      × (partAfter (h .node .settings) (sideB h) turns .incoming ≡ partOf j h .incoming)
+      × (saidReports j (says (h .node .settings) (sideB h) turns) ≡ [])
+      × (handedIn (says (h .node .settings) (sideB h) turns) ≡ flowFrame (h .node .settings) (berthAt (h .node) j .rx) ∷ [])
+  unfolding partAfter sideOf partOf handOver says saidReports handedIn reported
+  turned-B h e = (rw e, rw e, refl, rw e, rw e)
+
+  step-B : (w : World) (c : Call) → w .b .node .settings ≡ set → over deliveredIn (heardOf j (outcome (w .b) c .answer)) ≡ []
+      → Touched j (w .b) receive (sideB (w .b)) (sideB (outcome (w .b) c .held)) (reportsBy receive j (outcome (w .b) c .answer)) (framesBy receive j (outcome (w .b) c .answer))
+      → StepR (lineOf i j w) (lineOf i j (callB j w c))
+  unfolding lineOf sideOf partOf
+  step-B w c same ds (spared x y z) =
+      let (rx, last, ina) = rx-of (outcome (w .b) c .held) (sideB (w .b)) x in
+      idle-R (line-B w c ∙ path-B (lineOf i j w) rx last ina z y ds ∙ only-B (lineOf i j w) (lineOf i j w .rx) (lineOf i j w .last) (lineOf i j w .ina))
+  step-B w c same ds (clocked x y z k) =
+      let (rx, last, ina) = rx-of (outcome (w .b) c .held) (partAfter (w .b .node .settings) (sideB (w .b)) ticks) x in
+      let (a, b, v, r, d) = ticked-B (w .b) in
+      let code : rxCode (berthAt (w .b .node) j .rx) ≡ 0 = sym d ∙ k in
+      let none : reported j receive (rxCode (berthAt (w .b .node) j .rx)) ++ [] ≡ [] = ap (λ (m : ℕ). reported j receive m ++ []) code ∙ unfold reported in refl in
+      tick-R code (line-B w c ∙ path-B (lineOf i j w) (rx ∙ a) (last ∙ b) (ina ∙ v) z (y ∙ r ∙ none) ds
+      ∙ only-B (lineOf i j w) (rxTicked (lineOf i j w .rx)) (lineOf i j w .last) (lineOf i j w .ina))
+  step-B w c same ds (turned t x y z) =
+      let (rx, last, ina) = rx-of (outcome (w .b) c .held) (partAfter (w .b .node .settings) (sideB (w .b)) turns) x in
+      let e = due-B (w .b) t in
+      let (a, b, v, r, d) = turned-B (w .b) e in
+      let f : flowFrame (w .b .node .settings) (berthAt (w .b .node) j .rx) ∷ [] ≡ flowFrame set (berthAt (w .b .node) j .rx) ∷ [] =
+      ap (λ (s : Settings). flowFrame s (berthAt (w .b .node) j .rx) ∷ []) same in
+      hand-R (rw e tt) (line-B w c ∙ path-B (lineOf i j w) (rx ∙ a) (last ∙ b) (ina ∙ v) (z ∙ d ∙ f) (y ∙ r) ds
+      ∙ flow-B (lineOf i j w) (afterFlow (lineOf i j w .rx)) (flowFrame set (lineOf i j w .rx)))
+
+  -- ---- a frame that is carried
+
+  side-of-flow : (d : List ℕ) → kind d ≡ flowKind → frameSide d ≡ sendSide
+  unfolding frameSide
+  side-of-flow d e = rw (eqb-is (kind d) flowKind e)
+
+  side-of-other : (d : List ℕ) → (kind d ≡ flowKind → ⊥) → frameSide d ≡ receive
+  unfolding frameSide
+  side-of-other d ne = rw (eqb-not (kind d) flowKind ne)
+
+  came-A : (h : Held) (d : List ℕ)
+      → (partAfter (h .node .settings) (sideA h) (arrives d) .berth .tx ≡ frameCame (h .node .settings) (record { rx = Rx.Idle; last = 0; tx = berthAt (h .node) i .tx }) d .berth .tx)
+      × (partAfter (h .node .settings) (sideA h) (arrives d) .outgoing ≡ partOf i h .outgoing)
+      × (saidReports i (says (h .node .settings) (sideA h) (arrives d))
+      ≡ reported i receive (frameCame (h .node .settings) (record { rx = Rx.Idle; last = 0; tx = berthAt (h .node) i .tx }) d .old)
+      ++ wordReports i (frameCame (h .node .settings) (record { rx = Rx.Idle; last = 0; tx = berthAt (h .node) i .tx }) d .word))
+  unfolding partAfter sideOf partOf says saidReports
+  came-A h d = (refl, refl, refl)
+
+  took-A : (w : World) (d : List ℕ) (q : List (List ℕ)) → Sound (w .a) → length d ≤ frameLength → kind d ≡ flowKind
+      → (lineOf i j (carriedA i w (d ∷ q)) ≡ tookS i j set n out E (lineOf i j w) q (frameCame (w .a .node .settings) (sending i j set n out E (lineOf i j w)) d))
+      × (partOf i (outcome (w .a) (frame (fromBerth + i) d) .held) .outgoing ≡ partOf i (w .a) .outgoing)
+  unfolding lineOf carriedA callA tookS
+  took-A w d q s l e =
+      let r = carry i (w .a) s small-i sendSide d l (side-of-flow d e) in
+      let (tx, o) = tx-of (outcome (w .a) (frame (fromBerth + i) d) .held) (partAfter (w .a .node .settings) (sideA (w .a)) (arrives d)) (r .part) in
+      let (a, b, c) = came-A (w .a) d in
+      ((λ k. record {
+        tx = (tx ∙ a) k;
+        toR = (ap (λ (fs : List (List ℕ)). w .toB ++ fs) (r .frames) ∙ append-nil (w .toB)) k;
+        toS = q;
+        log = (ap (λ (fs : List (List ℕ)). w .log ++ map there fs) (r .frames) ∙ append-nil (w .log)) k;
+        said = w .said ++ (r .reported ∙ c) k;
+        rx = lineOf i j w .rx;
+        last = lineOf i j w .last;
+        ina = lineOf i j w .ina;
+        heard = w .heard;
+        delivered = w .delivered;
+      }), o ∙ b)
+
+  came-B : (h : Held) (d : List ℕ)
+      → (partAfter (h .node .settings) (sideB h) (arrives d) .berth ≡ frameCame (h .node .settings) (record { rx = berthAt (h .node) j .rx; last = berthAt (h .node) j .last; tx = Tx.Idle }) d .berth)
+      × (partAfter (h .node .settings) (sideB h) (arrives d) .incoming
+      ≡ sets (partOf j h .incoming) (frameCame (h .node .settings) (record { rx = berthAt (h .node) j .rx; last = berthAt (h .node) j .last; tx = Tx.Idle }) d .place)
+      (frameCame (h .node .settings) (record { rx = berthAt (h .node) j .rx; last = berthAt (h .node) j .last; tx = Tx.Idle }) d .bytes))
+      × (says (h .node .settings) (sideB h) (arrives d)
+      ≡ hears (frameCame (h .node .settings) (record { rx = berthAt (h .node) j .rx; last = berthAt (h .node) j .last; tx = Tx.Idle }) d .old)
+      (frameCame (h .node .settings) (record { rx = berthAt (h .node) j .rx; last = berthAt (h .node) j .last; tx = Tx.Idle }) d .word))
+  unfolding partAfter sideOf partOf says
+  came-B h d = (refl, refl, refl)
+
+  took-B : (w : World) (d : List ℕ) (q : List (List ℕ)) → Sound (w .b) → w .b .node .settings ≡ set → length d ≤ frameLength → (kind d ≡ flowKind → ⊥)
+      → lineOf i j (carriedB j w (d ∷ q)) ≡ tookR i j set n out E (lineOf i j w) q (frameCame set (receiving i j set n out E (lineOf i j w)) d)
+  unfolding lineOf carriedB callB tookR saidReports
+  took-B w d q s same l ne =
+      let r = carry j (w .b) s small-j receive d l (side-of-other d ne) in
+      let (rx, last, ina) = rx-of (outcome (w .b) (frame (fromBerth + j) d) .held) (partAfter (w .b .node .settings) (sideB (w .b)) (arrives d)) (r .part) in
+      let (a, b, c) = came-B (w .b) d in
+      let ds = delivered-carried j (w .b) s small-j d l (side-of-other d ne) in
+      (λ k. record {
+        tx = lineOf i j w .tx;
+        toR = q;
+        toS = (ap (λ (fs : List (List ℕ)). w .toA ++ fs) (r .frames) ∙ append-nil (w .toA)) k;
+        log = (ap (λ (fs : List (List ℕ)). w .log ++ map back fs) (r .frames) ∙ append-nil (w .log)) k;
+        said = w .said;
+        rx = (rx ∙ ap (λ (x : Berth). x .rx) a) k;
+        last = (last ∙ ap (λ (x : Berth). x .last) a) k;
+        ina = (ina ∙ b) k;
+        heard = w .heard ++ (r .reported ∙ ap (saidReports j) c) k;
+        delivered = w .delivered ++ (ds ∙ ap deliveredIn c) k;
+      })
+      ∙ ap (λ (x : Settings). tookR i j set n out E (lineOf i j w) q (frameCame x (receiving i j set n out E (lineOf i j w)) d)) same
