@@ -354,3 +354,146 @@ module _ (i j : ℕ) (small-i : i < berthCount) (small-j : j < berthCount) (set 
         delivered = w .delivered ++ (ds ∙ ap deliveredIn c) k;
       })
       ∙ ap (λ (x : Settings). tookR i j set n out E (lineOf i j w) q (frameCame x (receiving i j set n out E (lineOf i j w)) d)) same
+
+  -- ---- the two nodes stay sound, the message stays in its area, and the transfer is in one of its phases
+
+  pub record Alive (w : World) : Type 0 where
+    pub sound-a : Sound (w .a)
+    pub sound-b : Sound (w .b)
+    pub settings-b : w .b .node .settings ≡ set
+    pub kept : partOf i (w .a) .outgoing ≡ out
+    pub steps : ℕ
+    pub phase : Phase i j set n out E (lineOf i j w) steps
+
+  module _ (fit : n ≤ length out) (some : 1 ≤ n) (in-area : n ≤ set .area) (small : set .area ≤ shortMost) where
+    -- a phase, however many steps are to come
+    abbrev Phased : Line → Type 0
+    Phased l = (m : ℕ) × Phase i j set n out E l m
+
+    phased-S : (l l′ : Line) (m : ℕ) → StepS l l′ → Phase i j set n out E l m → Phased l′
+    phased-S l l′ m (idle-S e) ph = rw e (m, ph)
+    phased-S l l′ m (tick-S k e) ph = let (m′, h, ph′) = ticks-S i j set n out E l m k ph in rw e (m′, ph′)
+    phased-S l l′ m (hand-S t e) ph = let (m′, h, ph′) = hands-S i j set n out E l m t ph in rw e (m′, ph′)
+
+    phased-R : (l l′ : Line) (m : ℕ) → StepR l l′ → Phase i j set n out E l m → Phased l′
+    phased-R l l′ m (idle-R e) ph = rw e (m, ph)
+    phased-R l l′ m (tick-R k e) ph = let (m′, h, ph′) = ticks-R i j set n out E l m k ph in rw e (m′, ph′)
+    phased-R l l′ m (hand-R t e) ph = let (m′, h, ph′) = hands-R i j set n out E l m t ph in rw e (m′, ph′)
+
+    alive-A : (w : World) (c : Call) → Spares sendSide i (w .a) c → Alive w → Alive (callA i w c)
+    unfolding callA
+    alive-A w c t s =
+        let (step, o) = step-A w c (s .kept) (touch i (w .a) (s .sound-a) small-i sendSide c t) in
+        let (m, ph) = phased-S (lineOf i j w) (lineOf i j (callA i w c)) (s .steps) step (s .phase) in
+        record { sound-a = sound-step (w .a) c (s .sound-a); sound-b = s .sound-b; settings-b = s .settings-b; kept = o; steps = m; phase = ph }
+
+    alive-B : (w : World) (c : Call) → Spares receive j (w .b) c → Alive w → Alive (callB j w c)
+    unfolding callB
+    alive-B w c t s =
+        let step = step-B w c (s .settings-b) (none-delivered j (w .b) (s .sound-b) small-j c t) (touch j (w .b) (s .sound-b) small-j receive c t) in
+        let (m, ph) = phased-R (lineOf i j w) (lineOf i j (callB j w c)) (s .steps) step (s .phase) in
+        record {
+          sound-a = s .sound-a;
+          sound-b = sound-step (w .b) c (s .sound-b);
+          settings-b = settings-step (w .b) c ∙ s .settings-b;
+          kept = s .kept;
+          steps = m;
+          phase = ph;
+        }
+
+    -- a carried frame leads nearer
+    pub record NearerWorld (m : ℕ) (w : World) : Type 0 where
+      pub alive : Alive w
+      pub fewer : alive .steps < m
+
+    pub alive-carriedA : (w : World) (d : List ℕ) (q : List (List ℕ)) → w .toA ≡ d ∷ q → (s : Alive w) → NearerWorld (s .steps) (carriedA i w (d ∷ q))
+    unfolding carriedA callA
+    alive-carriedA w d q z s =
+        let e : lineOf i j w .toS ≡ d ∷ q = unfold lineOf in z in
+        let (l, k) = back-whole i j set n out E fit some in-area small (lineOf i j w) (s .steps) d q e (s .phase) in
+        let (line, o) = took-A w d q (s .sound-a) (omega arith) k in
+        let (m, h, ph) = carries-S i j set n out E (w .a .node .settings) (lineOf i j w) (s .steps) d q e (s .phase) in
+        record {
+          alive = record {
+            sound-a = sound-step (w .a) (frame (fromBerth + i) d) (s .sound-a);
+            sound-b = s .sound-b;
+            settings-b = s .settings-b;
+            kept = o ∙ s .kept;
+            steps = m;
+            phase = subst (λ (x : Line). Phase i j set n out E x m) (sym line) ph;
+          };
+          fewer = h;
+        }
+
+    pub alive-carriedB : (w : World) (d : List ℕ) (q : List (List ℕ)) → w .toB ≡ d ∷ q → (s : Alive w) → NearerWorld (s .steps) (carriedB j w (d ∷ q))
+    unfolding carriedB callB
+    alive-carriedB w d q z s =
+        let e : lineOf i j w .toR ≡ d ∷ q = unfold lineOf in z in
+        let (l, k) = there-whole i j set n out E fit some in-area small (lineOf i j w) (s .steps) d q e (s .phase) in
+        let line = took-B w d q (s .sound-b) (s .settings-b) (omega arith) k in
+        let (m, h, ph) = carries-R i j set n out E fit some in-area small (lineOf i j w) (s .steps) d q e (s .phase) in
+        record {
+          alive = record {
+            sound-a = s .sound-a;
+            sound-b = sound-step (w .b) (frame (fromBerth + j) d) (s .sound-b);
+            settings-b = settings-step (w .b) (frame (fromBerth + j) d) ∙ s .settings-b;
+            kept = s .kept;
+            steps = m;
+            phase = subst (λ (x : Line). Phase i j set n out E x m) (sym line) ph;
+          };
+          fewer = h;
+        }
+
+    alive-carryA : (w : World) → Alive w → Alive (carriedA i w (w .toA))
+    alive-carryA w s = go (w .toA) refl
+      where
+        go : (q : List (List ℕ)) → w .toA ≡ q → Alive (carriedA i w q)
+        go [] e = unfold carriedA in s
+        go (d ∷ q) e = alive-carriedA w d q e s .alive
+
+    alive-carryB : (w : World) → Alive w → Alive (carriedB j w (w .toB))
+    alive-carryB w s = go (w .toB) refl
+      where
+        go : (q : List (List ℕ)) → w .toB ≡ q → Alive (carriedB j w q)
+        go [] e = unfold carriedB in s
+        go (d ∷ q) e = alive-carriedB w d q e s .alive
+
+    alive-acts : (w : World) (d : Deed) → Apart i j w d → Alive w → Alive (acts i j w d)
+    unfolding acts
+    alive-acts w (atA c) t s = alive-A w c t s
+    alive-acts w (atB c) t s = alive-B w c t s
+    alive-acts w carryA t s = alive-carryA w s
+    alive-acts w carryB t s = alive-carryB w s
+
+    pub alive-on : (w : World) (ds : List Deed) → AllApart i j w ds → Alive w → Alive (living i j w ds)
+    unfolding living AllApart
+    alive-on w [] t s = s
+    alive-on w (d ∷ ds) t s = alive-on (acts i j w d) ds (t .1) (alive-acts w d (t .0) s)
+
+-- ---- the send
+
+send-met : (h : Held) (k : ℕ) (m : List ℕ) → k < berthCount → Sound h → busy (berthAt (h .node) k .tx) ≡ false → 1 ≤ length m
+    → length m ≤ h .node .settings .area → refusal h (send k m) ≡ 0
+unfolding refusal needs rightStore
+send-met h k m l s z a b =
+    let free : T (not (busy (berthAt (h .node) k .tx))) = rw z tt in
+    all-met (needs h (send k m)) (range-in-order (h .node) (s .order), (yes-eqb (s .outgoing), (yes-ltb l, (yes-ltb a, (yes-leb b, (free, tt))))))
+
+sent-part : (h : Held) (k : ℕ) (m : List ℕ) → refusal h (send k m) ≡ 0
+    → (berthAt (outcome h (send k m) .held .node) k .tx ≡ beginsWith (length m))
+    × (partOf k (outcome h (send k m) .held) .outgoing ≡ sets (areaOf (h .node .settings .area) k (h .outgoing)) 0 m)
+unfolding ownDone alone partAfter sentBerth partOf
+sent-part h k m e =
+    let own-k : own k h (send k m) ≡ sends m ∷ [] = own-is k h (send k m) e ∙ rw (eqb-is k k refl) in
+    let p : partOf k (outcome h (send k m) .held) ≡ alone (h .node .settings) (partOf k h) (sends m ∷ []) =
+    part-step k h (send k m) ∙ ap (alone (h .node .settings) (partOf k h)) own-k in
+    (ap (λ (x : Part). x .berth .tx) p, ap (λ (x : Part). x .outgoing) p)
+
+area-length : (a k : ℕ) (store : List ℕ) → k < berthCount → length store ≡ berthCount * a → length (areaOf a k store) ≡ a
+unfolding areaOf
+area-length a k store h e =
+    let m : suc k * a ≤ berthCount * a = mul-le-mul-right a h in
+    simp (length-take, length-drop) (omega arith)
+
+sent-bytes : (l m out : List ℕ) → out ≡ sets l 0 m → length m ≤ length l → take (length m) out ≡ m
+sent-bytes l m out e h = rw e (rw (zero-add (length m)) at (extended l 0 m (length m) refl (omega arith)))
