@@ -738,8 +738,11 @@ module _ (i j : ℕ) (set : Settings) (n : ℕ) (out : List ℕ) (E : List Hande
           go (fails e a) =
               let more : posAt ((n - 7) / 7) < n = unfold posAt in (omega arith) in
               let last′ : n ≤ posAt (suc ((n - 7) / 7)) = unfold posAt in (omega arith) in
-              rw e (_, first-ready 0 last ina ((n - 7) / 7) a h (record { more = unfold posAt in (omega arith); last = unfold posAt in (omega arith) })
-              (ap (exchanged set) (sym (frames-long n out fit ((n - 7) / 7) a more last′)) ∙ w))
+              rw e (
+                _,
+                first-ready 0 last ina ((n - 7) / 7) a h (record { more = unfold posAt in (omega arith); last = unfold posAt in (omega arith) })
+                    (ap (exchanged set) (sym (frames-long n out fit ((n - 7) / 7) a more last′)) ∙ w),
+              )
 
   -- ---- at rest
 

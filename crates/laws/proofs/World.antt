@@ -13,8 +13,8 @@ use lib.Dec.{T, eqb}
 use mir.Facts.{yes-eqb, yes-leb, yes-ltb}
 use Rattle.rules.specs.Tests.{pick}
 use Rattle.rules.specs.Numbers.{berthCount, fromBerth, frameLength, flowKind, shortMost, N-OK}
-use Rattle.rules.specs.Ranges.{berthAt, InOrder}
-use Rattle.rules.specs.Frames.{kind, framesOf}
+use Rattle.rules.specs.Ranges.{berthAt, inOrder, InOrder}
+use Rattle.rules.specs.Frames.{kind, goFrame, counted, fillsBlock, framesOf}
 use Rattle.rules.specs.Arrivals.{Came, frameCame}
 use Rattle.rules.specs.Ticks.{rxTicked, rxCode, txTicked, txCode, ticked}
 use Rattle.rules.specs.Turns.{flowDue, messageDue, due, flowFrame, afterFlow, messageFrame, messageCode, afterMessage, HandedOver, handOver, beginsWith, sent as sentBerth, busy}
@@ -29,10 +29,11 @@ use Rattle.rules.specs.declared.Tx.{Tx}
 use Rattle.rules.specs.declared.Berth.{Berth}
 use Rattle.rules.proofs.Cases.{is-true, is-false, eqb-is, eqb-not, or-cases}
 use Rattle.rules.proofs.Ranges.{range-in-order}
-use Rattle.laws.specs.Own.{over, ownDone, own, heardOf, saidReports, Sound}
+use Rattle.laws.specs.Own.{over, ownDone, own, heardOf, saidReports, partShown, Sound}
 use Rattle.laws.specs.Sides.{sideOf, frameSide, handedIn, framesBy}
-use Rattle.laws.specs.Line.{Handed, there, back, World, reportsBy, deliveredIn, callA, callB, carriedA, carriedB, Deed, atA, atB, carryA, carryB, acts, living, tickCode, Spares, Apart, AllApart, gapLeft, AtRest, exchanged}
+use Rattle.laws.specs.Line.{Handed, there, back, World, reportsBy, deliveredIn, callA, callB, carriedA, carriedB, Deed, atA, atB, carryA, carryB, acts, living, tickCode, Spares, Apart, AllApart, gapLeft, AtRest, inBlocks, exchanged, thereOf, begin, MayBegin, Arrived}
 use Rattle.laws.proofs.Isolation.{settings-step, part-step}
+use Rattle.laws.proofs.Reports.{berth-shown}
 use Rattle.laws.proofs.SetUp.{sound-step}
 use Rattle.laws.proofs.Touch.{Touched, spared, clocked, turned, touch, Carried, carry, delivered-carried, none-delivered, own-is, all-met}
 use Rattle.laws.proofs.Frames.{extended}
@@ -308,19 +309,21 @@ module _ (i j : ℕ) (small-i : i < berthCount) (small-j : j < berthCount) (set 
   took-A w d q s l e =
       let r = carry i (w .a) s small-i sendSide d l (side-of-flow d e) in
       let (tx, o) = tx-of (outcome (w .a) (frame (fromBerth + i) d) .held) (partAfter (w .a .node .settings) (sideA (w .a)) (arrives d)) (r .part) in
-      let (a, b, c) = came-A (w .a) d in
-      ((λ k. record {
-        tx = (tx ∙ a) k;
-        toR = (ap (λ (fs : List (List ℕ)). w .toB ++ fs) (r .frames) ∙ append-nil (w .toB)) k;
-        toS = q;
-        log = (ap (λ (fs : List (List ℕ)). w .log ++ map there fs) (r .frames) ∙ append-nil (w .log)) k;
-        said = w .said ++ (r .reported ∙ c) k;
-        rx = lineOf i j w .rx;
-        last = lineOf i j w .last;
-        ina = lineOf i j w .ina;
-        heard = w .heard;
-        delivered = w .delivered;
-      }), o ∙ b)
+      let (a, b, c) = came-A (w .a) d in (
+        (λ k. record {
+          tx = (tx ∙ a) k;
+          toR = (ap (λ (fs : List (List ℕ)). w .toB ++ fs) (r .frames) ∙ append-nil (w .toB)) k;
+          toS = q;
+          log = (ap (λ (fs : List (List ℕ)). w .log ++ map there fs) (r .frames) ∙ append-nil (w .log)) k;
+          said = w .said ++ (r .reported ∙ c) k;
+          rx = lineOf i j w .rx;
+          last = lineOf i j w .last;
+          ina = lineOf i j w .ina;
+          heard = w .heard;
+          delivered = w .delivered;
+        }),
+        o ∙ b,
+      )
 
   came-B : (h : Held) (d : List ℕ)
       → (partAfter (h .node .settings) (sideB h) (arrives d) .berth ≡ frameCame (h .node .settings) (record { rx = berthAt (h .node) j .rx; last = berthAt (h .node) j .last; tx = Tx.Idle }) d .berth)
@@ -497,3 +500,120 @@ area-length a k store h e =
 
 sent-bytes : (l m out : List ℕ) → out ≡ sets l 0 m → length m ≤ length l → take (length m) out ≡ m
 sent-bytes l m out e h = rw e (rw (zero-add (length m)) at (extended l 0 m (length m) refl (omega arith)))
+
+-- ---- the law
+
+there-blocks : (s : Settings) (count : ℕ) (fs : List (List ℕ)) → thereOf (inBlocks s count fs) ≡ fs
+unfolding thereOf inBlocks
+there-blocks s count [] = refl
+there-blocks s count (f ∷ []) = refl
+there-blocks s count (f ∷ g ∷ fs) = go (fillsBlock (s .block) count) (there-blocks s 0 (g ∷ fs)) (there-blocks s (counted (s .block) count) (g ∷ fs))
+  where
+    go : (b : Bool) → thereOf (inBlocks s 0 (g ∷ fs)) ≡ g ∷ fs → thereOf (inBlocks s (counted (s .block) count) (g ∷ fs)) ≡ g ∷ fs
+        → thereOf (there f ∷ pick b (back (goFrame s) ∷ inBlocks s 0 (g ∷ fs)) (inBlocks s (counted (s .block) count) (g ∷ fs))) ≡ f ∷ g ∷ fs
+    go true x y = ap (λ (r : List (List ℕ)). f ∷ r) x
+    go false x y = ap (λ (r : List (List ℕ)). f ∷ r) y
+
+-- what is handed over there are the frames
+pub there-exchanged : (s : Settings) (fs : List (List ℕ)) → thereOf (exchanged s fs) ≡ fs
+unfolding thereOf exchanged
+there-exchanged s [] = refl
+there-exchanged s (f ∷ []) = refl
+there-exchanged s (f ∷ g ∷ fs) = ap (λ (r : List (List ℕ)). f ∷ r) (there-blocks s 0 (g ∷ fs))
+
+module _ (i j : ℕ) (m : List ℕ) (a b : Held) (may : MayBegin i j m a b) where
+  -- the area after the send
+  abbrev pub outA : List ℕ
+  outA = partOf i (outcome a (send i m) .held) .outgoing
+
+  abbrev pub setB : Settings
+  setB = b .node .settings
+
+  abbrev pub expected : List Handed
+  expected = exchanged setB (framesOf m)
+
+  idle-free : busy (berthAt (a .node) i .tx) ≡ false
+  unfolding busy
+  idle-free = rw (may .idle-a)
+
+  sent-facts : (berthAt (outcome a (send i m) .held .node) i .tx ≡ beginsWith (length m))
+      × (outA ≡ sets (areaOf (a .node .settings .area) i (a .outgoing)) 0 m)
+  sent-facts = sent-part a i m (send-met a i m (may .small-i) (may .sound-a) idle-free (may .some) (may .fits-a))
+
+  area-a : length (areaOf (a .node .settings .area) i (a .outgoing)) ≡ a .node .settings .area
+  area-a = area-length (a .node .settings .area) i (a .outgoing) (may .small-i) (may .sound-a .outgoing)
+
+  pub fit-a : length m ≤ length outA
+  fit-a = omega (arith, ap length (sent-facts .1) ∙ length-sets (areaOf (a .node .settings .area) i (a .outgoing)) 0 m, area-a, may .fits-a)
+
+  message : take (length m) outA ≡ m
+  message = sent-bytes (areaOf (a .node .settings .area) i (a .outgoing)) m outA (sent-facts .1) (omega (arith, area-a, may .fits-a))
+
+  pub small-b : setB .area ≤ shortMost
+  small-b = may .sound-b .order .settings .area-most
+
+  room-b : length m ≤ length (partOf j b .incoming)
+  unfolding partOf
+  room-b = omega (arith, area-length (setB .area) j (b .incoming) (may .small-j) (may .sound-b .incoming), may .fits-b)
+
+  first-line : lineOf i j (begin i m a b) ≡ under-way i j setB (length m) outA expected (beginsWith (length m)) [] [] [] Rx.Idle (berthAt (b .node) j .last) (partOf j b .incoming)
+  unfolding lineOf
+  first-line =
+      λ k. record {
+        tx = sent-facts .0 k;
+        toR = [];
+        toS = [];
+        log = [];
+        said = [];
+        rx = may .idle-b k;
+        last = berthAt (b .node) j .last;
+        ina = partOf j b .incoming;
+        heard = [];
+        delivered = [];
+      }
+
+  pub begun-alive : Alive i j (may .small-i) (may .small-j) setB (length m) outA expected (begin i m a b)
+  begun-alive =
+      let (k, ph) = starts i j setB (length m) outA expected fit-a (may .some) (may .fits-b) small-b (ap (λ (x : List ℕ). exchanged setB (framesOf x)) message)
+      (berthAt (b .node) j .last) (partOf j b .incoming) room-b in
+      record {
+        sound-a = sound-step a (send i m) (may .sound-a);
+        sound-b = may .sound-b;
+        settings-b = refl;
+        kept = refl;
+        steps = k;
+        phase = subst (λ (x : Line). Phase i j setB (length m) outA expected x k) (sym first-line) ph;
+      }
+
+  landed : (w : World) → Alive i j (may .small-i) (may .small-j) setB (length m) outA expected w → Landed i j setB (length m) outA expected (lineOf i j w) → Arrived i j m w
+  unfolding lineOf partOf partShown
+  landed w s l =
+      let o : T (inOrder (w .b .node)) = range-in-order (w .b .node) (s .sound-b .order) in
+      let bytes : take (length m) (areaOf (w .b .node .settings .area) j (w .b .incoming)) ≡ m = l .bytes ∙ message in
+      record {
+        bytes = bytes;
+        shown = berth-shown j (w .b) false (may .small-j) o (s .sound-b .incoming) (s .sound-b .outgoing)
+            ∙ ap (λ (k : ℕ). take k (areaOf (w .b .node .settings .area) j (w .b .incoming))) (l .last) ∙ bytes;
+        delivered = l .delivered;
+        last = l .last;
+        sender = l .said;
+        taker = l .heard;
+        handed = l .log ∙ ap (λ (x : Settings). exchanged x (framesOf m)) (sym (s .settings-b));
+        frames = ap thereOf (l .log) ∙ there-exchanged setB (framesOf m);
+        idle-a = l .tx;
+        idle-b = l .rx;
+      }
+
+  -- THE LINE'S LAW. Node A takes a message of 1 to A bytes for berth i; berth j of node B is idle and its area holds the message; both
+  -- nodes are in order and every store has its length. Then any calls on both nodes, each node's own ticks too, with each frame
+  -- of A's berth i carried to B's berth j and its flow control back, under the identifiers expected, once and in order. No other
+  -- frame or send touches these two sides (one that is refused or ignored touches nothing), and no timer of theirs reaches
+  -- 1,000. When none is on the way and neither has one due or a gap left, the same bytes have arrived and the sender reports 1.
+  pub line-law : (ds : List Deed) → AllApart i j (begin i m a b) ds → AtRest i j (living i j (begin i m a b) ds)
+      → Arrived i j m (living i j (begin i m a b) ds)
+  unfolding lineOf
+  line-law ds apart rest =
+      let s = alive-on i j (may .small-i) (may .small-j) setB (length m) outA expected fit-a (may .some) (may .fits-b) small-b (begin i m a b) ds apart begun-alive in
+      landed (living i j (begin i m a b) ds) s
+      (at-rest i j setB (length m) outA expected (lineOf i j (living i j (begin i m a b) ds)) (s .steps) (s .phase)
+      (rest .none-there) (rest .none-back) (rest .none-due) (rest .no-gap) (rest .no-flow))

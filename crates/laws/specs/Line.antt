@@ -1,21 +1,22 @@
 -- The line's law: two nodes, and a line between berth i of node A, which sends, and berth j of node B, which takes. Any calls on both
 -- nodes, and the carrying of frames. What was handed over and reported is read off the answers alone.
-use Prim.Native.Nat.{ℕ, _+_}
+use Prim.Native.Nat.{ℕ, _+_, _≤_, _<_}
 use mathlib.Core.Path.{_≡_}
 use mathlib.Core.Bool.{Bool, true, false, not, _||_}
 use mathlib.Core.List.{List, [], _∷_, _++_, map}
+use lib.ListN.{length, take}
 use lib.Dec.{T, eqb}
 use Rattle.rules.specs.Tests.{pick}
-use Rattle.rules.specs.Numbers.{fromBerth}
+use Rattle.rules.specs.Numbers.{berthCount, fromBerth, N-OK}
 use Rattle.rules.specs.Ranges.{berthAt}
-use Rattle.rules.specs.Frames.{counted, fillsBlock, goFrame}
+use Rattle.rules.specs.Frames.{counted, fillsBlock, goFrame, framesOf}
 use Rattle.rules.specs.Arrivals.{Came}
 use Rattle.rules.specs.Ticks.{rxCode, txCode}
 use Rattle.rules.specs.Turns.{flowDue, messageDue}
-use Rattle.rules.specs.Stores.{Held, cameAt}
-use Rattle.rules.specs.Answers.{Answer, Side, receive, send as sendSide, Report, reports}
+use Rattle.rules.specs.Stores.{Held, areaOf, cameAt}
+use Rattle.rules.specs.Answers.{Answer, Side, receive, send as sendSide, Report, reported, reports}
 use Rattle.rules.specs.Refusals.{Call, frame, tick, send, turn, show, senderOf, refusal}
-use Rattle.rules.specs.Calls.{Outcome, outcome}
+use Rattle.rules.specs.Calls.{Outcome, outcome, showing}
 use Rattle.rules.specs.Alone.{Says, hears, expires, accepts, hands}
 use Rattle.rules.specs.declared.Settings.{Settings}
 use Rattle.rules.specs.declared.Rx.{Rx}
@@ -23,7 +24,7 @@ use Rattle.rules.specs.declared.Tx.{Tx}
 use Rattle.rules.specs.declared.Berth.{Berth}
 use Rattle.rules.specs.declared.Word.{Word}
 use Rattle.rules.specs.declared.Word.the-variants.{Delivered, Begun, Failed, Ignored, TooLong, Took, Going, Waiting}
-use Rattle.laws.specs.Own.{over, heardOf, ofBerth}
+use Rattle.laws.specs.Own.{over, heardOf, ofBerth, Sound}
 use Rattle.laws.specs.Sides.{sameSide, frameSide, ofSide, framesBy}
 
 -- ---- two nodes and the line
@@ -185,3 +186,44 @@ unfoldable pub exchanged : Settings → List (List ℕ) → List Handed
 exchanged s [] = []
 exchanged s (f ∷ []) = there f ∷ []
 exchanged s (f ∷ g ∷ fs) = there f ∷ back (goFrame s) ∷ inBlocks s 0 (g ∷ fs)
+
+-- the frames there, by themselves
+unfoldable pub thereOf : List Handed → List (List ℕ)
+thereOf [] = []
+thereOf (there f ∷ hs) = f ∷ thereOf hs
+thereOf (back f ∷ hs) = thereOf hs
+
+-- ---- the law: where it begins, and where it ends
+
+-- node A has taken the message for berth i; nothing is on the way and nothing was handed over or reported
+abbrev pub begin : ℕ → List ℕ → Held → Held → World
+begin i m a b =
+    record { a = outcome a (send i m) .held; b = b; toB = []; toA = []; log = []; said = []; heard = []; delivered = [] }
+
+-- what the law wants of the two nodes: berth i's send side and berth j's receive side idle, both nodes in order with stores of the
+-- right length, and a message of 1 to A bytes that the taker's area holds
+pub record MayBegin (i j : ℕ) (m : List ℕ) (a b : Held) : Type 0 where
+  pub small-i : i < berthCount
+  pub small-j : j < berthCount
+  pub sound-a : Sound a
+  pub sound-b : Sound b
+  pub idle-a : berthAt (a .node) i .tx ≡ Tx.Idle
+  pub idle-b : berthAt (b .node) j .rx ≡ Rx.Idle
+  pub some : 1 ≤ length m
+  pub fits-a : length m ≤ a .node .settings .area
+  pub fits-b : length m ≤ b .node .settings .area
+
+-- the same bytes have arrived in the taker's area and are shown; Delivered was answered once, with the length, and is the last length;
+-- the sender has reported one code, 1, and so has the taker; the frames handed over both ways, in order; the frames there are
+-- those of the message; both sides are idle again
+pub record Arrived (i j : ℕ) (m : List ℕ) (w : World) : Type 0 where
+  pub bytes : take (length m) (areaOf (w .b .node .settings .area) j (w .b .incoming)) ≡ m
+  pub shown : showing (w .b) j false ≡ m
+  pub delivered : w .delivered ≡ length m ∷ []
+  pub last : berthAt (w .b .node) j .last ≡ length m
+  pub sender : w .said ≡ reported i sendSide N-OK
+  pub taker : w .heard ≡ reported j receive N-OK
+  pub handed : w .log ≡ exchanged (w .b .node .settings) (framesOf m)
+  pub frames : thereOf (w .log) ≡ framesOf m
+  pub idle-a : berthAt (w .a .node) i .tx ≡ Tx.Idle
+  pub idle-b : berthAt (w .b .node) j .rx ≡ Rx.Idle
