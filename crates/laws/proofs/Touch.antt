@@ -264,17 +264,27 @@ module _ (k : ℕ) (h : Held) where
   )
 
   -- what a call that spares the side does to it: nothing, a tick of it, or a turn of it
-  pub data Touched (s : Side) (p p′ : Part) (rs : List Report) (fs : List (List ℕ)) : Type 0 where
-    spared : p′ ≡ p → rs ≡ [] → fs ≡ [] → Touched s p p′ rs fs
-    clocked : p′ ≡ partAfter set p ticks → rs ≡ saidReports k (says set p ticks) → fs ≡ [] → tickCode s (p .berth) ≡ 0 → Touched s p p′ rs fs
-    turned : T (due (p .berth)) → p′ ≡ partAfter set p turns → rs ≡ saidReports k (says set p turns) → fs ≡ handedIn (says set p turns)
-        → Touched s p p′ rs fs
+  pub record SparedBy (s : Side) (c : Call) : Type 0 where
+    pub part : sideOf s (partOf k (outcome h c .held)) ≡ sideOf s (partOf k h)
+    pub reported : reportsBy s k (outcome h c .answer) ≡ []
+    pub frames : framesBy s k (outcome h c .answer) ≡ []
 
-  -- of the same call, by its outcome
-  abbrev TouchedBy : Side → Call → Type 0
-  TouchedBy s c =
-      Touched s (sideOf s (partOf k h)) (sideOf s (partOf k (outcome h c .held))) (reportsBy s k (outcome h c .answer))
-      (framesBy s k (outcome h c .answer))
+  pub record TickOf (s : Side) (c : Call) : Type 0 where
+    pub part : sideOf s (partOf k (outcome h c .held)) ≡ partAfter set (sideOf s (partOf k h)) ticks
+    pub reported : reportsBy s k (outcome h c .answer) ≡ saidReports k (says set (sideOf s (partOf k h)) ticks)
+    pub frames : framesBy s k (outcome h c .answer) ≡ []
+    pub none : tickCode s (sideOf s (partOf k h) .berth) ≡ 0
+
+  pub record TurnOf (s : Side) (c : Call) : Type 0 where
+    pub is-due : T (due (sideOf s (partOf k h) .berth))
+    pub part : sideOf s (partOf k (outcome h c .held)) ≡ partAfter set (sideOf s (partOf k h)) turns
+    pub reported : reportsBy s k (outcome h c .answer) ≡ saidReports k (says set (sideOf s (partOf k h)) turns)
+    pub frames : framesBy s k (outcome h c .answer) ≡ handedIn (says set (sideOf s (partOf k h)) turns)
+
+  pub data TouchedBy (s : Side) (c : Call) : Type 0 where
+    spared : SparedBy s c → TouchedBy s c
+    clocked : TickOf s c → TouchedBy s c
+    turned : TurnOf s c → TouchedBy s c
 
   pub own-is : (c : Call) → refusal h c ≡ 0 → own k h c ≡ ownDone k h c
   unfolding own
@@ -298,12 +308,12 @@ module _ (k : ℕ) (h : Held) where
       not-its u = unfold sideEvents forSide in (rw (is-false (sameSide s (frameSide d)) u))
 
       go : Tested (eqb (senderOf id) k) (senderOf id ≡ k) (senderOf id ≡ k → ⊥) → TouchedBy s (frame id d)
-      go (fails u q) = let (x, y) = untouched s (frame id d) [] (done-as false u) (unfold sideEvents in refl) in spared x y fs
+      go (fails u q) = let (x, y) = untouched s (frame id d) [] (done-as false u) (unfold sideEvents in refl) in spared (record { part = x; reported = y; frames = fs })
       go (holds u q) = by (or-cases (isIgnored (cameAt h k d .word)) _ (rw u at t))
         where
           by : T (isIgnored (cameAt h k d .word)) ⊎ T (not (sameSide s (frameSide d))) → TouchedBy s (frame id d)
-          by (inl v) = let (x, y) = passed-by s (frame id d) d (done-as true u) v in spared x y fs
-          by (inr v) = let (x, y) = untouched s (frame id d) (arrives d ∷ []) (done-as true u) (not-its v) in spared x y fs
+          by (inl v) = let (x, y) = passed-by s (frame id d) d (done-as true u) v in spared (record { part = x; reported = y; frames = fs })
+          by (inr v) = let (x, y) = untouched s (frame id d) (arrives d ∷ []) (done-as true u) (not-its v) in spared (record { part = x; reported = y; frames = fs })
 
   touch-send : (s : Side) (j : ℕ) (m : List ℕ) → refusal h (send j m) ≡ 0 → T (spares s k h (send j m)) → TouchedBy s (send j m)
   unfolding spares
@@ -319,19 +329,19 @@ module _ (k : ℕ) (h : Held) where
       not-its u = unfold sideEvents forSide in (rw (is-false (sameSide s sendSide) u))
 
       go : Tested (eqb j k) (j ≡ k) (j ≡ k → ⊥) → TouchedBy s (send j m)
-      go (holds u q) = let (x, y) = untouched s (send j m) (sends m ∷ []) (done-as true u) (not-its (rw u at t)) in spared x y fs
-      go (fails u q) = let (x, y) = untouched s (send j m) [] (done-as false u) (unfold sideEvents in refl) in spared x y fs
+      go (holds u q) = let (x, y) = untouched s (send j m) (sends m ∷ []) (done-as true u) (not-its (rw u at t)) in spared (record { part = x; reported = y; frames = fs })
+      go (fails u q) = let (x, y) = untouched s (send j m) [] (done-as false u) (unfold sideEvents in refl) in spared (record { part = x; reported = y; frames = fs })
 
   side-code : (s : Side) → tickCode s (sideOf s (partOf k h) .berth) ≡ tickCode s (berthAt (h .node) k)
   unfolding sideOf partOf
   side-code receive = refl
   side-code sendSide = refl
 
-  touch-tick : (s : Side) → refusal h tick ≡ 0 → T (spares s k h tick) → TouchedBy s tick
+  pub touch-tick : (s : Side) → refusal h tick ≡ 0 → T (spares s k h tick) → TickOf s tick
   unfolding spares
   touch-tick s e t =
       let (x, y) = touched s tick ticks (own-is tick e ∙ unfold ownDone in refl) (unfold sideEvents forSide in refl) in
-      clocked x y (ap (framesBy s k) (answer-is tick e) ∙ unfold reply framesBy in refl) (side-code s ∙ eqb-yes t)
+      record { part = x; reported = y; frames = ap (framesBy s k) (answer-is tick e) ∙ unfold reply framesBy in refl; none = side-code s ∙ eqb-yes t }
 
   -- the side whose turn it is has a frame due
   due-side : (p : Part) → T (due (p .berth)) → T (due (sideOf (turnSide p) p .berth))
@@ -385,47 +395,73 @@ module _ (k : ℕ) (h : Held) where
             handed-side set (partOf k h) (sound .order .settings .area-most) range due-k,
           )
 
+      frames-own : framesBy s k (outcome h (turn buffer) .answer)
+          ≡ pick (sameSide s (turnSide (partOf k h))) (handOver set (partOf k h .berth) (partOf k h .outgoing) .frame ∷ []) []
+      frames-own = ap (framesBy s k) (answer-is (turn buffer) e) ∙ frames-turn
+
+      -- it is the side's own turn, or the other side's
+      pub turn-of-side : T (sameSide s (turnSide (partOf k h))) → TurnOf s (turn buffer)
+      unfolding sideEvents forSide says handedIn
+      turn-of-side t =
+          let v : sameSide s (turnSide (partOf k h)) ≡ true = is-true _ t in
+          let (x, y) = touched s (turn buffer) turns own-k (rw v) in
+          record {
+            is-due = rw (same-side s (turnSide (partOf k h)) t) at (due-side (partOf k h) due-k);
+            part = x;
+            reported = y;
+            frames = frames-own
+                ∙ ap (λ (b : Bool). pick b (handOver set (partOf k h .berth) (partOf k h .outgoing) .frame ∷ []) []) v
+                ∙ sym (ap handedIn (said-turn s (partOf k h) t));
+          }
+
+      pub turn-of-other : T (not (sameSide s (turnSide (partOf k h)))) → SparedBy s (turn buffer)
+      unfolding sideEvents forSide
+      turn-of-other t =
+          let v : sameSide s (turnSide (partOf k h)) ≡ false = is-false _ t in
+          let (x, y) = untouched s (turn buffer) (turns ∷ []) own-k (rw v) in
+          record { part = x; reported = y; frames = frames-own ∙ rw v }
+
       touch-own-turn : TouchedBy s (turn buffer)
       touch-own-turn = go (test-cases (sameSide s (turnSide (partOf k h))))
         where
-          frames : framesBy s k (outcome h (turn buffer) .answer)
-              ≡ pick (sameSide s (turnSide (partOf k h))) (handOver set (partOf k h .berth) (partOf k h .outgoing) .frame ∷ []) []
-          frames = ap (framesBy s k) (answer-is (turn buffer) e) ∙ frames-turn
-
           go : Tested (sameSide s (turnSide (partOf k h))) (T (sameSide s (turnSide (partOf k h)))) (T (not (sameSide s (turnSide (partOf k h)))))
               → TouchedBy s (turn buffer)
-          go (holds v t) =
-              let (x, y) = touched s (turn buffer) turns own-k (unfold sideEvents forSide in (rw v)) in
-              turned (rw (same-side s (turnSide (partOf k h)) t) at (due-side (partOf k h) due-k)) x y
-              (frames ∙ rw (v, said-turn s (partOf k h) t) (unfold says handedIn in refl))
-          go (fails v t) = let (x, y) = untouched s (turn buffer) (turns ∷ []) own-k (unfold sideEvents forSide in (rw v)) in spared x y (frames ∙ rw v)
+          go (holds v t) = turned (turn-of-side t)
+          go (fails v t) = spared (turn-of-other t)
+
+    -- a turn that reached another berth, or none
+    not-reached : (s : Side) (buffer : List ℕ) → refusal h (turn buffer) ≡ 0 → own k h (turn buffer) ≡ [] → framesBy s k (reply h (turn buffer)) ≡ []
+        → SparedBy s (turn buffer)
+    not-reached s buffer e o f =
+        let (x, y) = untouched s (turn buffer) [] o (unfold sideEvents in refl) in
+        record { part = x; reported = y; frames = ap (framesBy s k) (answer-is (turn buffer) e) ∙ f }
+
+    pub other-berth : (s : Side) (buffer : List ℕ) → refusal h (turn buffer) ≡ 0 → passedOver (h .node) < berthCount → (reached (h .node) ≡ k → ⊥)
+        → SparedBy s (turn buffer)
+    unfolding ownDone reply framesBy
+    other-berth s buffer e l ne =
+        let to : takerOf (toBerth + reached (h .node)) ≡ reached (h .node) = omega arith in
+        let u = ltb-is (passedOver (h .node)) berthCount l in
+        let t = eqb-not (reached (h .node)) k ne in
+        not-reached s buffer e (own-is (turn buffer) e ∙ rw (u, t)) (rw (u, to, t))
 
     touch-turn : (s : Side) (buffer : List ℕ) → refusal h (turn buffer) ≡ 0 → TouchedBy s (turn buffer)
     touch-turn s buffer e = go (ltb-cases (passedOver (h .node)) berthCount) (eqb-cases (reached (h .node)) k)
       where
-        to : takerOf (toBerth + reached (h .node)) ≡ reached (h .node)
-        to = omega arith
-
-        nobody : own k h (turn buffer) ≡ [] → framesBy s k (reply h (turn buffer)) ≡ [] → TouchedBy s (turn buffer)
-        nobody o f =
-            let (x, y) = untouched s (turn buffer) [] o (unfold sideEvents in refl) in
-            spared x y (ap (framesBy s k) (answer-is (turn buffer) e) ∙ f)
-
         go : Tested (ltb (passedOver (h .node)) berthCount) (passedOver (h .node) < berthCount) (berthCount ≤ passedOver (h .node))
             → Tested (eqb (reached (h .node)) k) (reached (h .node) ≡ k) (reached (h .node) ≡ k → ⊥) → TouchedBy s (turn buffer)
         go (holds u l) (holds t q) = touch-own-turn s buffer e l q
-        go (holds u l) (fails t ne) =
-            nobody (own-is (turn buffer) e ∙ unfold ownDone in (rw (u, t))) (unfold reply framesBy in (rw (u, to, t)))
-        go (fails u l) w = nobody (own-is (turn buffer) e ∙ unfold ownDone in (rw u)) (unfold reply framesBy in (rw u))
+        go (holds u l) (fails t ne) = spared (other-berth s buffer e l ne)
+        go (fails u l) w = spared (not-reached s buffer e (own-is (turn buffer) e ∙ unfold ownDone in (rw u)) (unfold reply framesBy in (rw u)))
 
     touch-answered : (s : Side) (c : Call) → refusal h c ≡ 0 → T (spares s k h c) → TouchedBy s c
     touch-answered s (frame id d) e t = touch-frame s id d e t
-    touch-answered s tick e t = touch-tick s e t
+    touch-answered s tick e t = clocked (touch-tick s e t)
     touch-answered s (send j m) e t = touch-send s j m e t
     touch-answered s (turn buffer) e t = touch-turn s buffer e
     touch-answered s (show j choice) e t =
         let (x, y) = untouched s (show j choice) [] (own-is (show j choice) e ∙ unfold ownDone in refl) (unfold sideEvents in refl) in
-        spared x y (ap (framesBy s k) (answer-is (show j choice) e) ∙ unfold reply framesBy in refl)
+        spared (record { part = x; reported = y; frames = ap (framesBy s k) (answer-is (show j choice) e) ∙ unfold reply framesBy in refl })
 
     -- what a call that spares side s of berth k does to that side
     pub touch : (s : Side) (c : Call) → Spares s k h c → TouchedBy s c
@@ -435,7 +471,7 @@ module _ (k : ℕ) (h : Held) where
         go zero e = touch-answered s c e (t e)
         go (suc n) e =
             let (x, y) = untouched s c [] (unfold own in (rw e)) (unfold sideEvents in refl) in
-            spared x y (unfold outcome refusedOutcome framesBy in (rw e))
+            spared (record { part = x; reported = y; frames = unfold outcome refusedOutcome framesBy in (rw e) })
 
     -- ---- a frame carried to the side
 

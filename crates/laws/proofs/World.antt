@@ -35,7 +35,7 @@ use Rattle.laws.specs.Line.{Handed, there, back, World, reportsBy, deliv
 use Rattle.laws.proofs.Isolation.{settings-step, part-step}
 use Rattle.laws.proofs.Reports.{berth-shown}
 use Rattle.laws.proofs.SetUp.{sound-step}
-use Rattle.laws.proofs.Touch.{Touched, spared, clocked, turned, touch, Carried, carry, delivered-carried, none-delivered, own-is, all-met}
+use Rattle.laws.proofs.Touch.{SparedBy, TickOf, TurnOf, TouchedBy, spared, clocked, turned, touch, Carried, carry, delivered-carried, none-delivered, own-is, all-met}
 use Rattle.laws.proofs.Frames.{extended}
 use Rattle.laws.proofs.Line.{Line, Phase, under-way, handS, handR, tickS, tickR, tookR, tookS, receiving, sending, ticks-S, ticks-R, hands-S, hands-R, carries-S, carries-R, there-whole, back-whole, starts, Landed, at-rest}
 
@@ -160,12 +160,12 @@ flow-B l rx f =
 module _ (i j : ℕ) (small-i : i < berthCount) (small-j : j < berthCount) (set : Settings) (n : ℕ) (out : List ℕ) (E : List Handed) where
   -- ---- what a step is for the line
 
-  pub data StepS (l l′ : Line) : Type 0 where
+  data StepS (l l′ : Line) : Type 0 where
     idle-S : l′ ≡ l → StepS l l′
     tick-S : txCode (l .tx) ≡ 0 → l′ ≡ tickS i j set n out E l → StepS l l′
     hand-S : T (messageDue (l .tx)) → l′ ≡ handS i j set n out E l → StepS l l′
 
-  pub data StepR (l l′ : Line) : Type 0 where
+  data StepR (l l′ : Line) : Type 0 where
     idle-R : l′ ≡ l → StepR l l′
     tick-R : rxCode (l .rx) ≡ 0 → l′ ≡ tickR i j set n out E l → StepR l l′
     hand-R : T (flowDue (l .rx)) → l′ ≡ handR i j set n out E l → StepR l l′
@@ -217,26 +217,42 @@ module _ (i j : ℕ) (small-i : i < berthCount) (small-j : j < berthCount) (set 
   unfolding due sideOf partOf flowDue
   due-A h t = t
 
-  -- what a call on A that spares the send side of berth i is for the line; the message stays in its area
-  step-A : (w : World) (c : Call) → partOf i (w .a) .outgoing ≡ out
-      → Touched i (w .a) sendSide (sideA (w .a)) (sideA (outcome (w .a) c .held)) (reportsBy sendSide i (outcome (w .a) c .answer)) (framesBy sendSide i (outcome (w .a) c .answer))
-      → StepS (lineOf i j w) (lineOf i j (callA i w c)) × (partOf i (outcome (w .a) c .held) .outgoing ≡ out)
+  -- what a call on A is for the line that spares the send side of berth i, is a tick of it, or a turn of it; the message stays in its area
+  abbrev KeptA : World → Call → Type 0
+  KeptA w c = partOf i (outcome (w .a) c .held) .outgoing ≡ out
+
+  pub spared-A : (w : World) (c : Call) → partOf i (w .a) .outgoing ≡ out → SparedBy i (w .a) sendSide c
+      → (lineOf i j (callA i w c) ≡ lineOf i j w) × KeptA w c
   unfolding lineOf sideOf partOf
-  step-A w c kept (spared x y z) =
-      let (tx, o) = tx-of (outcome (w .a) c .held) (sideA (w .a)) x in
-      (idle-S (line-A w c ∙ path-A (lineOf i j w) tx z y ∙ only-A (lineOf i j w) (lineOf i j w .tx)), o ∙ kept)
-  step-A w c kept (clocked x y z k) =
-      let (tx, o) = tx-of (outcome (w .a) c .held) (partAfter (w .a .node .settings) (sideA (w .a)) ticks) x in
+  spared-A w c kept s =
+      let (tx, o) = tx-of (outcome (w .a) c .held) (sideA (w .a)) (s .part) in
+      (line-A w c ∙ path-A (lineOf i j w) tx (s .frames) (s .reported) ∙ only-A (lineOf i j w) (lineOf i j w .tx), o ∙ kept)
+
+  pub tick-A : (w : World) (c : Call) → partOf i (w .a) .outgoing ≡ out → TickOf i (w .a) sendSide c
+      → (txCode (lineOf i j w .tx) ≡ 0) × (lineOf i j (callA i w c) ≡ tickS i j set n out E (lineOf i j w)) × KeptA w c
+  unfolding lineOf sideOf partOf
+  tick-A w c kept s =
+      let (tx, o) = tx-of (outcome (w .a) c .held) (partAfter (w .a .node .settings) (sideA (w .a)) ticks) (s .part) in
       let (a, b, r, d) = ticked-A (w .a) in
-      let code : txCode (berthAt (w .a .node) i .tx) ≡ 0 = sym d ∙ k in
+      let code : txCode (berthAt (w .a .node) i .tx) ≡ 0 = sym d ∙ s .none in
       let none : reported i sendSide (txCode (berthAt (w .a .node) i .tx)) ≡ [] = ap (reported i sendSide) code ∙ unfold reported in refl in
-      (tick-S code (line-A w c ∙ path-A (lineOf i j w) (tx ∙ a) z (y ∙ r ∙ none) ∙ only-A (lineOf i j w) (txTicked (lineOf i j w .tx))), o ∙ b ∙ kept)
-  step-A w c kept (turned t x y z) =
-      let (tx, o) = tx-of (outcome (w .a) c .held) (partAfter (w .a .node .settings) (sideA (w .a)) turns) x in
+      (code, line-A w c ∙ path-A (lineOf i j w) (tx ∙ a) (s .frames) (s .reported ∙ r ∙ none) ∙ only-A (lineOf i j w) (txTicked (lineOf i j w .tx)), o ∙ b ∙ kept)
+
+  pub turn-A : (w : World) (c : Call) → partOf i (w .a) .outgoing ≡ out → TurnOf i (w .a) sendSide c
+      → T (messageDue (lineOf i j w .tx)) × (lineOf i j (callA i w c) ≡ handS i j set n out E (lineOf i j w)) × KeptA w c
+  unfolding lineOf sideOf partOf
+  turn-A w c kept s =
+      let (tx, o) = tx-of (outcome (w .a) c .held) (partAfter (w .a .node .settings) (sideA (w .a)) turns) (s .part) in
       let (a, b, r, d) = turned-A (w .a) in
       let f : messageFrame (berthAt (w .a .node) i .tx) (partOf i (w .a) .outgoing) ∷ [] ≡ messageFrame (berthAt (w .a .node) i .tx) out ∷ [] =
       ap (λ (area : List ℕ). messageFrame (berthAt (w .a .node) i .tx) area ∷ []) kept in
-      (hand-S (due-A (w .a) t) (line-A w c ∙ path-A (lineOf i j w) (tx ∙ a) (z ∙ d ∙ f) (y ∙ r) ∙ unfold fromA in refl), o ∙ b ∙ kept)
+      (due-A (w .a) (s .is-due), line-A w c ∙ path-A (lineOf i j w) (tx ∙ a) (s .frames ∙ d ∙ f) (s .reported ∙ r) ∙ unfold fromA in refl, o ∙ b ∙ kept)
+
+  step-A : (w : World) (c : Call) → partOf i (w .a) .outgoing ≡ out → TouchedBy i (w .a) sendSide c
+      → StepS (lineOf i j w) (lineOf i j (callA i w c)) × KeptA w c
+  step-A w c kept (spared s) = let (e, o) = spared-A w c kept s in (idle-S e, o)
+  step-A w c kept (clocked s) = let (z, e, o) = tick-A w c kept s in (tick-S z e, o)
+  step-A w c kept (turned s) = let (t, e, o) = turn-A w c kept s in (hand-S t e, o)
 
   -- a tick and a turn of the receive side alone
   ticked-B : (h : Held) → (partAfter (h .node .settings) (sideB h) ticks .berth .rx ≡ rxTicked (berthAt (h .node) j .rx))
@@ -260,28 +276,42 @@ module _ (i j : ℕ) (small-i : i < berthCount) (small-j : j < berthCount) (set 
   unfolding partAfter sideOf partOf handOver says saidReports handedIn reported
   turned-B h e = (rw e, rw e, refl, rw e, rw e)
 
-  step-B : (w : World) (c : Call) → w .b .node .settings ≡ set → over deliveredIn (heardOf j (outcome (w .b) c .answer)) ≡ []
-      → Touched j (w .b) receive (sideB (w .b)) (sideB (outcome (w .b) c .held)) (reportsBy receive j (outcome (w .b) c .answer)) (framesBy receive j (outcome (w .b) c .answer))
-      → StepR (lineOf i j w) (lineOf i j (callB j w c))
+  abbrev NoneB : World → Call → Type 0
+  NoneB w c = over deliveredIn (heardOf j (outcome (w .b) c .answer)) ≡ []
+
+  pub spared-B : (w : World) (c : Call) → NoneB w c → SparedBy j (w .b) receive c → lineOf i j (callB j w c) ≡ lineOf i j w
   unfolding lineOf sideOf partOf
-  step-B w c same ds (spared x y z) =
-      let (rx, last, ina) = rx-of (outcome (w .b) c .held) (sideB (w .b)) x in
-      idle-R (line-B w c ∙ path-B (lineOf i j w) rx last ina z y ds ∙ only-B (lineOf i j w) (lineOf i j w .rx) (lineOf i j w .last) (lineOf i j w .ina))
-  step-B w c same ds (clocked x y z k) =
-      let (rx, last, ina) = rx-of (outcome (w .b) c .held) (partAfter (w .b .node .settings) (sideB (w .b)) ticks) x in
+  spared-B w c ds s =
+      let (rx, last, ina) = rx-of (outcome (w .b) c .held) (sideB (w .b)) (s .part) in
+      line-B w c ∙ path-B (lineOf i j w) rx last ina (s .frames) (s .reported) ds ∙ only-B (lineOf i j w) (lineOf i j w .rx) (lineOf i j w .last) (lineOf i j w .ina)
+
+  pub tick-B : (w : World) (c : Call) → NoneB w c → TickOf j (w .b) receive c
+      → (rxCode (lineOf i j w .rx) ≡ 0) × (lineOf i j (callB j w c) ≡ tickR i j set n out E (lineOf i j w))
+  unfolding lineOf sideOf partOf
+  tick-B w c ds s =
+      let (rx, last, ina) = rx-of (outcome (w .b) c .held) (partAfter (w .b .node .settings) (sideB (w .b)) ticks) (s .part) in
       let (a, b, v, r, d) = ticked-B (w .b) in
-      let code : rxCode (berthAt (w .b .node) j .rx) ≡ 0 = sym d ∙ k in
+      let code : rxCode (berthAt (w .b .node) j .rx) ≡ 0 = sym d ∙ s .none in
       let none : reported j receive (rxCode (berthAt (w .b .node) j .rx)) ++ [] ≡ [] = ap (λ (m : ℕ). reported j receive m ++ []) code ∙ unfold reported in refl in
-      tick-R code (line-B w c ∙ path-B (lineOf i j w) (rx ∙ a) (last ∙ b) (ina ∙ v) z (y ∙ r ∙ none) ds
+      (code, line-B w c ∙ path-B (lineOf i j w) (rx ∙ a) (last ∙ b) (ina ∙ v) (s .frames) (s .reported ∙ r ∙ none) ds
       ∙ only-B (lineOf i j w) (rxTicked (lineOf i j w .rx)) (lineOf i j w .last) (lineOf i j w .ina))
-  step-B w c same ds (turned t x y z) =
-      let (rx, last, ina) = rx-of (outcome (w .b) c .held) (partAfter (w .b .node .settings) (sideB (w .b)) turns) x in
-      let e = due-B (w .b) t in
+
+  pub turn-B : (w : World) (c : Call) → w .b .node .settings ≡ set → NoneB w c → TurnOf j (w .b) receive c
+      → T (flowDue (lineOf i j w .rx)) × (lineOf i j (callB j w c) ≡ handR i j set n out E (lineOf i j w))
+  unfolding lineOf sideOf partOf
+  turn-B w c same ds s =
+      let (rx, last, ina) = rx-of (outcome (w .b) c .held) (partAfter (w .b .node .settings) (sideB (w .b)) turns) (s .part) in
+      let e = due-B (w .b) (s .is-due) in
       let (a, b, v, r, d) = turned-B (w .b) e in
       let f : flowFrame (w .b .node .settings) (berthAt (w .b .node) j .rx) ∷ [] ≡ flowFrame set (berthAt (w .b .node) j .rx) ∷ [] =
-      ap (λ (s : Settings). flowFrame s (berthAt (w .b .node) j .rx) ∷ []) same in
-      hand-R (rw e tt) (line-B w c ∙ path-B (lineOf i j w) (rx ∙ a) (last ∙ b) (ina ∙ v) (z ∙ d ∙ f) (y ∙ r) ds
+      ap (λ (x : Settings). flowFrame x (berthAt (w .b .node) j .rx) ∷ []) same in
+      (rw e tt, line-B w c ∙ path-B (lineOf i j w) (rx ∙ a) (last ∙ b) (ina ∙ v) (s .frames ∙ d ∙ f) (s .reported ∙ r) ds
       ∙ flow-B (lineOf i j w) (afterFlow (lineOf i j w .rx)) (flowFrame set (lineOf i j w .rx)))
+
+  step-B : (w : World) (c : Call) → w .b .node .settings ≡ set → NoneB w c → TouchedBy j (w .b) receive c → StepR (lineOf i j w) (lineOf i j (callB j w c))
+  step-B w c same ds (spared s) = idle-R (spared-B w c ds s)
+  step-B w c same ds (clocked s) = let (z, e) = tick-B w c ds s in tick-R z e
+  step-B w c same ds (turned s) = let (t, e) = turn-B w c same ds s in hand-R t e
 
   -- ---- a frame that is carried
 
