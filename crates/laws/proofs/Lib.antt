@@ -9,3 +9,4 @@ pub mod Touch
 pub mod Frames
 pub mod Line
 pub mod World
+pub mod Onward

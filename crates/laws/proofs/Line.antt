@@ -276,11 +276,11 @@ module _ (i j : ℕ) (set : Settings) (n : ℕ) (out : List ℕ) (E : List Hande
   unfolding ran
   ran-on on ended t c k = rw (ran-short t c k)
 
-  closer-at : (o : Sending) (k : ℕ) → SendAt n o k → SendAt n (closer o) k
+  pub closer-at : (o : Sending) (k : ℕ) → SendAt n o k → SendAt n (closer o) k
   unfolding closer
   closer-at o k s = record { length = s .length; position = s .position; sn = s .sn; more = s .more }
 
-  gap-falls : (o : Sending) → closer o .left ≡ o .left - 1
+  pub gap-falls : (o : Sending) → closer o .left ≡ o .left - 1
   unfolding closer
   gap-falls o = refl
 
@@ -464,7 +464,7 @@ module _ (i j : ℕ) (set : Settings) (n : ℕ) (out : List ℕ) (E : List Hande
   unfolding granted
   granted-at o d k k′ s e = rw e (record { length = s .length; position = s .position; sn = s .sn; more = s .more })
 
-  went : (setS : Settings) (o : Sending) (t : ℕ)
+  pub went : (setS : Settings) (o : Sending) (t : ℕ)
       → frameCame setS (record { rx = Rx.Idle; last = 0; tx = Tx.AwaitsFlow o t }) (goFrame set)
       ≡ record {
         berth = record { rx = Rx.Idle; last = 0; tx = Tx.Consecutive (granted o (goFrame set)) 0 };
@@ -479,7 +479,7 @@ module _ (i j : ℕ) (set : Settings) (n : ℕ) (out : List ℕ) (E : List Hande
   no-shift : (f : ℕ) → f + 0 ≡ f
   no-shift f = omega arith
 
-  granted-go : (o : Sending) → (granted o (goFrame set) .block ≡ set .block) × (granted o (goFrame set) .gap ≡ gapOf (set .stmin)) × (granted o (goFrame set) .sent ≡ 0) × (granted o (goFrame set) .left ≡ 0)
+  pub granted-go : (o : Sending) → (granted o (goFrame set) .block ≡ set .block) × (granted o (goFrame set) .gap ≡ gapOf (set .stmin)) × (granted o (goFrame set) .sent ≡ 0) × (granted o (goFrame set) .left ≡ 0)
   unfolding granted goFrame padded
   granted-go o = (refl, refl, refl, refl)
 
@@ -551,7 +551,7 @@ module _ (i j : ℕ) (set : Settings) (n : ℕ) (out : List ℕ) (E : List Hande
         one-more k = omega arith
 
     -- the line after a frame that was not the last, and after the last
-    took-more : (l : Line) (q : List (List ℕ)) (p : Taking) (u k : ℕ) → l .rx ≡ Rx.Awaits p u → TakeAt n out p k (l .ina) → posAt (suc k) < n
+    pub took-more : (l : Line) (q : List (List ℕ)) (p : Taking) (u k : ℕ) → l .rx ≡ Rx.Awaits p u → TakeAt n out p k (l .ina) → posAt (suc k) < n
         → tookR l q (frameCame set (receiving l) (frameAt n out k))
         ≡ record {
           tx = l .tx;
@@ -570,7 +570,7 @@ module _ (i j : ℕ) (set : Settings) (n : ℕ) (out : List ℕ) (E : List Hande
         let g : leb (missing p) consecutiveMost ≡ false = leb-not (missing p) consecutiveMost (unfold posAt in (omega (arith, m, missing-at p k (l .ina) r))) in
         rw (e, heard-right p u (l .last) (l .ina) k r, g, piece-at p k (l .ina) r, r .got)
 
-    took-last : (l : Line) (q : List (List ℕ)) (p : Taking) (u k : ℕ) → l .rx ≡ Rx.Awaits p u → TakeAt n out p k (l .ina) → n ≤ posAt (suc k)
+    pub took-last : (l : Line) (q : List (List ℕ)) (p : Taking) (u k : ℕ) → l .rx ≡ Rx.Awaits p u → TakeAt n out p k (l .ina) → n ≤ posAt (suc k)
         → tookR l q (frameCame set (receiving l) (frameAt n out k))
         ≡ record {
           tx = l .tx;
@@ -652,14 +652,14 @@ module _ (i j : ℕ) (set : Settings) (n : ℕ) (out : List ℕ) (E : List Hande
         record { total = refl; got = refl; sn = refl; more = omega arith; fits = rw length-sets b; same = front ina firstBytes (omega arith) b }
 
     module _ (some : 1 ≤ n) (in-area : n ≤ set .area) (small : set .area ≤ shortMost) where
-      heard-single : n ≤ singleMost → (last : ℕ)
+      pub heard-single : n ≤ singleMost → (last : ℕ)
           → frameCame set (record { rx = Rx.Idle; last = last; tx = Tx.Idle }) (singleOf n out)
           ≡ record { berth = record { rx = Rx.Idle; last = n; tx = Tx.Idle }; old = 0; word = Delivered n; place = 0; bytes = take n out }
       unfolding frameCame byKind heardBy singleCame oldCode
       heard-single b last =
           rw (single-length n out fit b, single-kind n out fit b, single-fits n out fit some b, single-low n out fit b, single-data n out fit)
 
-      heard-first : leastLong ≤ n → (last : ℕ)
+      pub heard-first : leastLong ≤ n → (last : ℕ)
           → frameCame set (record { rx = Rx.Idle; last = last; tx = Tx.Idle }) (firstOf n out)
           ≡ record { berth = record { rx = Rx.OwesGo (taking n) 0; last = 0; tx = Tx.Idle }; old = 0; word = Begun n; place = 0; bytes = take firstBytes out }
       unfolding frameCame byKind heardBy firstCame begun oldCode

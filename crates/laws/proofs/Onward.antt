@@ -1,0 +1,180 @@
+-- In every phase but the last there is something to do that leads nearer: a frame to carry, one to hand over, or, while a gap is left, a
+-- tick; and the taker's timer never exceeds the longest gap if frames are carried at once.
+use mathlib.Core.Path.{_≡_, refl, sym, ap, _∙_}
+use Prim.Native.Nat.{ℕ, zero, suc, _+_, _-_, _*_, _≤_, _<_}
+use native.Mathlib.Omega.{arith}
+use mathlib.Core.Bool.{Bool, true, false, not}
+use mathlib.Core.List.{List, [], _∷_, _++_, nil≢cons, head-eq-of-cons-eq, tail-eq-of-cons-eq}
+use lib.ListN.{length, take, drop}
+use lib.Seq.{sets}
+use lib.Dec.{T, eqb, ltb}
+use Rattle.rules.specs.Tests.{pick}
+use Rattle.rules.specs.Numbers.{timeout, longestGap, shortMost}
+use Rattle.rules.specs.Frames.{goFrame, counted, fillsBlock}
+use Rattle.rules.specs.Arrivals.{Came, granted, grown, frameCame}
+use Rattle.rules.specs.Ticks.{ran, rxTicked, rxCode, closer, txTicked, txCode}
+use Rattle.rules.specs.Turns.{flowDue, messageDue, afterFlow, afterMessage}
+use Rattle.rules.specs.declared.Settings.{Settings}
+use Rattle.rules.specs.declared.Taking.{Taking}
+use Rattle.rules.specs.declared.Sending.{Sending}
+use Rattle.rules.specs.declared.Rx.{Rx}
+use Rattle.rules.specs.declared.Tx.{Tx}
+use Rattle.rules.proofs.Cases.{Tested, holds, fails, eqb-cases, ltb-is, is-true, pick-either}
+use Rattle.laws.specs.Line.{Handed, gapLeft}
+use Rattle.laws.proofs.Frames.{posAt, span, frameAt, singleOf, firstOf}
+use Rattle.laws.proofs.Line.{Line, SendAt, TakeAt, Ahead, pace, Phase, single-ready, single-sent, first-ready, first-sent, go-owed, go-sent, in-block, block-full, last-sent, arrived, under-way, all-sent, Nearer, handS, handR, tickS, tickR, tookR, tookS, receiving, sending, closer-at, gap-falls, went, granted-go, took-more, took-last, heard-single, heard-first}
+
+-- the timer of a side that awaits, and the gap left of one that sends
+unfoldable pub timer : Rx → ℕ
+timer Rx.Idle = 0
+timer (Rx.OwesOverflow t) = 0
+timer (Rx.OwesGo p t) = 0
+timer (Rx.Awaits p t) = t
+
+unfoldable pub gapNow : Tx → ℕ
+gapNow Tx.Idle = 0
+gapNow (Tx.SingleDue n t) = 0
+gapNow (Tx.FirstDue n t) = 0
+gapNow (Tx.AwaitsFlow o t) = 0
+gapNow (Tx.Consecutive o t) = o .left
+
+-- with none on the way, the taker's timer has run no longer than the gap's first part
+abbrev pub Young : Line → Type 0
+Young l = l .toR ≡ [] → timer (l .rx) + gapNow (l .tx) ≤ longestGap
+
+snoc-some : {X : Type 0} (xs : List X) (x : X) → xs ++ (x ∷ []) ≡ [] → ⊥
+snoc-some [] x e = nil≢cons (sym e)
+snoc-some (y ∷ xs) x e = nil≢cons (sym e)
+
+flow-timer : (rx : Rx) → T (flowDue rx) → timer (afterFlow rx) ≡ 0
+unfolding flowDue afterFlow timer
+flow-timer Rx.Idle t = absurd t
+flow-timer (Rx.OwesOverflow u) t = refl
+flow-timer (Rx.OwesGo p u) t = refl
+flow-timer (Rx.Awaits p u) t = absurd t
+
+module _ (i j : ℕ) (set : Settings) (n : ℕ) (out : List ℕ) (E : List Handed) where
+  gap-most : (l : Line) (m : ℕ) → Phase i j set n out E l m → gapNow (l .tx) ≤ longestGap
+  unfolding gapNow
+  gap-most l m (single-ready t last ina a b e) = omega arith
+  gap-most l m (single-sent last ina g a b e) = omega arith
+  gap-most l m (first-ready t last ina h a b c e) = omega arith
+  gap-most l m (first-sent o t last ina h g a b c x e) = omega arith
+  gap-most l m (go-owed o t p u last ina f h g a b c e) = omega arith
+  gap-most l m (go-sent o t p u last ina f h g a b c x e) = omega arith
+  gap-most l m (in-block o t q p u last ina f c h g a b x e y v w k z) = w
+  gap-most l m (block-full o t q p u last ina f c h g a b x e y k z) = omega arith
+  gap-most l m (last-sent q p u last ina f c g a b x e y) = omega arith
+  gap-most l m (arrived ina g a e) = omega arith
+
+  pub young-start : (l : Line) (m : ℕ) → Phase i j set n out E l m → l .rx ≡ Rx.Idle → Young l
+  unfolding timer
+  young-start l m ph e z = rw e (omega (arith, gap-most l m ph))
+
+  pub young-handed : (l : Line) → Young (handS i j set n out E l)
+  young-handed l z = absurd (snoc-some (l .toR) _ z)
+
+  pub young-flow : (l : Line) (m : ℕ) → Phase i j set n out E l m → T (flowDue (l .rx)) → Young (handR i j set n out E l)
+  young-flow l m ph t z = rw (flow-timer (l .rx) t) (omega (arith, gap-most l m ph))
+
+  module _ (fit : n ≤ length out) (some : 1 ≤ n) (in-area : n ≤ set .area) (small : set .area ≤ shortMost) where
+    -- a frame of the message that comes in sets the taker's timer to 0
+    timer-more : (l : Line) (q : List (List ℕ)) (p : Taking) (u k : ℕ) → l .rx ≡ Rx.Awaits p u → TakeAt n out p k (l .ina) → posAt (suc k) < n
+        → timer (tookR i j set n out E l q (frameCame set (receiving i j set n out E l) (frameAt n out k)) .rx) ≡ 0
+    timer-more l q p u k e r m =
+        ap (λ (x : Line). timer (x .rx)) (took-more i j set n out E fit l q p u k e r m)
+        ∙ pick-either (λ (x : Rx). timer x ≡ 0) (fillsBlock (set .block) (p .taken)) _ _ (λ t. unfold timer in refl) (λ t. unfold timer in refl)
+
+    timer-there : (l : Line) (m : ℕ) (d : List ℕ) (q : List (List ℕ)) → l .toR ≡ d ∷ q → Phase i j set n out E l m
+        → timer (tookR i j set n out E l q (frameCame set (receiving i j set n out E l) d) .rx) ≡ 0
+    unfolding span
+    timer-there l m d q z (single-ready t last ina a b e) = absurd (nil≢cons z)
+    timer-there l m d q z (single-sent last ina g a b e) =
+        rw (← (head-eq-of-cons-eq z), heard-single i j set n out E fit some in-area small a last) (unfold tookR timer in refl)
+    timer-there l m d q z (first-ready t last ina h a b c e) = absurd (nil≢cons z)
+    timer-there l m d q z (first-sent o t last ina h g a b c x e) =
+        rw (← (head-eq-of-cons-eq z), heard-first i j set n out E fit some in-area small a last) (unfold tookR timer in refl)
+    timer-there l m d q z (go-owed o t p u last ina f h g a b c e) = absurd (nil≢cons z)
+    timer-there l m d q z (go-sent o t p u last ina f h g a b c x e) = absurd (nil≢cons z)
+    timer-there l m d q z (in-block o t r p u last ina f zero h g a b x e y v w k s) = absurd (nil≢cons (sym a ∙ z))
+    timer-there l m d q z (in-block o t r p u last ina f (suc c) h g a b x e y v w k s) =
+        rw (← (head-eq-of-cons-eq (sym a ∙ z)))
+        (timer-more (under-way i j set n out E (Tx.Consecutive o t) r [] g (Rx.Awaits p u) last ina) q p u f refl x (unfold posAt in (omega (arith, b .more))))
+    timer-there l m d q z (block-full o t r p u last ina f c h g a b x e y k s) =
+        rw (← (head-eq-of-cons-eq (sym a ∙ z)))
+        (timer-more (under-way i j set n out E (Tx.AwaitsFlow o t) r [] g (Rx.Awaits p u) last ina) q p u f refl x (unfold posAt in (omega (arith, b .more))))
+    timer-there l m d q z (last-sent r p u last ina f zero g a b x e y) =
+        rw (← (head-eq-of-cons-eq (sym a ∙ z)))
+        (ap (λ (x : Line). timer (x .rx)) (took-last i j set n out E fit (all-sent i j set n out E r g (Rx.Awaits p u) last ina) q p u f refl x (unfold posAt in (omega (arith, b .last))))
+        ∙ unfold timer in refl)
+    timer-there l m d q z (last-sent r p u last ina f (suc c) g a b x e y) =
+        rw (← (head-eq-of-cons-eq (sym a ∙ z)))
+        (timer-more (all-sent i j set n out E r g (Rx.Awaits p u) last ina) q p u f refl x (unfold posAt in (omega (arith, b .more))))
+    timer-there l m d q z (arrived ina g a e) = absurd (nil≢cons z)
+
+    pub young-there : (l : Line) (m : ℕ) (d : List ℕ) (q : List (List ℕ)) → l .toR ≡ d ∷ q → Phase i j set n out E l m
+        → Young (tookR i j set n out E l q (frameCame set (receiving i j set n out E l) d))
+    young-there l m d q e ph z =
+        let t = timer-there l m d q e ph in
+        let same : tookR i j set n out E l q (frameCame set (receiving i j set n out E l) d) .tx ≡ l .tx = unfold tookR in refl in
+        omega (arith, gap-most l m ph, ap gapNow same)
+
+    pub young-back : (setS : Settings) (l : Line) (m : ℕ) (d : List ℕ) (q : List (List ℕ)) → l .toS ≡ d ∷ q → Phase i j set n out E l m → Young l
+        → Young (tookS i j set n out E l q (frameCame setS (sending i j set n out E l) d))
+    young-back setS l m d q z (single-ready t last ina a b e) y = absurd (nil≢cons z)
+    young-back setS l m d q z (single-sent last ina g a b e) y = absurd (nil≢cons z)
+    young-back setS l m d q z (first-ready t last ina h a b c e) y = absurd (nil≢cons z)
+    young-back setS l m d q z (first-sent o t last ina h g a b c x e) y = absurd (nil≢cons z)
+    young-back setS l m d q z (go-owed o t p u last ina f h g a b c e) y = absurd (nil≢cons z)
+    young-back setS l m d q z (go-sent o t p u last ina f h g a b c x e) y =
+        let (r, s, v, left) = granted-go i j set n out E o in
+        rw (← (head-eq-of-cons-eq z), went i j set n out E setS o t)
+        (unfold tookS timer gapNow in (λ w. let k : u + 0 ≤ longestGap = unfold timer gapNow in (y refl) in omega arith))
+    young-back setS l m d q z (in-block o t r p u last ina f c h g a b x e v w k s y) yo = absurd (nil≢cons z)
+    young-back setS l m d q z (block-full o t r p u last ina f c h g a b x e v k s) y = absurd (nil≢cons z)
+    young-back setS l m d q z (last-sent r p u last ina f c g a b x e v) y = absurd (nil≢cons z)
+    young-back setS l m d q z (arrived ina g a e) y = absurd (nil≢cons z)
+
+    -- ---- what to do next
+
+    pub data Next (l : Line) (m : ℕ) : Type 0 where
+      bring-there : (d : List ℕ) (q : List (List ℕ)) → l .toR ≡ d ∷ q → Next l m
+      bring-back : (d : List ℕ) (q : List (List ℕ)) → l .toS ≡ d ∷ q → Next l m
+      hand-message : T (messageDue (l .tx)) → Next l m
+      hand-flow : T (flowDue (l .rx)) → Next l m
+      wait : txCode (l .tx) ≡ 0 → rxCode (l .rx) ≡ 0 → Nearer i j set n out E m (tickR i j set n out E (tickS i j set n out E l))
+          → Young (tickR i j set n out E (tickS i j set n out E l)) → Next l m
+      at-end : l .toR ≡ [] → l .toS ≡ [] → messageDue (l .tx) ≡ false → gapLeft (l .tx) ≡ 0 → flowDue (l .rx) ≡ false → Next l m
+
+    waits : (o : Sending) (t : ℕ) (q : List (List ℕ)) (p : Taking) (u last : ℕ) (ina : List ℕ) (k l m : ℕ) (g : List Handed) → q ≡ []
+        → (o .left ≡ 0 → ⊥) → eqb (o .left) 0 ≡ false → Young (under-way i j set n out E (Tx.Consecutive o t) q [] g (Rx.Awaits p u) last ina)
+        → (Phase i j set n out E (under-way i j set n out E (Tx.Consecutive (closer o) t) q [] g (Rx.Awaits p (u + 1)) last ina) m)
+        → (m′ : ℕ) → m < m′
+        → Next (under-way i j set n out E (Tx.Consecutive o t) q [] g (Rx.Awaits p u) last ina) m′
+    unfolding txCode rxCode txTicked rxTicked ran
+    waits o t q p u last ina k l m g empty ne left young ph m′ less =
+        let y : u + o .left ≤ longestGap = unfold timer gapNow in (young empty) in
+        let short : ltb (u + 1) timeout ≡ true = ltb-is (u + 1) timeout (omega arith) in
+        wait (rw left) (rw short) (rw (left, short) (m, less, ph)) (rw (left, short) (λ z. unfold timer gapNow in (omega (arith, gap-falls i j set n out E o))))
+
+    pub next : (l : Line) (m : ℕ) → Phase i j set n out E l m → Young l → Next l m
+    unfolding span messageDue flowDue gapLeft
+    next l m (single-ready t last ina a b e) y = hand-message tt
+    next l m (single-sent last ina g a b e) y = bring-there _ _ refl
+    next l m (first-ready t last ina h a b c e) y = hand-message tt
+    next l m (first-sent o t last ina h g a b c x e) y = bring-there _ _ refl
+    next l m (go-owed o t p u last ina f h g a b c e) y = hand-flow tt
+    next l m (go-sent o t p u last ina f h g a b c x e) y = bring-back _ _ refl
+    next l m (in-block o t q p u last ina f zero h g a b x e v w s k z) y = go (eqb-cases (o .left) 0)
+      where
+        go : Tested (eqb (o .left) 0) (o .left ≡ 0) (o .left ≡ 0 → ⊥)
+            → Next (under-way i j set n out E (Tx.Consecutive o t) q [] g (Rx.Awaits p u) last ina) (pace * suc h + (o .left + 0))
+        go (holds r c) = hand-message (rw r tt)
+        go (fails r c) =
+            waits o t q p u last ina f h (pace * suc h + (closer o .left + 0)) g a c r y
+            (in-block (closer o) t q p (u + 1) last ina f zero h g a (closer-at i j set n out E o (f + 0) b) x (unfold closer in e) (unfold closer in v) (unfold closer in w) (unfold closer in (omega arith)) k (unfold closer in z))
+            (pace * suc h + (o .left + 0)) (omega (arith, gap-falls i j set n out E o))
+    next l m (in-block o t q p u last ina f (suc c) h g a b x e v w s k z) y = bring-there _ _ a
+    next l m (block-full o t q p u last ina f c h g a b x e v k z) y = bring-there _ _ a
+    next l m (last-sent q p u last ina f c g a b x e v) y = bring-there _ _ a
+    next l m (arrived ina g a e) y = at-end refl refl refl refl refl
