@@ -10,3 +10,4 @@ pub mod Frames
 pub mod Line
 pub mod World
 pub mod Onward
+pub mod Schedule

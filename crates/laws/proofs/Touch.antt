@@ -290,6 +290,10 @@ module _ (k : ℕ) (h : Held) where
   unfolding own
   own-is c e = rw e
 
+  pub held-is : (c : Call) → refusal h c ≡ 0 → outcome h c .held ≡ done h c
+  unfolding outcome
+  held-is c e = rw e
+
   answer-is : (c : Call) → refusal h c ≡ 0 → outcome h c .answer ≡ reply h c
   unfolding outcome
   answer-is c e = rw e
@@ -379,7 +383,7 @@ module _ (k : ℕ) (h : Held) where
       unfolding partOf
       due-k = rw q at (reached-due (h .node) (sound .order) l)
 
-      own-k : own k h (turn buffer) ≡ turns ∷ []
+      pub own-k : own k h (turn buffer) ≡ turns ∷ []
       unfolding ownDone
       own-k = own-is (turn buffer) e ∙ rw (ltb-is (passedOver (h .node)) berthCount l, eqb-is (reached (h .node)) k q)
 

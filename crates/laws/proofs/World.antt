@@ -332,7 +332,7 @@ module _ (i j : ℕ) (small-i : i < berthCount) (small-j : j < berthCount) (set 
   unfolding partAfter sideOf partOf says saidReports
   came-A h d = (refl, refl, refl)
 
-  took-A : (w : World) (d : List ℕ) (q : List (List ℕ)) → Sound (w .a) → length d ≤ frameLength → kind d ≡ flowKind
+  pub took-A : (w : World) (d : List ℕ) (q : List (List ℕ)) → Sound (w .a) → length d ≤ frameLength → kind d ≡ flowKind
       → (lineOf i j (carriedA i w (d ∷ q)) ≡ tookS i j set n out E (lineOf i j w) q (frameCame (w .a .node .settings) (sending i j set n out E (lineOf i j w)) d))
       × (partOf i (outcome (w .a) (frame (fromBerth + i) d) .held) .outgoing ≡ partOf i (w .a) .outgoing)
   unfolding lineOf carriedA callA tookS
@@ -366,7 +366,7 @@ module _ (i j : ℕ) (small-i : i < berthCount) (small-j : j < berthCount) (set 
   unfolding partAfter sideOf partOf says
   came-B h d = (refl, refl, refl)
 
-  took-B : (w : World) (d : List ℕ) (q : List (List ℕ)) → Sound (w .b) → w .b .node .settings ≡ set → length d ≤ frameLength → (kind d ≡ flowKind → ⊥)
+  pub took-B : (w : World) (d : List ℕ) (q : List (List ℕ)) → Sound (w .b) → w .b .node .settings ≡ set → length d ≤ frameLength → (kind d ≡ flowKind → ⊥)
       → lineOf i j (carriedB j w (d ∷ q)) ≡ tookR i j set n out E (lineOf i j w) q (frameCame set (receiving i j set n out E (lineOf i j w)) d)
   unfolding lineOf carriedB callB tookR saidReports
   took-B w d q s same l ne =

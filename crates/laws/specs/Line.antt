@@ -4,10 +4,10 @@ use Prim.Native.Nat.{ℕ, _+_, _≤_, _<_}
 use mathlib.Core.Path.{_≡_}
 use mathlib.Core.Bool.{Bool, true, false, not, _||_}
 use mathlib.Core.List.{List, [], _∷_, _++_, map}
-use lib.ListN.{length, take}
+use lib.ListN.{length, take, replicate}
 use lib.Dec.{T, eqb}
 use Rattle.rules.specs.Tests.{pick}
-use Rattle.rules.specs.Numbers.{berthCount, fromBerth, N-OK}
+use Rattle.rules.specs.Numbers.{berthCount, fromBerth, frameLength, N-OK}
 use Rattle.rules.specs.Ranges.{berthAt}
 use Rattle.rules.specs.Frames.{counted, fillsBlock, goFrame, framesOf}
 use Rattle.rules.specs.Arrivals.{Came}
@@ -227,3 +227,24 @@ pub record Arrived (i j : ℕ) (m : List ℕ) (w : World) : Type 0 where
   pub frames : thereOf (w .log) ≡ framesOf m
   pub idle-a : berthAt (w .a .node) i .tx ≡ Tx.Idle
   pub idle-b : berthAt (w .b .node) j .rx ≡ Rx.Idle
+
+-- ---- a schedule: calls for a frame on either node, carrying, and ticks, each on both nodes
+
+pub data Act : Type 0 where
+  turnA turnB bringA bringB tickBoth : Act
+
+-- a buffer of eight bytes
+abbrev pub blank : List ℕ
+blank = replicate frameLength 0
+
+unfoldable pub deedsOf : Act → List Deed
+deedsOf turnA = atA (turn blank) ∷ []
+deedsOf turnB = atB (turn blank) ∷ []
+deedsOf bringA = carryA ∷ []
+deedsOf bringB = carryB ∷ []
+deedsOf tickBoth = atA tick ∷ atB tick ∷ []
+
+-- it keeps apart, so no timer of the two sides reaches 1,000, and ends at rest
+pub record Finishes (i j : ℕ) (w : World) (schedule : List Act) : Type 0 where
+  pub apart : AllApart i j w (over deedsOf schedule)
+  pub rest : AtRest i j (living i j w (over deedsOf schedule))
