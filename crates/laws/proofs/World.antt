@@ -292,9 +292,11 @@ module _ (i j : ℕ) (small-i : i < berthCount) (small-j : j < berthCount) (set 
       let (rx, last, ina) = rx-of (outcome (w .b) c .held) (partAfter (w .b .node .settings) (sideB (w .b)) ticks) (s .part) in
       let (a, b, v, r, d) = ticked-B (w .b) in
       let code : rxCode (berthAt (w .b .node) j .rx) ≡ 0 = sym d ∙ s .none in
-      let none : reported j receive (rxCode (berthAt (w .b .node) j .rx)) ++ [] ≡ [] = ap (λ (m : ℕ). reported j receive m ++ []) code ∙ unfold reported in refl in
-      (code, line-B w c ∙ path-B (lineOf i j w) (rx ∙ a) (last ∙ b) (ina ∙ v) (s .frames) (s .reported ∙ r ∙ none) ds
-      ∙ only-B (lineOf i j w) (rxTicked (lineOf i j w .rx)) (lineOf i j w .last) (lineOf i j w .ina))
+      let none : reported j receive (rxCode (berthAt (w .b .node) j .rx)) ++ [] ≡ [] = ap (λ (m : ℕ). reported j receive m ++ []) code ∙ unfold reported in refl in (
+        code,
+        line-B w c ∙ path-B (lineOf i j w) (rx ∙ a) (last ∙ b) (ina ∙ v) (s .frames) (s .reported ∙ r ∙ none) ds
+            ∙ only-B (lineOf i j w) (rxTicked (lineOf i j w .rx)) (lineOf i j w .last) (lineOf i j w .ina),
+      )
 
   pub turn-B : (w : World) (c : Call) → w .b .node .settings ≡ set → NoneB w c → TurnOf j (w .b) receive c
       → T (flowDue (lineOf i j w .rx)) × (lineOf i j (callB j w c) ≡ handR i j set n out E (lineOf i j w))
@@ -304,9 +306,11 @@ module _ (i j : ℕ) (small-i : i < berthCount) (small-j : j < berthCount) (set 
       let e = due-B (w .b) (s .is-due) in
       let (a, b, v, r, d) = turned-B (w .b) e in
       let f : flowFrame (w .b .node .settings) (berthAt (w .b .node) j .rx) ∷ [] ≡ flowFrame set (berthAt (w .b .node) j .rx) ∷ [] =
-      ap (λ (x : Settings). flowFrame x (berthAt (w .b .node) j .rx) ∷ []) same in
-      (rw e tt, line-B w c ∙ path-B (lineOf i j w) (rx ∙ a) (last ∙ b) (ina ∙ v) (s .frames ∙ d ∙ f) (s .reported ∙ r) ds
-      ∙ flow-B (lineOf i j w) (afterFlow (lineOf i j w .rx)) (flowFrame set (lineOf i j w .rx)))
+      ap (λ (x : Settings). flowFrame x (berthAt (w .b .node) j .rx) ∷ []) same in (
+        rw e tt,
+        line-B w c ∙ path-B (lineOf i j w) (rx ∙ a) (last ∙ b) (ina ∙ v) (s .frames ∙ d ∙ f) (s .reported ∙ r) ds
+            ∙ flow-B (lineOf i j w) (afterFlow (lineOf i j w .rx)) (flowFrame set (lineOf i j w .rx)),
+      )
 
   step-B : (w : World) (c : Call) → w .b .node .settings ≡ set → NoneB w c → TouchedBy j (w .b) receive c → StepR (lineOf i j w) (lineOf i j (callB j w c))
   step-B w c same ds (spared s) = idle-R (spared-B w c ds s)
