@@ -18,10 +18,11 @@ use Rattle.rules.specs.Refusals.{Call, frame, tick, send, turn, show, refusal}
 use Rattle.rules.specs.Calls.{afterFrame, done, reply, written, bufferOf, Outcome, refusedOutcome, outcome, answers}
 use Rattle.rules.proofs.Cases.{Tested, holds, fails, eqb-cases, eqb-is, eqb-not, ltb-is}
 use Rattle.rules.proofs.Ranges.{in-order-range}
+use Rattle.rules.proofs.Round.{near}
 use Rattle.rules.proofs.Answered.{turn-answered}
 use Rattle.laws.specs.Own.{over, takerOf}
 use Rattle.laws.specs.Rounds.{Turn, served, nobody, turnOf, DueAt, StaysDue, isOf, before, NoTwice, Fair}
-use Rattle.laws.proofs.Round.{near, some-reached, nearer}
+use Rattle.laws.proofs.Round.{some-reached, nearer}
 
 module _ (k : ℕ) (small : k < berthCount) where
   -- what a call does to the berth served last, and the turns in its answer

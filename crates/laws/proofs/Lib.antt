@@ -11,3 +11,4 @@ pub mod Line
 pub mod World
 pub mod Onward
 pub mod Schedule
+pub mod Examples

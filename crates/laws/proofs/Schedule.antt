@@ -25,12 +25,13 @@ use Rattle.rules.specs.declared.Rx.{Rx}
 use Rattle.rules.specs.declared.Tx.{Tx}
 use Rattle.rules.proofs.Cases.{Tested, holds, fails, test-cases, eqb-cases, eqb-not, ltb-is, is-true, is-false, or-cases}
 use Rattle.rules.proofs.Ranges.{range-in-order}
+use Rattle.rules.proofs.Round.{near}
 use Rattle.laws.specs.Own.{over, ownDone, own, Sound}
 use Rattle.laws.specs.Sides.{sameSide, sideOf, turnSide}
 use Rattle.laws.specs.Line.{Handed, World, callA, callB, carriedA, carriedB, Deed, atA, atB, carryA, carryB, acts, living, tickCode, spares, Spares, Apart, AllApart, AtRest, MayBegin, Arrived, begin, Act, turnA, turnB, bringA, bringB, tickBoth, blank, deedsOf, Finishes}
 use Rattle.laws.proofs.Isolation.{settings-step, part-step}
 use Rattle.laws.proofs.SetUp.{sound-step}
-use Rattle.laws.proofs.Round.{near, some-reached, nearer}
+use Rattle.laws.proofs.Round.{some-reached, nearer}
 use Rattle.laws.proofs.Touch.{SparedBy, TickOf, TurnOf, own-is, held-is, own-k, turn-of-side, turn-of-other, other-berth, touch-tick, none-delivered, all-met}
 use Rattle.laws.proofs.Line.{Line, Phase, Nearer, handS, handR, tickS, tickR, tookR, tookS, hands-S, hands-R, there-whole, back-whole}
 use Rattle.laws.proofs.World.{lineOf, Alive, NearerWorld, alive-carriedA, alive-carriedB, spared-A, tick-A, turn-A, spared-B, tick-B, turn-B, took-A, took-B, outA, setB, expected, fit-a, small-b, begun-alive, line-law}

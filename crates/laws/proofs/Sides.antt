@@ -12,7 +12,7 @@ use Rattle.rules.specs.Tests.{pick}
 use Rattle.rules.specs.Numbers.{singleKind, firstKind, consecutiveKind, flowKind, goStatus, waitStatus, overflowStatus, consecutiveMost, noData, otherKind}
 use Rattle.rules.specs.Ranges.{fresh}
 use Rattle.rules.specs.Frames.{byteAt, kind, low, singleFits, announced, firstFits, consecutiveFits, flowFits}
-use Rattle.rules.specs.Arrivals.{Heard, Told, Came, ignored, singleCame, firstCame, turnedAway, begun, missing, completed, took, wrongSn, awaitedCame, consecutiveCame, byStatus, flowIgnored, flowCame, heardBy, toldBy, byKind, frameCame}
+use Rattle.rules.specs.Arrivals.{Heard, Told, Came, ignored, singleCame, firstCame, aboveArea, turnedAway, begun, missing, completed, took, wrongSn, awaitedCame, consecutiveCame, byStatus, flowIgnored, flowCame, heardBy, toldBy, byKind, frameCame}
 use Rattle.rules.specs.Ticks.{ticked, rxTicked, txTicked, rxCode, txCode}
 use Rattle.rules.specs.Turns.{flowDue, messageDue, due, HandedOver, handOver, sent}
 use Rattle.rules.specs.Answers.{Side, receive, send, Report, reported, failedSide, wordReports, reports}
@@ -124,7 +124,7 @@ module _ (k : ℕ) where
   unfolding firstCame turnedAway begun wordReports
   first-all set rx last d =
       pick-either HeardAll (firstFits d) _ _
-      (λ t. pick-either HeardAll (ltb (set .area) (announced d)) _ _ (λ u. no-reports receive) (λ u. no-reports receive))
+      (λ t. pick-either HeardAll (aboveArea set (announced d)) _ _ (λ u. no-reports receive) (λ u. no-reports receive))
       (λ t. ignored-all 3 rx last)
 
   consecutive-all : (set : Settings) (rx : Rx) (last : ℕ) (d : List ℕ) → HeardAll (consecutiveCame set rx last d)

@@ -14,7 +14,7 @@ use Rattle.rules.specs.Tests.{pick, unless, Need, need, firstUnmet}
 use Rattle.rules.specs.Numbers.{berthCount, fromBerth, toBerth, frameLength, singleKind, firstKind, consecutiveKind, flowKind, goStatus, waitStatus, overflowStatus, consecutiveMost, shortMost}
 use Rattle.rules.specs.Ranges.{fresh, berthAt, inOrder, InOrder, BerthRange, TxRange}
 use Rattle.rules.specs.Frames.{byteAt, kind, low, padded, singleFits, announced, firstFits, consecutiveFits, flowFits, singleFrame, firstFrame, consecutiveFrame, goFrame, overflowFrame}
-use Rattle.rules.specs.Arrivals.{Heard, Told, Came, ignored, singleCame, firstCame, turnedAway, begun, missing, completed, took, wrongSn, awaitedCame, consecutiveCame, byStatus, flowIgnored, flowCame, heardBy, toldBy, byKind, frameCame}
+use Rattle.rules.specs.Arrivals.{Heard, Told, Came, ignored, singleCame, firstCame, aboveArea, turnedAway, begun, missing, completed, took, wrongSn, awaitedCame, consecutiveCame, byStatus, flowIgnored, flowCame, heardBy, toldBy, byKind, frameCame}
 use Rattle.rules.specs.Ticks.{rxCode, txCode}
 use Rattle.rules.specs.Turns.{flowDue, messageDue, due, flowFrame, messageFrame, HandedOver, handOver}
 use Rattle.rules.specs.Stores.{Held, rightStore, inside, passedOver, reached, cameAt, handedAt}
@@ -31,105 +31,80 @@ use Rattle.rules.specs.declared.Word.the-variants.{Delivered, Begun, Failed, Ig
 use Rattle.rules.proofs.Cases.{Tested, holds, fails, test-cases, eqb-cases, ltb-cases, eqb-is, eqb-not, ltb-is, is-true, is-false, or-cases, pick-either}
 use Rattle.rules.proofs.Ranges.{in-order-range, range-in-order}
 use Rattle.rules.proofs.Answered.{frame-answered}
-use Rattle.rules.proofs.Order.{frame-inside, reached-small}
+use Rattle.rules.proofs.Order.{frame-inside}
+use Rattle.rules.proofs.Round.{reached-due}
+use Rattle.rules.proofs.Facts.{frame-either, ignored-leaves}
 use Rattle.laws.specs.Own.{over, ownDone, own, takerOf, heardOf, ofBerth, saidReports, Sound}
 use Rattle.laws.specs.Sides.{sameSide, sideOf, frameSide, turnSide, forSide, sideEvents, ofSide, handedIn, handedSide, framesBy}
 use Rattle.laws.specs.Line.{reportsBy, deliveredIn, isIgnored, tickCode, spares, Spares}
 use Rattle.laws.proofs.Isolation.{part-step, says-step}
 use Rattle.laws.proofs.Reports.{reports-of}
-use Rattle.laws.proofs.Round.{reached-due}
 use Rattle.laws.proofs.Sides.{withTx, came-receive, came-send, side-alone, side-reports}
 
--- ---- ignored frames change nothing, timers included
+-- ---- ignored frames change nothing, timers included, and have no old code
 
-module _ (b : Berth) where
-  abbrev Nothing : Came → Type 0
-  Nothing c = T (isIgnored (c .word)) → (c .berth ≡ b) × (c .old ≡ 0) × (c .bytes ≡ [])
+ignored-why : (w : Word) → T (isIgnored w) → (why : ℕ) × (w ≡ Ignored why)
+ignored-why (Delivered n) t = absurd t
+ignored-why (Begun n) t = absurd t
+ignored-why (Failed c) t = absurd t
+ignored-why (Ignored why) t = (why, refl)
+ignored-why TooLong t = absurd t
+ignored-why Took t = absurd t
+ignored-why Going t = absurd t
+ignored-why Waiting t = absurd t
 
-  abbrev NothingHeard : Heard → Type 0
-  NothingHeard h = T (isIgnored (h .word)) → (h .rx ≡ b .rx) × (h .last ≡ b .last) × (h .old ≡ 0) × (h .bytes ≡ [])
+abbrev NoOld : Came → Type 0
+NoOld c = T (isIgnored (c .word)) → c .old ≡ 0
 
-  ignored-nothing : (why : ℕ) → NothingHeard (ignored why (b .rx) (b .last))
-  unfolding ignored
-  ignored-nothing why t = (refl, refl, refl, refl)
+abbrev NoOldHeard : Heard → Type 0
+NoOldHeard h = T (isIgnored (h .word)) → h .old ≡ 0
 
-  single-nothing : (d : List ℕ) → NothingHeard (singleCame (b .rx) (b .last) d)
-  unfolding singleCame
-  single-nothing d = pick-either NothingHeard (singleFits d) _ _ (λ u t. absurd t) (λ u. ignored-nothing 3)
+ignored-old : (why : ℕ) (rx : Rx) (last : ℕ) → NoOldHeard (ignored why rx last)
+unfolding ignored
+ignored-old why rx last t = refl
 
-  first-nothing : (set : Settings) (d : List ℕ) → NothingHeard (firstCame set (b .rx) (b .last) d)
-  unfolding firstCame turnedAway begun
-  first-nothing set d =
-      pick-either NothingHeard (firstFits d) _ _
-      (λ u. pick-either NothingHeard (ltb (set .area) (announced d)) _ _ (λ v t. absurd t) (λ v t. absurd t)) (λ u. ignored-nothing 3)
+single-old : (rx : Rx) (last : ℕ) (d : List ℕ) → NoOldHeard (singleCame rx last d)
+unfolding singleCame
+single-old rx last d = pick-either NoOldHeard (singleFits d) _ _ (λ u t. absurd t) (λ u. ignored-old 3 rx last)
 
-  consecutive-nothing : (set : Settings) (rx : Rx) (d : List ℕ) → b .rx ≡ rx → NothingHeard (consecutiveCame set rx (b .last) d)
-  unfolding consecutiveCame awaitedCame completed took wrongSn ignored
-  consecutive-nothing set Rx.Idle d e = λ t. (sym e, refl, refl, refl)
-  consecutive-nothing set (Rx.OwesOverflow u) d e = λ t. (sym e, refl, refl, refl)
-  consecutive-nothing set (Rx.OwesGo p u) d e = λ t. (sym e, refl, refl, refl)
-  consecutive-nothing set (Rx.Awaits p u) d e =
-      pick-either NothingHeard (consecutiveFits (missing p) d) _ _
-      (λ v. pick-either NothingHeard (eqb (low d) (p .sn .0)) _ _
-      (λ w. pick-either NothingHeard (leb (missing p) consecutiveMost) _ _ (λ x t. absurd t) (λ x t. absurd t)) (λ w t. absurd t))
-      (λ v t. (sym e, refl, refl, refl))
+first-old : (set : Settings) (rx : Rx) (last : ℕ) (d : List ℕ) → NoOldHeard (firstCame set rx last d)
+unfolding firstCame turnedAway begun
+first-old set rx last d =
+    pick-either NoOldHeard (firstFits d) _ _
+    (λ u. pick-either NoOldHeard (aboveArea set (announced d)) _ _ (λ v t. absurd t) (λ v t. absurd t)) (λ u. ignored-old 3 rx last)
 
-  abbrev NothingTold : Told → Type 0
-  NothingTold w = T (isIgnored (w .word)) → w .tx ≡ b .tx
+consecutive-old : (set : Settings) (rx : Rx) (last : ℕ) (d : List ℕ) → NoOldHeard (consecutiveCame set rx last d)
+unfolding consecutiveCame awaitedCame completed took wrongSn
+consecutive-old set Rx.Idle last d = ignored-old 4 Rx.Idle last
+consecutive-old set (Rx.OwesOverflow u) last d = ignored-old 4 (Rx.OwesOverflow u) last
+consecutive-old set (Rx.OwesGo p u) last d = ignored-old 4 (Rx.OwesGo p u) last
+consecutive-old set (Rx.Awaits p u) last d =
+    pick-either NoOldHeard (consecutiveFits (missing p) d) _ _
+    (λ v. pick-either NoOldHeard (eqb (low d) (p .sn .0)) _ _
+    (λ w. pick-either NoOldHeard (leb (missing p) consecutiveMost) _ _ (λ x t. refl) (λ x t. refl)) (λ w t. refl))
+    (λ v. ignored-old 3 (Rx.Awaits p u) last)
 
-  flow-nothing : (tx : Tx) (d : List ℕ) → b .tx ≡ tx → NothingTold (flowCame tx d)
-  unfolding flowCame byStatus flowIgnored
-  flow-nothing Tx.Idle d e = λ t. sym e
-  flow-nothing (Tx.SingleDue n u) d e = λ t. sym e
-  flow-nothing (Tx.FirstDue n u) d e = λ t. sym e
-  flow-nothing (Tx.AwaitsFlow o u) d e =
-      pick-either NothingTold (flowFits d) _ _
-      (λ v. pick-either NothingTold (eqb (low d) goStatus) _ _ (λ w t. absurd t)
-      (λ w. pick-either NothingTold (eqb (low d) waitStatus) _ _ (λ x t. absurd t)
-      (λ x. pick-either NothingTold (eqb (low d) overflowStatus) _ _ (λ y t. absurd t) (λ y t. absurd t))))
-      (λ v t. sym e)
-  flow-nothing (Tx.Consecutive o u) d e = λ t. sym e
+frame-old : (set : Settings) (b : Berth) (d : List ℕ) → NoOld (frameCame set b d)
+unfolding heardBy toldBy
+frame-old set b d =
+    frame-either NoOld set b d (λ why. ignored-old why (b .rx) (b .last)) (single-old (b .rx) (b .last) d) (first-old set (b .rx) (b .last) d)
+    (consecutive-old set (b .rx) (b .last) d) (λ t. refl)
 
-  heard-nothing : (h : Heard) → NothingHeard h → Nothing (heardBy b h)
-  unfolding heardBy
-  heard-nothing h f t = let (x, y, z, v) = f t in ((λ i. record { rx = x i; last = y i; tx = b .tx }), z, v)
-
-  told-nothing : (w : Told) → NothingTold w → Nothing (toldBy b w)
-  unfolding toldBy
-  told-nothing w f t = ((λ i. record { rx = b .rx; last = b .last; tx = f t i }), refl, refl)
-
-  pub frame-nothing : (set : Settings) (d : List ℕ) → Nothing (frameCame set b d)
-  unfolding frameCame byKind
-  frame-nothing set d =
-      pick-either Nothing (eqb (length d) 0) _ _ (λ u. heard-nothing _ (ignored-nothing 1))
-      (λ u. pick-either Nothing (eqb (kind d) singleKind) _ _ (λ v. heard-nothing _ (single-nothing d))
-      (λ v. pick-either Nothing (eqb (kind d) firstKind) _ _ (λ w. heard-nothing _ (first-nothing set d))
-      (λ w. pick-either Nothing (eqb (kind d) consecutiveKind) _ _ (λ x. heard-nothing _ (consecutive-nothing set (b .rx) d refl))
-      (λ x. pick-either Nothing (eqb (kind d) flowKind) _ _ (λ y. told-nothing _ (flow-nothing (b .tx) d refl))
-      (λ y. heard-nothing _ (ignored-nothing 2))))))
+frame-nothing : (b : Berth) (set : Settings) (d : List ℕ) → T (isIgnored (frameCame set b d .word))
+    → (frameCame set b d .berth ≡ b) × (frameCame set b d .old ≡ 0) × (frameCame set b d .bytes ≡ [])
+frame-nothing b set d t =
+    let (why, e) = ignored-why (frameCame set b d .word) t in
+    let (x, y) = ignored-leaves why set b d e in
+    (x, frame-old set b d t, y)
 
 -- no report and no Delivered in an ignored frame's answer
 ignored-reports : (k : ℕ) (w : Word) → T (isIgnored w) → wordReports k w ≡ []
 unfolding wordReports
-ignored-reports k (Delivered n) t = absurd t
-ignored-reports k (Begun n) t = absurd t
-ignored-reports k (Failed c) t = absurd t
-ignored-reports k (Ignored i) t = refl
-ignored-reports k TooLong t = absurd t
-ignored-reports k Took t = absurd t
-ignored-reports k Going t = absurd t
-ignored-reports k Waiting t = absurd t
+ignored-reports k w t = rw (ignored-why w t .1)
 
 ignored-delivers : (old : ℕ) (w : Word) → T (isIgnored w) → deliveredIn (hears old w) ≡ []
 unfolding deliveredIn
-ignored-delivers old (Delivered n) t = absurd t
-ignored-delivers old (Begun n) t = absurd t
-ignored-delivers old (Failed c) t = absurd t
-ignored-delivers old (Ignored i) t = refl
-ignored-delivers old TooLong t = absurd t
-ignored-delivers old Took t = absurd t
-ignored-delivers old Going t = absurd t
-ignored-delivers old Waiting t = absurd t
+ignored-delivers old w t = rw (ignored-why w t .1)
 
 -- flow control delivers nothing
 abbrev Undelivered : Told → Type 0
@@ -381,7 +356,7 @@ module _ (k : ℕ) (h : Held) where
     module _ (s : Side) (buffer : List ℕ) (e : refusal h (turn buffer) ≡ 0) (l : passedOver (h .node) < berthCount) (q : reached (h .node) ≡ k) where
       due-k : T (due (partOf k h .berth))
       unfolding partOf
-      due-k = rw q at (reached-due (h .node) (sound .order) l)
+      due-k = rw q at (reached-due (h .node) (sound .order) l .0)
 
       pub own-k : own k h (turn buffer) ≡ turns ∷ []
       unfolding ownDone
