@@ -1,10 +1,10 @@
 -- Runs, computed, that meet the premises of the laws: so the laws are about something.
 use mathlib.Core.Path.{_≡_, refl}
-use Prim.Native.Nat.{ℕ, zero, suc}
+use Prim.Native.Nat.{ℕ, zero, suc, _*_}
 use mathlib.Core.Bool.{Bool, true, false}
 use mathlib.Core.List.{List, [], _∷_, _++_}
 use lib.ListN.{length, set, replicate}
-use lib.Dec.{T, lit<}
+use lib.Dec.{T, lit<, lit≤}
 use Rattle.rules.specs.Tests.{all, each, firstUnmet}
 use Rattle.rules.specs.Numbers.{berthCount}
 use Rattle.rules.specs.Ranges.{stminAllowed, settingsAllowed, inBlock, takingInRange, rxInRange, sendingInRange, txInRange, berthInOrder, fresh, berthAt, inOrder}
@@ -26,11 +26,13 @@ use Rattle.rules.specs.declared.Node.{Node}
 use Rattle.rules.specs.declared.Codes.{Codes}
 use Rattle.rules.specs.declared.Word.the-variants.{Delivered, Begun, Failed, Ignored, TooLong, Took, Going, Waiting}
 use Rattle.rules.proofs.Ranges.{in-order-range}
-use Rattle.laws.specs.Own.{over, ownDone, own, owns, Sound, Alone}
+use Rattle.laws.specs.Own.{over, ownDone, own, owns, heardOf, ofBerth, Sound, Alone}
 use Rattle.laws.specs.Rounds.{Turn, served, nobody, turnOf, StaysDue, Fair}
-use Rattle.laws.specs.Line.{blank}
+use Rattle.laws.specs.Sides.{frameSide, ofSide, handedSide, framesBy}
+use Rattle.laws.specs.Line.{there, back, World, deliveredIn, callA, callB, carriedA, carriedB, Deed, atA, atB, carryA, carryB, acts, living, spares, AllApart, gapLeft, AtRest, begin, MayBegin, Arrived, blank}
 use Rattle.laws.proofs.SetUp.{each-alone}
 use Rattle.laws.proofs.Fairness.{fair}
+use Rattle.laws.proofs.World.{line-law}
 
 -- ---- each berth alone: berth 3 awaits and times out, berth 5 sends and receives
 
@@ -65,3 +67,109 @@ two-answers : answers two twoRun
     ∷ codes (set (replicate 10 (pairOf 0 0)) 3 (pairOf 4 0)) ∷ shown (0xAA ∷ 0xBB ∷ []) ∷ []
 unfolding answers final done reply written outcome refusedOutcome refusal needs firstUnmet rightStore inside berthAt busy inOrder all each settingsAllowed stminAllowed berthInOrder rxInRange txInRange takingInRange sendingInRange inBlock afterFrame cameAt frameCame byKind kind low heardBy toldBy ignored singleCame singleFits oldCode withBerth stored tickedNode ticked rxTicked txTicked ran rxCode txCode codesOf sentBerth beginsWith passedOver leastDistance distance due flowDue messageDue reached servedNode handedAt handOver areaOf afterFlow flowFrame afterMessage messageFrame messageCode singleFrame padded showing showable shownLength
 two-answers = refl
+
+-- what is berth 3's own, and what is berth 5's; the refused call is in neither
+two-owns : (owns 3 two twoRun ≡ arrives (0x70 ∷ []) ∷ ticks ∷ ticks ∷ [])
+    × (owns 5 two twoRun ≡ sends (1 ∷ 2 ∷ 3 ∷ []) ∷ ticks ∷ turns ∷ arrives (0x02 ∷ 0xAA ∷ 0xBB ∷ []) ∷ ticks ∷ [])
+unfolding owns own ownDone answers final done reply written outcome refusedOutcome refusal needs firstUnmet rightStore inside berthAt busy inOrder all each settingsAllowed stminAllowed berthInOrder rxInRange txInRange takingInRange sendingInRange inBlock afterFrame cameAt frameCame byKind kind low heardBy toldBy ignored singleCame singleFits oldCode withBerth stored tickedNode ticked rxTicked txTicked ran rxCode txCode codesOf sentBerth beginsWith passedOver leastDistance distance due flowDue messageDue reached servedNode handedAt handOver areaOf afterFlow flowFrame afterMessage messageFrame messageCode singleFrame padded showing showable shownLength
+two-owns = (refl, refl)
+
+-- so each is as it would be alone
+pub two-alone : Alone (two .node .settings) (partOf 3 two) 3 two twoRun × Alone (two .node .settings) (partOf 5 two) 5 two twoRun
+two-alone = (each-alone two twoRun 3 (lit< tt) two-sound, each-alone two twoRun 5 (lit< tt) two-sound)
+
+-- ---- fairness: all ten are due, berth 4 was served last, and nine others are served before it
+
+abbrev crowd : Held
+crowd =
+    record {
+      node = record {
+        settings = record { area = 8; block = 0; stmin = 0 };
+        served = 4;
+        berths = replicate berthCount (record { rx = Rx.Idle; last = 0; tx = Tx.SingleDue 1 0 });
+      };
+      incoming = replicate 80 0;
+      outgoing = replicate 80 7;
+    }
+
+abbrev crowdRun : List Call
+crowdRun = replicate 10 (turn blank)
+
+crowd-turns : over turnOf (answers crowd crowdRun)
+    ≡ served 5 ∷ served 6 ∷ served 7 ∷ served 8 ∷ served 9 ∷ served 0 ∷ served 1 ∷ served 2 ∷ served 3 ∷ served 4 ∷ []
+unfolding over turnOf answers final done reply written outcome refusedOutcome refusal needs firstUnmet rightStore inside berthAt busy inOrder all each settingsAllowed stminAllowed berthInOrder rxInRange txInRange takingInRange sendingInRange inBlock afterFrame cameAt frameCame byKind kind low heardBy toldBy ignored singleCame singleFits oldCode withBerth stored tickedNode ticked rxTicked txTicked ran rxCode txCode codesOf sentBerth beginsWith passedOver leastDistance distance due flowDue messageDue reached servedNode handedAt handOver areaOf afterFlow flowFrame afterMessage messageFrame messageCode singleFrame padded showing showable shownLength
+crowd-turns = refl
+
+crowd-due : StaysDue 4 crowd crowdRun
+unfolding StaysDue answers final done reply written outcome refusedOutcome refusal needs firstUnmet rightStore inside berthAt busy inOrder all each settingsAllowed stminAllowed berthInOrder rxInRange txInRange takingInRange sendingInRange inBlock afterFrame cameAt frameCame byKind kind low heardBy toldBy ignored singleCame singleFits oldCode withBerth stored tickedNode ticked rxTicked txTicked ran rxCode txCode codesOf sentBerth beginsWith passedOver leastDistance distance due flowDue messageDue reached servedNode handedAt handOver areaOf afterFlow flowFrame afterMessage messageFrame messageCode singleFrame padded showing showable shownLength
+crowd-due = ((λ e. tt), ((λ e. tt), ((λ e. tt), ((λ e. tt), ((λ e. tt), ((λ e. tt), ((λ e. tt), ((λ e. tt), ((λ e. tt), ((λ e. tt), tt))))))))))
+
+pub crowd-fair : Fair 4 (over turnOf (answers crowd crowdRun))
+crowd-fair = fair 4 (lit< tt) crowd crowdRun crowd-due
+
+-- ---- the line's law: A 36 and 40, BS 8 and 2, STmin 0 and 2. 36 bytes in five consecutive frames, three blocks, a gap of two ticks; berth
+-- 6 of A and the send side of B's berth 7 have traffic of their own, and a frame of kind 5 comes to the taker
+
+abbrev nodeOf : ℕ → ℕ → ℕ → Held
+nodeOf a bs stmin =
+    record { node = setUpNode (record { area = a; block = bs; stmin = stmin }); incoming = replicate (10 * a) 0; outgoing = replicate (10 * a) 0 }
+
+abbrev scheduler : Held
+scheduler = nodeOf 36 8 0
+
+abbrev mast : Held
+mast = nodeOf 40 2 2
+
+abbrev programme : List ℕ
+programme =
+    1 ∷ 2 ∷ 3 ∷ 4 ∷ 5 ∷ 6 ∷ 7 ∷ 8 ∷ 9 ∷ 10 ∷ 11 ∷ 12 ∷ 13 ∷ 14 ∷ 15 ∷ 16 ∷ 17 ∷ 18 ∷ 19 ∷ 20 ∷ 21 ∷ 22 ∷ 23 ∷ 24 ∷
+    25 ∷ 26 ∷ 27 ∷ 28 ∷ 29 ∷ 30 ∷ 31 ∷ 32 ∷ 33 ∷ 34 ∷ 35 ∷ 36 ∷ []
+
+abbrev deeds : List Deed
+deeds =
+    atA (send 6 (9 ∷ [])) ∷ atA (turn blank) ∷ carryB ∷ atB (frame 0x647 (0x50 ∷ 1 ∷ [])) ∷ atB (send 7 (5 ∷ [])) ∷
+    atB (turn blank) ∷ atB (turn blank) ∷ carryA ∷ atA (turn blank) ∷ atA (turn blank) ∷ carryB ∷ atA tick ∷
+    atB tick ∷ atA tick ∷ atB tick ∷ atA (turn blank) ∷ carryB ∷ atB (turn blank) ∷ carryA ∷ atA (turn blank) ∷
+    carryB ∷ atA tick ∷ atB tick ∷ atA tick ∷ atB tick ∷ atA (turn blank) ∷ carryB ∷ atB (turn blank) ∷ carryA ∷
+    atA (turn blank) ∷ carryB ∷ []
+
+may-begin : MayBegin 2 7 programme scheduler mast
+unfolding setUpNode berthAt inOrder all each settingsAllowed stminAllowed berthInOrder rxInRange txInRange
+may-begin =
+    record {
+      small-i = lit< tt;
+      small-j = lit< tt;
+      sound-a = record { order = in-order-range (scheduler .node) tt; incoming = refl; outgoing = refl };
+      sound-b = record { order = in-order-range (mast .node) tt; incoming = refl; outgoing = refl };
+      idle-a = refl;
+      idle-b = refl;
+      some = lit≤ tt;
+      fits-a = lit≤ tt;
+      fits-b = lit≤ tt;
+    }
+
+deeds-apart : AllApart 2 7 (begin 2 programme scheduler mast) deeds
+unfolding AllApart spares frameSide living acts callA callB carriedA carriedB framesBy handedSide ofSide ofBerth reports reported wordReports codesReports failedSide heardOf deliveredIn over answers final done reply written outcome refusedOutcome refusal needs firstUnmet rightStore inside berthAt busy inOrder all each settingsAllowed stminAllowed berthInOrder rxInRange txInRange takingInRange sendingInRange inBlock afterFrame cameAt frameCame byKind kind low heardBy toldBy ignored singleCame singleFits oldCode withBerth stored tickedNode ticked rxTicked txTicked ran rxCode txCode codesOf sentBerth beginsWith passedOver leastDistance distance due flowDue messageDue reached servedNode handedAt handOver areaOf afterFlow flowFrame afterMessage messageFrame messageCode singleFrame padded showing showable shownLength setUpNode firstCame shortLength escapeLength announced firstFits begun taking consecutiveCame awaitedCame consecutiveFits missing piece grown completed afterTook took wrongSn counted fillsBlock nextSn share flowCame flowFits byStatus granted gapOf newBlock goFrame firstFrame consecutiveFrame toGo opened moved afterConsecutive closer
+deeds-apart =
+    ((λ e. tt), ((λ e. tt), (tt, ((λ e. tt), ((λ e. tt), ((λ e. tt), ((λ e. tt), (tt, ((λ e. tt), ((λ e. tt), (tt, ((λ e. tt), ((λ e. tt), ((λ e. tt), ((λ e. tt), ((λ e. tt), (tt, ((λ e. tt), (tt, ((λ e. tt), (tt, ((λ e. tt), ((λ e. tt), ((λ e. tt), ((λ e. tt), ((λ e. tt), (tt, ((λ e. tt), (tt, ((λ e. tt), (tt, tt)))))))))))))))))))))))))))))))
+
+deeds-rest : AtRest 2 7 (living 2 7 (begin 2 programme scheduler mast) deeds)
+unfolding gapLeft living acts callA callB carriedA carriedB framesBy handedSide ofSide ofBerth reports reported wordReports codesReports failedSide heardOf deliveredIn over answers final done reply written outcome refusedOutcome refusal needs firstUnmet rightStore inside berthAt busy inOrder all each settingsAllowed stminAllowed berthInOrder rxInRange txInRange takingInRange sendingInRange inBlock afterFrame cameAt frameCame byKind kind low heardBy toldBy ignored singleCame singleFits oldCode withBerth stored tickedNode ticked rxTicked txTicked ran rxCode txCode codesOf sentBerth beginsWith passedOver leastDistance distance due flowDue messageDue reached servedNode handedAt handOver areaOf afterFlow flowFrame afterMessage messageFrame messageCode singleFrame padded showing showable shownLength setUpNode firstCame shortLength escapeLength announced firstFits begun taking consecutiveCame awaitedCame consecutiveFits missing piece grown completed afterTook took wrongSn counted fillsBlock nextSn share flowCame flowFits byStatus granted gapOf newBlock goFrame firstFrame consecutiveFrame toGo opened moved afterConsecutive closer
+deeds-rest = record { none-there = refl; none-back = refl; none-due = refl; no-gap = refl; no-flow = refl }
+
+deeds-log : living 2 7 (begin 2 programme scheduler mast) deeds .log
+    ≡ there (0x10 ∷ 36 ∷ 1 ∷ 2 ∷ 3 ∷ 4 ∷ 5 ∷ 6 ∷ [])
+    ∷ back (0x30 ∷ 2 ∷ 2 ∷ 0xCC ∷ 0xCC ∷ 0xCC ∷ 0xCC ∷ 0xCC ∷ [])
+    ∷ there (0x21 ∷ 7 ∷ 8 ∷ 9 ∷ 10 ∷ 11 ∷ 12 ∷ 13 ∷ [])
+    ∷ there (0x22 ∷ 14 ∷ 15 ∷ 16 ∷ 17 ∷ 18 ∷ 19 ∷ 20 ∷ [])
+    ∷ back (0x30 ∷ 2 ∷ 2 ∷ 0xCC ∷ 0xCC ∷ 0xCC ∷ 0xCC ∷ 0xCC ∷ [])
+    ∷ there (0x23 ∷ 21 ∷ 22 ∷ 23 ∷ 24 ∷ 25 ∷ 26 ∷ 27 ∷ [])
+    ∷ there (0x24 ∷ 28 ∷ 29 ∷ 30 ∷ 31 ∷ 32 ∷ 33 ∷ 34 ∷ [])
+    ∷ back (0x30 ∷ 2 ∷ 2 ∷ 0xCC ∷ 0xCC ∷ 0xCC ∷ 0xCC ∷ 0xCC ∷ [])
+    ∷ there (0x25 ∷ 35 ∷ 36 ∷ 0xCC ∷ 0xCC ∷ 0xCC ∷ 0xCC ∷ 0xCC ∷ [])
+    ∷ []
+unfolding living acts callA callB carriedA carriedB framesBy handedSide ofSide ofBerth reports reported wordReports codesReports failedSide heardOf deliveredIn over answers final done reply written outcome refusedOutcome refusal needs firstUnmet rightStore inside berthAt busy inOrder all each settingsAllowed stminAllowed berthInOrder rxInRange txInRange takingInRange sendingInRange inBlock afterFrame cameAt frameCame byKind kind low heardBy toldBy ignored singleCame singleFits oldCode withBerth stored tickedNode ticked rxTicked txTicked ran rxCode txCode codesOf sentBerth beginsWith passedOver leastDistance distance due flowDue messageDue reached servedNode handedAt handOver areaOf afterFlow flowFrame afterMessage messageFrame messageCode singleFrame padded showing showable shownLength setUpNode firstCame shortLength escapeLength announced firstFits begun taking consecutiveCame awaitedCame consecutiveFits missing piece grown completed afterTook took wrongSn counted fillsBlock nextSn share flowCame flowFits byStatus granted gapOf newBlock goFrame firstFrame consecutiveFrame toGo opened moved afterConsecutive closer
+deeds-log = refl
+
+pub programme-arrived : Arrived 2 7 programme (living 2 7 (begin 2 programme scheduler mast) deeds)
+programme-arrived = line-law 2 7 programme scheduler mast may-begin deeds deeds-apart deeds-rest
