@@ -7,6 +7,7 @@ pub mod Fairness
 pub mod Sides
 pub mod Touch
 pub mod Frames
+pub mod Exchanged
 pub mod Line
 pub mod World
 pub mod Onward

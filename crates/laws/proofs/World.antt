@@ -7,14 +7,14 @@ use native.Mathlib.Nat.{mul-le-mul-right, zero-add}
 use mathlib.Core.Bool.{Bool, true, false, not, _||_}
 use mathlib.Core.List.{List, [], _∷_, _++_, map, append-nil}
 use mathlib.Core.Logic.{_⊎_, inl, inr, ⊎-elim}
-use lib.ListN.{length, take, drop, length-take, length-drop}
+use lib.ListN.{length, take, drop, replicate, length-take, length-drop}
 use lib.Seq.{sets, length-sets, take-length}
 use lib.Dec.{T, eqb}
 use mir.Facts.{yes-eqb, yes-leb, yes-ltb}
 use Rattle.rules.specs.Tests.{pick}
 use Rattle.rules.specs.Numbers.{berthCount, fromBerth, frameLength, flowKind, shortMost, N-OK}
 use Rattle.rules.specs.Ranges.{berthAt, inOrder, InOrder}
-use Rattle.rules.specs.Frames.{kind, goFrame, counted, fillsBlock, framesOf}
+use Rattle.rules.specs.Frames.{kind, goFrame, framesOf}
 use Rattle.rules.specs.Arrivals.{Came, frameCame}
 use Rattle.rules.specs.Ticks.{rxTicked, rxCode, txTicked, txCode, ticked}
 use Rattle.rules.specs.Turns.{flowDue, messageDue, due, flowFrame, afterFlow, messageFrame, messageCode, afterMessage, HandedOver, handOver, beginsWith, sent as sentBerth, busy}
@@ -31,12 +31,13 @@ use Rattle.rules.proofs.Cases.{is-true, is-false, eqb-is, eqb-not, or-cases}
 use Rattle.rules.proofs.Ranges.{range-in-order}
 use Rattle.laws.specs.Own.{over, ownDone, own, heardOf, saidReports, partShown, Sound}
 use Rattle.laws.specs.Sides.{sideOf, frameSide, handedIn, framesBy}
-use Rattle.laws.specs.Line.{Handed, there, back, World, reportsBy, deliveredIn, callA, callB, carriedA, carriedB, Deed, atA, atB, carryA, carryB, acts, living, tickCode, Spares, Apart, AllApart, gapLeft, AtRest, inBlocks, exchanged, thereOf, begin, MayBegin, Arrived}
+use Rattle.laws.specs.Line.{Handed, there, back, World, reportsBy, deliveredIn, callA, callB, carriedA, carriedB, Deed, atA, atB, carryA, carryB, acts, living, tickCode, Spares, Apart, AllApart, gapLeft, AtRest, exchanged, thereOf, backOf, blocks, begin, MayBegin, Arrived}
 use Rattle.laws.proofs.Isolation.{settings-step, part-step}
 use Rattle.laws.proofs.Reports.{berth-shown}
 use Rattle.laws.proofs.SetUp.{sound-step}
 use Rattle.laws.proofs.Touch.{SparedBy, TickOf, TurnOf, TouchedBy, spared, clocked, turned, touch, Carried, carry, delivered-carried, none-delivered, own-is, all-met}
 use Rattle.laws.proofs.Frames.{extended}
+use Rattle.laws.proofs.Exchanged.{there-exchanged, back-exchanged}
 use Rattle.laws.proofs.Line.{Line, Phase, under-way, handS, handR, tickS, tickR, tookR, tookS, receiving, sending, ticks-S, ticks-R, hands-S, hands-R, carries-S, carries-R, there-whole, back-whole, starts, Landed, at-rest}
 
 -- the two sides and the line between them
@@ -537,24 +538,6 @@ sent-bytes l m out e h = rw e (rw (zero-add (length m)) at (extended l 0 m (leng
 
 -- ---- the law
 
-there-blocks : (s : Settings) (count : ℕ) (fs : List (List ℕ)) → thereOf (inBlocks s count fs) ≡ fs
-unfolding thereOf inBlocks
-there-blocks s count [] = refl
-there-blocks s count (f ∷ []) = refl
-there-blocks s count (f ∷ g ∷ fs) = go (fillsBlock (s .block) count) (there-blocks s 0 (g ∷ fs)) (there-blocks s (counted (s .block) count) (g ∷ fs))
-  where
-    go : (b : Bool) → thereOf (inBlocks s 0 (g ∷ fs)) ≡ g ∷ fs → thereOf (inBlocks s (counted (s .block) count) (g ∷ fs)) ≡ g ∷ fs
-        → thereOf (there f ∷ pick b (back (goFrame s) ∷ inBlocks s 0 (g ∷ fs)) (inBlocks s (counted (s .block) count) (g ∷ fs))) ≡ f ∷ g ∷ fs
-    go true x y = ap (λ (r : List (List ℕ)). f ∷ r) x
-    go false x y = ap (λ (r : List (List ℕ)). f ∷ r) y
-
--- what is handed over there are the frames
-pub there-exchanged : (s : Settings) (fs : List (List ℕ)) → thereOf (exchanged s fs) ≡ fs
-unfolding thereOf exchanged
-there-exchanged s [] = refl
-there-exchanged s (f ∷ []) = refl
-there-exchanged s (f ∷ g ∷ fs) = ap (λ (r : List (List ℕ)). f ∷ r) (there-blocks s 0 (g ∷ fs))
-
 module _ (i j : ℕ) (m : List ℕ) (a b : Held) (may : MayBegin i j m a b) where
   -- the area after the send
   abbrev pub outA : List ℕ
@@ -634,6 +617,8 @@ module _ (i j : ℕ) (m : List ℕ) (a b : Held) (may : MayBegin i j m a b) wher
         taker = l .heard;
         handed = l .log ∙ ap (λ (x : Settings). exchanged x (framesOf m)) (sym (s .settings-b));
         frames = ap thereOf (l .log) ∙ there-exchanged setB (framesOf m);
+        flow = ap backOf (l .log) ∙ back-exchanged setB (framesOf m)
+            ∙ ap (λ (x : Settings). replicate (blocks (x .block) (length (framesOf m) - 1)) (goFrame x)) (sym (s .settings-b));
         idle-a = l .tx;
         idle-b = l .rx;
       }

@@ -1,6 +1,6 @@
 -- The line's law: two nodes, and a line between berth i of node A, which sends, and berth j of node B, which takes. Any calls on both
 -- nodes, and the carrying of frames. What was handed over and reported is read off the answers alone.
-use Prim.Native.Nat.{ℕ, _+_, _≤_, _<_}
+use Prim.Native.Nat.{ℕ, _+_, _-_, _≤_, _<_}
 use mathlib.Core.Path.{_≡_}
 use mathlib.Core.Bool.{Bool, true, false, not, _||_}
 use mathlib.Core.List.{List, [], _∷_, _++_, map}
@@ -9,7 +9,7 @@ use lib.Dec.{T, eqb}
 use Rattle.rules.specs.Tests.{pick}
 use Rattle.rules.specs.Numbers.{berthCount, fromBerth, frameLength, N-OK}
 use Rattle.rules.specs.Ranges.{berthAt}
-use Rattle.rules.specs.Frames.{counted, fillsBlock, goFrame, framesOf}
+use Rattle.rules.specs.Frames.{counted, fillsBlock, goFrame, roundedUp, framesOf}
 use Rattle.rules.specs.Arrivals.{Came}
 use Rattle.rules.specs.Ticks.{rxCode, txCode}
 use Rattle.rules.specs.Turns.{flowDue, messageDue}
@@ -193,6 +193,16 @@ thereOf [] = []
 thereOf (there f ∷ hs) = f ∷ thereOf hs
 thereOf (back f ∷ hs) = thereOf hs
 
+-- and the flow control back
+unfoldable pub backOf : List Handed → List (List ℕ)
+backOf [] = []
+backOf (there f ∷ hs) = backOf hs
+backOf (back f ∷ hs) = f ∷ backOf hs
+
+-- the blocks of so many consecutive frames: all in one if the block size is 0
+unfoldable pub blocks : ℕ → ℕ → ℕ
+blocks size count = pick (eqb count 0) 0 (pick (eqb size 0) 1 (roundedUp count size))
+
 -- ---- the law: where it begins, and where it ends
 
 -- node A has taken the message for berth i; nothing is on the way and nothing was handed over or reported
@@ -215,7 +225,7 @@ pub record MayBegin (i j : ℕ) (m : List ℕ) (a b : Held) : Type 0 where
 
 -- the same bytes have arrived in the taker's area and are shown; Delivered was answered once, with the length, and is the last length;
 -- the sender has reported one code, 1, and so has the taker; the frames handed over both ways, in order; the frames there are
--- those of the message; both sides are idle again
+-- those of the message, and those back one go for each block; both sides are idle again
 pub record Arrived (i j : ℕ) (m : List ℕ) (w : World) : Type 0 where
   pub bytes : take (length m) (areaOf (w .b .node .settings .area) j (w .b .incoming)) ≡ m
   pub shown : showing (w .b) j false ≡ m
@@ -225,6 +235,7 @@ pub record Arrived (i j : ℕ) (m : List ℕ) (w : World) : Type 0 where
   pub taker : w .heard ≡ reported j receive N-OK
   pub handed : w .log ≡ exchanged (w .b .node .settings) (framesOf m)
   pub frames : thereOf (w .log) ≡ framesOf m
+  pub flow : backOf (w .log) ≡ replicate (blocks (w .b .node .settings .block) (length (framesOf m) - 1)) (goFrame (w .b .node .settings))
   pub idle-a : berthAt (w .a .node) i .tx ≡ Tx.Idle
   pub idle-b : berthAt (w .b .node) j .rx ≡ Rx.Idle
 
