@@ -1,35 +1,32 @@
 -- Runs, computed, that meet the premises of the laws: so the laws are about something.
 use mathlib.Core.Path.{_≡_, refl}
-use Prim.Native.Nat.{ℕ, zero, suc, _*_}
-use mathlib.Core.Bool.{Bool, true, false}
-use mathlib.Core.List.{List, [], _∷_, _++_}
-use lib.ListN.{length, set, replicate}
-use lib.Dec.{T, lit<, lit≤}
+use Prim.Native.Nat.{ℕ, _*_}
+use mathlib.Core.Bool.{false}
+use mathlib.Core.List.{List, [], _∷_}
+use lib.ListN.{set, replicate}
+use lib.Dec.{lit<, lit≤}
 use Rattle.rules.specs.Tests.{all, each, firstUnmet}
 use Rattle.rules.specs.Numbers.{berthCount}
 use Rattle.rules.specs.Ranges.{stminAllowed, settingsAllowed, inBlock, takingInRange, rxInRange, sendingInRange, txInRange, berthInOrder, fresh, berthAt, inOrder}
-use Rattle.rules.specs.Frames.{kind, low, singleFits, shortLength, escapeLength, announced, firstFits, consecutiveFits, flowFits, padded, singleFrame, firstFrame, consecutiveFrame, goFrame, overflowFrame, firstSn, nextSn, counted, fillsBlock, gapOf, share}
-use Rattle.rules.specs.Arrivals.{ignored, oldCode, singleCame, turnedAway, taking, begun, firstCame, missing, piece, grown, completed, afterTook, took, wrongSn, awaitedCame, consecutiveCame, granted, byStatus, flowIgnored, flowCame, heardBy, toldBy, byKind, frameCame}
+use Rattle.rules.specs.Frames.{kind, low, singleFits, shortLength, escapeLength, announced, firstFits, consecutiveFits, flowFits, padded, singleFrame, firstFrame, consecutiveFrame, goFrame, firstSn, nextSn, counted, fillsBlock, gapOf, share}
+use Rattle.rules.specs.Arrivals.{ignored, oldCode, singleCame, taking, begun, firstCame, missing, piece, grown, completed, afterTook, took, wrongSn, awaitedCame, consecutiveCame, granted, byStatus, flowCame, heardBy, toldBy, byKind, frameCame}
 use Rattle.rules.specs.Ticks.{ran, rxTicked, rxCode, closer, txTicked, txCode, ticked}
-use Rattle.rules.specs.Turns.{flowDue, messageDue, due, flowFrame, newBlock, afterFlow, toGo, messageFrame, messageCode, opened, moved, afterConsecutive, afterMessage, handOver, beginsWith, sent as sentBerth, lengthSending, busy}
+use Rattle.rules.specs.Turns.{flowDue, messageDue, due, flowFrame, newBlock, afterFlow, toGo, messageFrame, messageCode, opened, moved, afterConsecutive, afterMessage, handOver, beginsWith, sent as sentBerth, busy}
 use Rattle.rules.specs.Stores.{Held, rightStore, areaOf, stored, inside, withBerth, tickedNode, servedNode, setUpNode, distance, leastDistance, passedOver, reached, cameAt, handedAt}
-use Rattle.rules.specs.Answers.{Answer, refused, heard, codes, sent, handed, none, shown, Side, receive, send as sendSide, Report, reported, failedSide, wordReports, codesReports, reports}
+use Rattle.rules.specs.Answers.{refused, heard, codes, sent, handed, shown, receive, reported, failedSide, wordReports, codesReports, reports}
 use Rattle.rules.specs.Refusals.{Call, frame, tick, send, turn, show, needs, refusal}
 use Rattle.rules.specs.Calls.{showable, shownLength, showing, afterFrame, done, codesOf, reply, written, refusedOutcome, outcome, answers, final}
-use Rattle.rules.specs.Alone.{Part, partOf, Event, arrives, ticks, sends, turns}
-use Rattle.rules.specs.declared.Settings.{Settings}
-use Rattle.rules.specs.declared.Sn.{Sn}
+use Rattle.rules.specs.Alone.{partOf, arrives, ticks, sends, turns}
 use Rattle.rules.specs.declared.Rx.{Rx}
 use Rattle.rules.specs.declared.Tx.{Tx}
 use Rattle.rules.specs.declared.Berth.{Berth}
-use Rattle.rules.specs.declared.Node.{Node}
 use Rattle.rules.specs.declared.Codes.{Codes}
-use Rattle.rules.specs.declared.Word.the-variants.{Delivered, Begun, Failed, Ignored, TooLong, Took, Going, Waiting}
+use Rattle.rules.specs.declared.Word.the-variants.{Delivered, Ignored}
 use Rattle.rules.proofs.Ranges.{in-order-range}
 use Rattle.laws.specs.Own.{over, ownDone, own, owns, heardOf, ofBerth, Sound, Alone}
-use Rattle.laws.specs.Rounds.{Turn, served, nobody, turnOf, StaysDue, Fair}
+use Rattle.laws.specs.Rounds.{served, turnOf, StaysDue, Fair}
 use Rattle.laws.specs.Sides.{frameSide, ofSide, handedSide, framesBy}
-use Rattle.laws.specs.Line.{there, back, World, deliveredIn, callA, callB, carriedA, carriedB, Deed, atA, atB, carryA, carryB, acts, living, spares, AllApart, gapLeft, AtRest, begin, MayBegin, Arrived, blank}
+use Rattle.laws.specs.Line.{there, back, deliveredIn, callA, callB, carriedA, carriedB, Deed, atA, atB, carryA, carryB, acts, living, spares, AllApart, gapLeft, AtRest, begin, MayBegin, Arrived, blank}
 use Rattle.laws.proofs.SetUp.{each-alone}
 use Rattle.laws.proofs.Fairness.{fair}
 use Rattle.laws.proofs.World.{line-law}

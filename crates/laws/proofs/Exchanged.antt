@@ -1,6 +1,6 @@
 -- What is handed over both ways: there the frames, and back one go for each block.
 use mathlib.Core.Path.{_≡_, refl, sym, ap, _∙_}
-use Prim.Native.Nat.{ℕ, zero, suc, _+_, _-_, _/_, _<_}
+use Prim.Native.Nat.{ℕ, suc, _+_, _-_, _/_, _<_}
 use native.Mathlib.Omega.{arith}
 use native.Mathlib.Nat.{div-zero, div-eq-of-lt, add-div-left}
 use mathlib.Core.Bool.{Bool, true, false}
@@ -10,9 +10,9 @@ use lib.Dec.{eqb}
 use Rattle.rules.specs.Tests.{pick}
 use Rattle.rules.specs.Frames.{goFrame, counted, fillsBlock}
 use Rattle.rules.specs.declared.Settings.{Settings}
-use Rattle.rules.proofs.Cases.{Tested, holds, fails, eqb-cases, eqb-is, eqb-not}
+use Rattle.rules.proofs.Cases.{Tested, holds, fails, eqb-cases, eqb-not}
 use Rattle.rules.proofs.Order.{fills-cases}
-use Rattle.laws.specs.Line.{Handed, there, back, inBlocks, exchanged, thereOf, backOf, blocks}
+use Rattle.laws.specs.Line.{there, back, inBlocks, exchanged, thereOf, backOf, blocks}
 use Rattle.laws.proofs.Frames.{counted-on}
 
 there-blocks : (s : Settings) (count : ℕ) (fs : List (List ℕ)) → thereOf (inBlocks s count fs) ≡ fs

@@ -1,19 +1,17 @@
 -- Demand 3, second half. While berth k stays due, each answered call for a frame serves k or leaves its distance smaller; a list along
 -- which a number below ten falls has no berth twice and at most nine.
-use mathlib.Core.Path.{_≡_, refl, sym, ap, _∙_}
-use Prim.Native.Nat.{ℕ, zero, suc, _+_, _-_, _≤_, _<_}
+use mathlib.Core.Path.{_≡_, refl, ap, _∙_}
+use Prim.Native.Nat.{ℕ, zero, suc, _+_, _≤_, _<_}
 use native.Mathlib.Omega.{arith}
-use mathlib.Core.Bool.{Bool, true, false}
 use mathlib.Core.List.{List, [], _∷_, _++_, List·Memᴰ, List·Memᴰ·cases-cons, List·Memᴰ·not-nil}
 use mathlib.Core.Logic.{_⊎_, inl, inr}
 use lib.ListN.{length, getD}
-use lib.Dec.{T, eqb, ltb}
-use Rattle.rules.specs.Tests.{pick, unless}
+use lib.Dec.{T, eqb}
+use Rattle.rules.specs.Tests.{unless}
 use Rattle.rules.specs.Numbers.{berthCount, toBerth}
 use Rattle.rules.specs.Ranges.{berthAt, InOrder}
 use Rattle.rules.specs.Turns.{due}
 use Rattle.rules.specs.Stores.{Held, withBerth, tickedNode, servedNode, distance, passedOver, reached}
-use Rattle.rules.specs.Answers.{Answer}
 use Rattle.rules.specs.Refusals.{Call, frame, tick, send, turn, show, refusal}
 use Rattle.rules.specs.Calls.{afterFrame, done, reply, written, bufferOf, Outcome, refusedOutcome, outcome, answers}
 use Rattle.rules.proofs.Cases.{Tested, holds, fails, eqb-cases, eqb-is, eqb-not, ltb-is}
@@ -21,7 +19,7 @@ use Rattle.rules.proofs.Ranges.{in-order-range}
 use Rattle.rules.proofs.Round.{near}
 use Rattle.rules.proofs.Answered.{turn-answered}
 use Rattle.laws.specs.Own.{over, takerOf}
-use Rattle.laws.specs.Rounds.{Turn, served, nobody, turnOf, DueAt, StaysDue, isOf, before, NoTwice, Fair}
+use Rattle.laws.specs.Rounds.{Turn, served, nobody, turnOf, DueAt, StaysDue, before, NoTwice, Fair}
 use Rattle.laws.proofs.Round.{some-reached, nearer}
 
 module _ (k : ℕ) (small : k < berthCount) where

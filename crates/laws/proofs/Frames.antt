@@ -1,19 +1,18 @@
 -- The frames of one message by their number: their parts are read back as they were laid out, the bytes grow by one frame's part after
 -- another, and these are the frames that the paper cuts the message into.
-use mathlib.Core.Path.{_≡_, refl, sym, ap, ap₂, _∙_}
+use mathlib.Core.Path.{_≡_, refl, sym, ap, _∙_}
 use Prim.Native.Nat.{ℕ, zero, suc, _+_, _-_, _*_, _/_, _%_, _≤_, _<_, min}
 use native.Mathlib.Omega.{arith}
 use native.Mathlib.Nat.{zero-add, suc-add}
-use mathlib.Core.Bool.{Bool, true, false, not, _&&_, _||_}
+use mathlib.Core.Bool.{true, false, not, _&&_}
 use mathlib.Core.List.{List, [], _∷_, _++_}
-use lib.ListN.{length, getD, take, drop, replicate, length-append, length-replicate, length-take, length-drop}
-use lib.Seq.{sets, sets-eq, take-at, take-nil, take-all, take-take, drop-drop, take-add, length-take-le, length-sets}
-use lib.Dec.{T, eqb, ltb, leb}
-use Rattle.rules.specs.Tests.{pick}
-use Rattle.rules.specs.Numbers.{snCount, frameLength, filler, singleKind, firstKind, consecutiveKind, flowKind, singleMost, firstBytes, consecutiveMost, leastLong, shortMost}
-use Rattle.rules.specs.Frames.{byteAt, kind, low, singleFits, shortLength, announced, firstFits, padded, singleFrame, firstFrame, consecutiveFrame, firstSn, nextSn, counted, fillsBlock, share, cutRest, cut, framesOf}
+use lib.ListN.{length, take, drop, replicate, length-append, length-replicate, length-take, length-drop}
+use lib.Seq.{sets, sets-eq, take-at, take-nil, take-all, take-take, drop-drop, take-add, length-take-le}
+use lib.Dec.{eqb}
+use Rattle.rules.specs.Numbers.{snCount, frameLength, filler, singleKind, firstKind, consecutiveKind, singleMost, firstBytes, consecutiveMost, leastLong, shortMost}
+use Rattle.rules.specs.Frames.{kind, low, singleFits, shortLength, announced, firstFits, padded, singleFrame, firstFrame, consecutiveFrame, nextSn, counted, fillsBlock, share, cutRest, cut, framesOf}
 use Rattle.rules.specs.declared.Sn.{Sn}
-use Rattle.rules.proofs.Cases.{Tested, holds, fails, eqb-cases, eqb-is, eqb-not, leb-is, leb-not, ltb-is, ltb-not, split}
+use Rattle.rules.proofs.Cases.{Tested, holds, fails, eqb-cases, eqb-is, eqb-not, leb-is, leb-not, ltb-is, split}
 
 -- ---- eight bytes
 

@@ -1,36 +1,32 @@
 -- Demand 3, first half. A call that is answered changes berth k's part by k's own event and no other part; refused calls change
 -- nothing; so by induction a run leaves and says of each berth what its own events do on that berth alone.
 use mathlib.Core.Path.{_≡_, refl, sym, ap, ap₂, _∙_}
-use Prim.Native.Nat.{ℕ, zero, suc, _+_, _-_, _*_, _≤_, _<_}
+use Prim.Native.Nat.{ℕ, zero, suc, _+_, _≤_, _<_}
 use native.Mathlib.Omega.{arith}
-use native.Mathlib.Nat.{mod-lt}
-use mathlib.Core.Bool.{Bool, true, false, not, _&&_}
-use mathlib.Core.List.{List, [], _∷_, _++_, map, append-assoc}
-use lib.ListN.{length, getD, take, set, replicate, List·getD-map, length-replicate}
-use lib.Seq.{sets, getD-set-same, getD-set-other}
-use lib.Dec.{T, eqb, ltb, leb, lit<}
-use mir.Facts.{yes-eqb, yes-ltb, yes-and}
-use Rattle.rules.specs.Tests.{pick, unless}
+use mathlib.Core.List.{List, [], _∷_, _++_}
+use lib.ListN.{length, getD, set, List·getD-map}
+use lib.Seq.{getD-set-same, getD-set-other}
+use lib.Dec.{T, eqb, ltb}
+use Rattle.rules.specs.Tests.{unless}
 use Rattle.rules.specs.Numbers.{berthCount, toBerth}
-use Rattle.rules.specs.Ranges.{fresh, berthAt, inOrder, SettingsRange}
+use Rattle.rules.specs.Ranges.{fresh, berthAt, inOrder}
 use Rattle.rules.specs.Ticks.{ticked, rxTicked, txTicked, rxCode, txCode}
-use Rattle.rules.specs.Turns.{sent as sentBerth, lengthSending}
-use Rattle.rules.specs.Stores.{Held, rightStore, areaOf, withBerth, tickedNode, servedNode, setUpNode, passedOver, reached, cameAt, handedAt}
-use Rattle.rules.specs.Answers.{Answer, refused, ready, heard, codes, sent, handed, none, shown, Side, receive, send as sendSide, Report, reported, wordReports, codesReports, reports}
+use Rattle.rules.specs.Turns.{sent as sentBerth}
+use Rattle.rules.specs.Stores.{Held, withBerth, tickedNode, servedNode, passedOver, reached, cameAt, handedAt}
+use Rattle.rules.specs.Answers.{receive}
 use Rattle.rules.specs.Refusals.{Call, frame, tick, send, turn, show, senderOf, refusal}
-use Rattle.rules.specs.Calls.{codesOf, afterFrame, done, reply, written, bufferOf, Outcome, refusedOutcome, outcome, setUpOutcome, answers, final, showable, shownLength, showing}
-use Rattle.rules.specs.Alone.{Part, partOf, Event, arrives, ticks, sends, turns, Says, hears, expires, accepts, hands, partAfter, says, alone, saysAll}
+use Rattle.rules.specs.Calls.{codesOf, afterFrame, done, reply, written, bufferOf, refusedOutcome, outcome, answers, final}
+use Rattle.rules.specs.Alone.{Part, partOf, Event, Says, expires, partAfter, says, alone, saysAll}
 use Rattle.rules.specs.declared.Settings.{Settings}
 use Rattle.rules.specs.declared.Berth.{Berth}
 use Rattle.rules.specs.declared.Node.{Node}
 use Rattle.rules.specs.declared.Codes.{Codes}
-use Rattle.rules.specs.declared.Word.{Word}
-use Rattle.rules.proofs.Cases.{Tested, holds, fails, eqb-cases, ltb-cases, eqb-is, eqb-not, is-true}
+use Rattle.rules.proofs.Cases.{Tested, holds, fails, eqb-cases, ltb-cases}
 use Rattle.rules.proofs.Areas.{area-same, area-other}
 use Rattle.rules.proofs.Ranges.{in-order-range}
 use Rattle.rules.proofs.Order.{reached-small}
-use Rattle.rules.proofs.Answered.{FrameAnswered, frame-answered, SendAnswered, send-answered, TurnAnswered, turn-answered}
-use Rattle.laws.specs.Own.{over, ownDone, own, owns, takerOf, noCodes, heardOf, ofBerth, saidReports, partShown}
+use Rattle.rules.proofs.Answered.{FrameAnswered, frame-answered, SendAnswered, send-answered, turn-answered}
+use Rattle.laws.specs.Own.{over, ownDone, own, owns, takerOf, heardOf}
 
 -- ---- one berth is written
 

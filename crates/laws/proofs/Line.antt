@@ -1,22 +1,21 @@
 -- THE LINE'S LAW on the two sides and the frames on the way: the phases of a transfer, that every step leads from phase to phase, and
 -- what is left at rest. Each phase says what is still to be handed over, and how many steps are still to come at most.
 use mathlib.Core.Path.{_≡_, refl, sym, ap, ap₂, _∙_}
-use Prim.Native.Nat.{ℕ, zero, suc, _+_, _-_, _*_, _/_, _%_, _≤_, _<_, min}
+use Prim.Native.Nat.{ℕ, zero, suc, _+_, _-_, _*_, _/_, _≤_, _<_}
 use native.Mathlib.Omega.{arith}
 use native.Mathlib.Nat.{zero-add}
-use mathlib.Core.Bool.{Bool, true, false, not, _&&_, _||_}
-use mathlib.Core.List.{List, [], _∷_, _++_, nil≢cons, head-eq-of-cons-eq, tail-eq-of-cons-eq, append-nil}
-use lib.ListN.{length, getD, take, drop}
+use mathlib.Core.Bool.{Bool, true, false, _&&_}
+use mathlib.Core.List.{List, [], _∷_, _++_, nil≢cons, head-eq-of-cons-eq, tail-eq-of-cons-eq}
+use lib.ListN.{length, take, drop}
 use lib.Seq.{sets, length-sets, length-take-le, append-snoc}
 use lib.Dec.{T, eqb, ltb, leb}
-use mir.Facts.{eqb-yes}
 use Rattle.rules.specs.Tests.{pick}
-use Rattle.rules.specs.Numbers.{timeout, singleKind, firstKind, consecutiveKind, flowKind, goStatus, frameLength, singleMost, firstBytes, consecutiveMost, leastLong, shortMost, longestGap, mostMillis, leastFraction, mostFraction, N-OK}
-use Rattle.rules.specs.Frames.{byteAt, kind, low, singleFits, announced, firstFits, consecutiveFits, flowFits, padded, goFrame, nextSn, firstSn, counted, fillsBlock, gapOf, share, framesOf}
-use Rattle.rules.specs.Arrivals.{Heard, Told, Came, ignored, oldCode, singleCame, firstCame, taking, begun, missing, piece, grown, completed, afterTook, took, awaitedCame, consecutiveCame, granted, byStatus, flowCame, heardBy, toldBy, byKind, frameCame}
+use Rattle.rules.specs.Numbers.{timeout, flowKind, frameLength, singleMost, firstBytes, consecutiveMost, leastLong, shortMost, longestGap, mostMillis, leastFraction, mostFraction, N-OK}
+use Rattle.rules.specs.Frames.{kind, low, consecutiveFits, flowFits, padded, goFrame, nextSn, counted, fillsBlock, gapOf, share, framesOf}
+use Rattle.rules.specs.Arrivals.{Came, oldCode, singleCame, firstCame, taking, begun, missing, piece, grown, completed, afterTook, took, awaitedCame, consecutiveCame, granted, byStatus, flowCame, heardBy, toldBy, byKind, frameCame}
 use Rattle.rules.specs.Ticks.{ran, rxTicked, rxCode, closer, txTicked, txCode}
 use Rattle.rules.specs.Turns.{flowDue, messageDue, flowFrame, newBlock, afterFlow, toGo, messageFrame, messageCode, opened, moved, afterConsecutive, afterMessage, beginsWith}
-use Rattle.rules.specs.Answers.{Side, receive, send, Report, reported, wordReports}
+use Rattle.rules.specs.Answers.{receive, send, Report, reported, wordReports}
 use Rattle.rules.specs.Alone.{hears}
 use Rattle.rules.specs.declared.Settings.{Settings}
 use Rattle.rules.specs.declared.Sn.{Sn}
@@ -25,12 +24,11 @@ use Rattle.rules.specs.declared.Sending.{Sending}
 use Rattle.rules.specs.declared.Rx.{Rx}
 use Rattle.rules.specs.declared.Tx.{Tx}
 use Rattle.rules.specs.declared.Berth.{Berth}
-use Rattle.rules.specs.declared.Word.{Word}
-use Rattle.rules.specs.declared.Word.the-variants.{Delivered, Begun, Failed, Ignored, TooLong, Took, Going, Waiting}
-use Rattle.rules.proofs.Cases.{Tested, holds, fails, eqb-cases, ltb-cases, leb-cases, eqb-is, eqb-not, leb-is, leb-not, ltb-is, ltb-not, is-true, pick-either, tests}
+use Rattle.rules.specs.declared.Word.the-variants.{Delivered, Begun, Going}
+use Rattle.rules.proofs.Cases.{Tested, holds, fails, eqb-cases, ltb-cases, leb-cases, eqb-is, leb-is, leb-not, ltb-not, pick-either, tests}
 use Rattle.rules.proofs.Order.{fills-cases}
 use Rattle.laws.specs.Line.{Handed, there, back, deliveredIn, gapLeft, inBlocks, exchanged}
-use Rattle.laws.proofs.Frames.{padded-length, extended, fills-no, fills-yes, counted-on, snAt, posAt, sn-next, partAt, frameAt, span, span-snoc, singleOf, firstOf, frame-length, frame-kind, frame-low, frame-data, grows, single-length, single-low, single-kind, single-data, single-fits, first-length, first-kind, first-data, first-announced, first-fits, frames-single, frames-long}
+use Rattle.laws.proofs.Frames.{extended, fills-no, fills-yes, counted-on, snAt, posAt, sn-next, partAt, frameAt, span, span-snoc, singleOf, firstOf, frame-length, frame-kind, frame-low, frame-data, grows, single-length, single-low, single-kind, single-data, single-fits, first-length, first-kind, first-data, first-announced, first-fits, frames-single, frames-long}
 
 -- the sender's side, the taker's side with its area, and the line between them
 pub record Line : Type 0 where

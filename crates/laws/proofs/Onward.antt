@@ -1,28 +1,26 @@
 -- In every phase but the last there is something to do that leads nearer: a frame to carry, one to hand over, or, while a gap is left, a
 -- tick; and the taker's timer never exceeds the longest gap if frames are carried at once.
 use mathlib.Core.Path.{_≡_, refl, sym, ap, _∙_}
-use Prim.Native.Nat.{ℕ, zero, suc, _+_, _-_, _*_, _≤_, _<_}
+use Prim.Native.Nat.{ℕ, zero, suc, _+_, _*_, _≤_, _<_}
 use native.Mathlib.Omega.{arith}
-use mathlib.Core.Bool.{Bool, true, false, not}
-use mathlib.Core.List.{List, [], _∷_, _++_, nil≢cons, head-eq-of-cons-eq, tail-eq-of-cons-eq}
-use lib.ListN.{length, take, drop}
-use lib.Seq.{sets}
+use mathlib.Core.Bool.{true, false}
+use mathlib.Core.List.{List, [], _∷_, _++_, nil≢cons, head-eq-of-cons-eq}
+use lib.ListN.{length}
 use lib.Dec.{T, eqb, ltb}
-use Rattle.rules.specs.Tests.{pick}
 use Rattle.rules.specs.Numbers.{timeout, longestGap, shortMost}
-use Rattle.rules.specs.Frames.{goFrame, counted, fillsBlock}
-use Rattle.rules.specs.Arrivals.{Came, granted, grown, frameCame}
+use Rattle.rules.specs.Frames.{fillsBlock}
+use Rattle.rules.specs.Arrivals.{frameCame}
 use Rattle.rules.specs.Ticks.{ran, rxTicked, rxCode, closer, txTicked, txCode}
-use Rattle.rules.specs.Turns.{flowDue, messageDue, afterFlow, afterMessage}
+use Rattle.rules.specs.Turns.{flowDue, messageDue, afterFlow}
 use Rattle.rules.specs.declared.Settings.{Settings}
 use Rattle.rules.specs.declared.Taking.{Taking}
 use Rattle.rules.specs.declared.Sending.{Sending}
 use Rattle.rules.specs.declared.Rx.{Rx}
 use Rattle.rules.specs.declared.Tx.{Tx}
-use Rattle.rules.proofs.Cases.{Tested, holds, fails, eqb-cases, ltb-is, is-true, pick-either}
+use Rattle.rules.proofs.Cases.{Tested, holds, fails, eqb-cases, ltb-is, pick-either}
 use Rattle.laws.specs.Line.{Handed, gapLeft}
-use Rattle.laws.proofs.Frames.{posAt, span, frameAt, singleOf, firstOf}
-use Rattle.laws.proofs.Line.{Line, SendAt, TakeAt, Ahead, pace, Phase, single-ready, single-sent, first-ready, first-sent, go-owed, go-sent, in-block, block-full, last-sent, arrived, under-way, all-sent, Nearer, handS, handR, tickS, tickR, tookR, tookS, receiving, sending, closer-at, gap-falls, went, granted-go, took-more, took-last, heard-single, heard-first}
+use Rattle.laws.proofs.Frames.{posAt, span, frameAt}
+use Rattle.laws.proofs.Line.{Line, TakeAt, pace, Phase, single-ready, single-sent, first-ready, first-sent, go-owed, go-sent, in-block, block-full, last-sent, arrived, under-way, all-sent, Nearer, handS, handR, tickS, tickR, tookR, tookS, receiving, sending, closer-at, gap-falls, went, granted-go, took-more, took-last, heard-single, heard-first}
 
 -- the timer of a side that awaits, and the gap left of one that sends
 unfoldable pub timer : Rx → ℕ

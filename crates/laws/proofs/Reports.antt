@@ -1,7 +1,7 @@
 -- The reports of berth k in an answer are those in what the answer says of k; so the reports of a run, too, are those of the berth's
 -- own events. And a show returns what the berth's own part holds.
 use mathlib.Core.Path.{_≡_, refl, sym, ap, ap₂, _∙_}
-use Prim.Native.Nat.{ℕ, zero, suc, _+_, _-_, _*_, _≤_, _<_}
+use Prim.Native.Nat.{ℕ, zero, suc, _+_, _*_, _<_}
 use native.Mathlib.Omega.{arith}
 use mathlib.Core.Bool.{Bool, true, false, _&&_}
 use mathlib.Core.List.{List, [], _∷_, _++_, append-assoc, append-nil}
@@ -16,7 +16,7 @@ use Rattle.rules.specs.Stores.{Held, rightStore, areaOf}
 use Rattle.rules.specs.Answers.{Answer, refused, ready, heard, codes, sent, handed, none, shown, Side, receive, send, Report, reported, failedSide, wordReports, codesReports, reports}
 use Rattle.rules.specs.Refusals.{Call}
 use Rattle.rules.specs.Calls.{answers, showable, shownLength, showing}
-use Rattle.rules.specs.Alone.{Part, partOf, Says, hears, expires, accepts, hands, saysAll}
+use Rattle.rules.specs.Alone.{partOf, accepts, saysAll}
 use Rattle.rules.specs.declared.Codes.{Codes}
 use Rattle.rules.specs.declared.Word.{Word}
 use Rattle.rules.specs.declared.Word.the-variants.{Delivered, Begun, Failed, Ignored, TooLong, Took, Going, Waiting}

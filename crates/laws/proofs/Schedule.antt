@@ -1,7 +1,7 @@
 -- The line's law is not empty. Each call for a frame hands over the frame wanted or leaves its side's wait shorter, by the round; so
 -- from every start a transfer can be led to its end, with ticks on both nodes only while a gap is left.
-use mathlib.Core.Path.{_≡_, refl, sym, ap, ap₂, _∙_, subst}
-use Prim.Native.Nat.{ℕ, zero, suc, _+_, _-_, _*_, _≤_, _<_}
+use mathlib.Core.Path.{_≡_, refl, sym, ap, _∙_, subst}
+use Prim.Native.Nat.{ℕ, zero, suc, _+_, _*_, _≤_, _<_}
 use native.Mathlib.Omega.{arith}
 use mathlib.Core.Bool.{Bool, true, false, not, _||_}
 use mathlib.Core.List.{List, [], _∷_, _++_}
@@ -10,31 +10,29 @@ use lib.ListN.{length}
 use lib.Dec.{T, eqb}
 use mir.Facts.{yes-eqb}
 use Rattle.rules.specs.Tests.{pick}
-use Rattle.rules.specs.Numbers.{berthCount, fromBerth, shortMost}
-use Rattle.rules.specs.Ranges.{berthAt, InOrder}
-use Rattle.rules.specs.Frames.{framesOf}
+use Rattle.rules.specs.Numbers.{berthCount, shortMost}
+use Rattle.rules.specs.Ranges.{berthAt}
 use Rattle.rules.specs.Ticks.{rxCode, txCode}
-use Rattle.rules.specs.Turns.{flowDue, messageDue, due, afterFlow, HandedOver, handOver, beginsWith}
+use Rattle.rules.specs.Turns.{flowDue, messageDue, due, afterFlow, handOver}
 use Rattle.rules.specs.Stores.{Held, rightStore, servedNode, distance, passedOver, reached}
 use Rattle.rules.specs.Answers.{Side, receive, send as sendSide}
-use Rattle.rules.specs.Refusals.{Call, frame, tick, send, turn, needs, refusal}
-use Rattle.rules.specs.Calls.{done, Outcome, outcome}
+use Rattle.rules.specs.Refusals.{Call, tick, turn, needs, refusal}
+use Rattle.rules.specs.Calls.{done, outcome}
 use Rattle.rules.specs.Alone.{Part, partOf, turns, partAfter, alone}
 use Rattle.rules.specs.declared.Settings.{Settings}
 use Rattle.rules.specs.declared.Rx.{Rx}
-use Rattle.rules.specs.declared.Tx.{Tx}
-use Rattle.rules.proofs.Cases.{Tested, holds, fails, test-cases, eqb-cases, eqb-not, ltb-is, is-true, is-false, or-cases}
+use Rattle.rules.proofs.Cases.{Tested, holds, fails, test-cases, eqb-cases, ltb-is, is-true}
 use Rattle.rules.proofs.Ranges.{range-in-order}
 use Rattle.rules.proofs.Round.{near}
 use Rattle.laws.specs.Own.{over, ownDone, own, Sound}
 use Rattle.laws.specs.Sides.{sameSide, sideOf, turnSide}
-use Rattle.laws.specs.Line.{Handed, World, callA, callB, carriedA, carriedB, Deed, atA, atB, carryA, carryB, acts, living, tickCode, spares, Spares, Apart, AllApart, AtRest, MayBegin, Arrived, begin, Act, turnA, turnB, bringA, bringB, tickBoth, blank, deedsOf, Finishes}
+use Rattle.laws.specs.Line.{Handed, World, callA, callB, carriedA, carriedB, Deed, atA, atB, carryA, carryB, acts, living, spares, Spares, Apart, AllApart, AtRest, MayBegin, Arrived, begin, Act, turnA, turnB, bringA, bringB, tickBoth, blank, deedsOf, Finishes}
 use Rattle.laws.proofs.Isolation.{settings-step, part-step}
 use Rattle.laws.proofs.SetUp.{sound-step}
 use Rattle.laws.proofs.Round.{some-reached, nearer}
-use Rattle.laws.proofs.Touch.{SparedBy, TickOf, TurnOf, own-is, held-is, own-k, turn-of-side, turn-of-other, other-berth, touch-tick, none-delivered, all-met}
-use Rattle.laws.proofs.Line.{Line, Phase, Nearer, handS, handR, tickS, tickR, tookR, tookS, hands-S, hands-R, there-whole, back-whole}
-use Rattle.laws.proofs.World.{lineOf, Alive, NearerWorld, alive-carriedA, alive-carriedB, spared-A, tick-A, turn-A, spared-B, tick-B, turn-B, took-A, took-B, outA, setB, expected, fit-a, small-b, begun-alive, line-law}
+use Rattle.laws.proofs.Touch.{SparedBy, TurnOf, own-is, held-is, own-k, turn-of-side, turn-of-other, other-berth, touch-tick, none-delivered, all-met}
+use Rattle.laws.proofs.Line.{Line, Phase, Nearer, tickS, tickR, hands-S, hands-R, there-whole, back-whole}
+use Rattle.laws.proofs.World.{lineOf, Alive, alive-carriedA, alive-carriedB, spared-A, tick-A, turn-A, spared-B, tick-B, turn-B, took-A, took-B, outA, setB, expected, fit-a, small-b, begun-alive, line-law}
 use Rattle.laws.proofs.Onward.{Young, young-start, young-handed, young-flow, young-there, young-back, Next, bring-there, bring-back, hand-message, hand-flow, wait, at-end, next}
 
 -- ---- a call for a frame is answered by a sound node

@@ -1,26 +1,25 @@
 -- Demand 3, first half, in its own words: a run after a set-up. The set-up leaves every berth fresh, and order and the stores'
 -- lengths are kept by every call.
-use mathlib.Core.Path.{_≡_, refl, sym, ap, ap₂, _∙_}
-use Prim.Native.Nat.{ℕ, zero, suc, _+_, _*_, _<_}
+use mathlib.Core.Path.{_≡_, refl, sym, ap, _∙_}
+use Prim.Native.Nat.{ℕ, zero, suc, _*_, _<_}
 use native.Mathlib.Omega.{arith}
-use mathlib.Core.Bool.{Bool, true, false}
 use mathlib.Core.List.{List, [], _∷_}
-use lib.ListN.{length, getD, getD-replicate}
-use lib.Seq.{sets, length-sets}
-use lib.Dec.{T, ltb}
-use Rattle.rules.specs.Tests.{pick, unless}
+use lib.ListN.{length, getD-replicate}
+use lib.Seq.{length-sets}
+use lib.Dec.{ltb}
+use Rattle.rules.specs.Tests.{unless}
 use Rattle.rules.specs.Numbers.{berthCount}
-use Rattle.rules.specs.Ranges.{fresh, berthAt, inOrder, InOrder}
+use Rattle.rules.specs.Ranges.{fresh, berthAt}
 use Rattle.rules.specs.Stores.{Held, areaOf, stored, setUpNode, passedOver}
-use Rattle.rules.specs.Answers.{Answer, Report, reports}
+use Rattle.rules.specs.Answers.{Answer}
 use Rattle.rules.specs.Refusals.{Call, frame, tick, send, turn, show, refusal, setUpRefusal}
-use Rattle.rules.specs.Calls.{afterFrame, done, reply, written, bufferOf, Outcome, refusedOutcome, outcome, setUpOutcome, answers, final, showing}
-use Rattle.rules.specs.Alone.{Part, partOf, Event, Says, alone, saysAll}
+use Rattle.rules.specs.Calls.{afterFrame, done, reply, written, bufferOf, refusedOutcome, outcome, setUpOutcome, final}
+use Rattle.rules.specs.Alone.{Part, partOf}
 use Rattle.rules.specs.declared.Settings.{Settings}
 use Rattle.rules.proofs.Cases.{pick-either}
 use Rattle.rules.proofs.Ranges.{range-in-order}
-use Rattle.rules.proofs.Order.{order-kept, run-in-order, set-up-in-order}
-use Rattle.laws.specs.Own.{over, owns, heardOf, ofBerth, saidReports, partShown, Sound, setUp, freshPart, Alone}
+use Rattle.rules.proofs.Order.{order-kept, set-up-in-order}
+use Rattle.laws.specs.Own.{partShown, Sound, setUp, freshPart, Alone}
 use Rattle.laws.proofs.Isolation.{settings-step, berth-alone, berth-says}
 use Rattle.laws.proofs.Reports.{berth-reports, berth-shown}
 

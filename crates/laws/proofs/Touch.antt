@@ -1,27 +1,26 @@
 -- What one call does to one side of a berth, as the answers tell it: it spares the side, or it is a tick or a turn of that side alone,
 -- or a frame for it.
 use mathlib.Core.Path.{_≡_, refl, sym, ap, ap₂, _∙_}
-use Prim.Native.Nat.{ℕ, zero, suc, _+_, _-_, _*_, _/_, _%_, _≤_, _<_, min}
+use Prim.Native.Nat.{ℕ, zero, suc, _+_, _≤_, _<_}
 use native.Mathlib.Omega.{arith}
 use mathlib.Core.Bool.{Bool, true, false, not, _&&_, _||_}
-use mathlib.Core.List.{List, [], _∷_, _++_, map, append-nil}
-use mathlib.Core.Logic.{_⊎_, inl, inr, ⊎-elim}
-use lib.ListN.{length, getD, take, drop, length-take}
+use mathlib.Core.List.{List, [], _∷_, _++_, append-nil}
+use mathlib.Core.Logic.{_⊎_, inl, inr}
+use lib.ListN.{length, length-take}
 use lib.Seq.{sets}
 use lib.Dec.{T, eqb, ltb, leb, le→leb, lt→ltb}
-use mir.Facts.{eqb-yes, yes-eqb, yes-ltb, yes-leb, yes-and}
-use Rattle.rules.specs.Tests.{pick, unless, Need, need, firstUnmet}
-use Rattle.rules.specs.Numbers.{berthCount, fromBerth, toBerth, frameLength, singleKind, firstKind, consecutiveKind, flowKind, goStatus, waitStatus, overflowStatus, consecutiveMost, shortMost}
-use Rattle.rules.specs.Ranges.{fresh, berthAt, inOrder, InOrder, BerthRange, TxRange}
-use Rattle.rules.specs.Frames.{byteAt, kind, low, padded, singleFits, announced, firstFits, consecutiveFits, flowFits, singleFrame, firstFrame, consecutiveFrame, goFrame, overflowFrame}
-use Rattle.rules.specs.Arrivals.{Heard, Told, Came, ignored, singleCame, firstCame, aboveArea, turnedAway, begun, missing, completed, took, wrongSn, awaitedCame, consecutiveCame, byStatus, flowIgnored, flowCame, heardBy, toldBy, byKind, frameCame}
-use Rattle.rules.specs.Ticks.{rxCode, txCode}
-use Rattle.rules.specs.Turns.{flowDue, messageDue, due, flowFrame, messageFrame, HandedOver, handOver}
+use mir.Facts.{eqb-yes, yes-eqb, yes-leb, yes-and}
+use Rattle.rules.specs.Tests.{pick, Need, firstUnmet}
+use Rattle.rules.specs.Numbers.{berthCount, fromBerth, toBerth, frameLength, flowKind, goStatus, waitStatus, overflowStatus, consecutiveMost, shortMost}
+use Rattle.rules.specs.Ranges.{berthAt, BerthRange, TxRange}
+use Rattle.rules.specs.Frames.{kind, low, padded, singleFits, announced, firstFits, consecutiveFits, flowFits, singleFrame, firstFrame, consecutiveFrame, goFrame, overflowFrame}
+use Rattle.rules.specs.Arrivals.{Heard, Told, Came, ignored, singleCame, firstCame, aboveArea, turnedAway, begun, missing, completed, took, wrongSn, awaitedCame, consecutiveCame, byStatus, flowIgnored, flowCame, heardBy, toldBy, frameCame}
+use Rattle.rules.specs.Turns.{flowDue, messageDue, due, flowFrame, messageFrame, handOver}
 use Rattle.rules.specs.Stores.{Held, rightStore, inside, passedOver, reached, cameAt, handedAt}
-use Rattle.rules.specs.Answers.{Answer, Side, receive, send as sendSide, Report, reported, wordReports, reports}
+use Rattle.rules.specs.Answers.{Side, receive, send as sendSide, Report, reported, wordReports}
 use Rattle.rules.specs.Refusals.{Call, frame, tick, send, turn, show, senderOf, needs, refusal}
-use Rattle.rules.specs.Calls.{done, reply, written, bufferOf, Outcome, refusedOutcome, outcome}
-use Rattle.rules.specs.Alone.{Part, partOf, Event, arrives, ticks, sends, turns, Says, hears, expires, accepts, hands, partAfter, says, alone, saysAll}
+use Rattle.rules.specs.Calls.{done, reply, refusedOutcome, outcome}
+use Rattle.rules.specs.Alone.{Part, partOf, Event, arrives, ticks, sends, turns, hears, partAfter, says, alone, saysAll}
 use Rattle.rules.specs.declared.Settings.{Settings}
 use Rattle.rules.specs.declared.Rx.{Rx}
 use Rattle.rules.specs.declared.Tx.{Tx}
@@ -29,12 +28,11 @@ use Rattle.rules.specs.declared.Berth.{Berth}
 use Rattle.rules.specs.declared.Word.{Word}
 use Rattle.rules.specs.declared.Word.the-variants.{Delivered, Begun, Failed, Ignored, TooLong, Took, Going, Waiting}
 use Rattle.rules.proofs.Cases.{Tested, holds, fails, test-cases, eqb-cases, ltb-cases, eqb-is, eqb-not, ltb-is, is-true, is-false, or-cases, pick-either}
-use Rattle.rules.proofs.Ranges.{in-order-range, range-in-order}
-use Rattle.rules.proofs.Answered.{frame-answered}
+use Rattle.rules.proofs.Ranges.{range-in-order}
 use Rattle.rules.proofs.Order.{frame-inside}
 use Rattle.rules.proofs.Round.{reached-due}
 use Rattle.rules.proofs.Facts.{frame-either, ignored-leaves}
-use Rattle.laws.specs.Own.{over, ownDone, own, takerOf, heardOf, ofBerth, saidReports, Sound}
+use Rattle.laws.specs.Own.{over, ownDone, own, takerOf, heardOf, saidReports, Sound}
 use Rattle.laws.specs.Sides.{sameSide, sideOf, frameSide, turnSide, forSide, sideEvents, ofSide, handedIn, handedSide, framesBy}
 use Rattle.laws.specs.Line.{reportsBy, deliveredIn, isIgnored, tickCode, spares, Spares}
 use Rattle.laws.proofs.Isolation.{part-step, says-step}

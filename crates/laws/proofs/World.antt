@@ -1,41 +1,40 @@
 -- THE LINE'S LAW over two nodes. Every deed that keeps apart is, for the two sides and the line between them, nothing, a tick, a
 -- hand-over or a frame that comes in; so a transfer goes from phase to phase, and at rest only the last is left.
-use mathlib.Core.Path.{_≡_, refl, sym, ap, ap₂, _∙_, subst}
-use Prim.Native.Nat.{ℕ, zero, suc, _+_, _-_, _*_, _≤_, _<_}
+use mathlib.Core.Path.{_≡_, refl, sym, ap, _∙_, subst}
+use Prim.Native.Nat.{ℕ, suc, _+_, _-_, _*_, _≤_, _<_}
 use native.Mathlib.Omega.{arith}
 use native.Mathlib.Nat.{mul-le-mul-right, zero-add}
-use mathlib.Core.Bool.{Bool, true, false, not, _||_}
+use mathlib.Core.Bool.{true, false, not}
 use mathlib.Core.List.{List, [], _∷_, _++_, map, append-nil}
-use mathlib.Core.Logic.{_⊎_, inl, inr, ⊎-elim}
-use lib.ListN.{length, take, drop, replicate, length-take, length-drop}
-use lib.Seq.{sets, length-sets, take-length}
-use lib.Dec.{T, eqb}
+use mathlib.Core.Logic.{⊎-elim}
+use lib.ListN.{length, take, replicate, length-take, length-drop}
+use lib.Seq.{sets, length-sets}
+use lib.Dec.{T}
 use mir.Facts.{yes-eqb, yes-leb, yes-ltb}
-use Rattle.rules.specs.Tests.{pick}
-use Rattle.rules.specs.Numbers.{berthCount, fromBerth, frameLength, flowKind, shortMost, N-OK}
-use Rattle.rules.specs.Ranges.{berthAt, inOrder, InOrder}
+use Rattle.rules.specs.Numbers.{berthCount, fromBerth, frameLength, flowKind, shortMost}
+use Rattle.rules.specs.Ranges.{berthAt, inOrder}
 use Rattle.rules.specs.Frames.{kind, goFrame, framesOf}
-use Rattle.rules.specs.Arrivals.{Came, frameCame}
+use Rattle.rules.specs.Arrivals.{frameCame}
 use Rattle.rules.specs.Ticks.{rxTicked, rxCode, txTicked, txCode, ticked}
-use Rattle.rules.specs.Turns.{flowDue, messageDue, due, flowFrame, afterFlow, messageFrame, messageCode, afterMessage, HandedOver, handOver, beginsWith, sent as sentBerth, busy}
+use Rattle.rules.specs.Turns.{flowDue, messageDue, due, flowFrame, afterFlow, messageFrame, messageCode, afterMessage, handOver, beginsWith, sent as sentBerth, busy}
 use Rattle.rules.specs.Stores.{Held, rightStore, areaOf}
-use Rattle.rules.specs.Answers.{Answer, Side, receive, send as sendSide, Report, reported, wordReports}
-use Rattle.rules.specs.Refusals.{Call, frame, tick, send, turn, show, needs, refusal}
-use Rattle.rules.specs.Calls.{Outcome, outcome}
-use Rattle.rules.specs.Alone.{Part, partOf, Event, arrives, ticks, sends, turns, Says, hears, expires, hands, partAfter, says, alone}
+use Rattle.rules.specs.Answers.{receive, send as sendSide, Report, reported, wordReports}
+use Rattle.rules.specs.Refusals.{Call, frame, send, needs, refusal}
+use Rattle.rules.specs.Calls.{outcome}
+use Rattle.rules.specs.Alone.{Part, partOf, arrives, ticks, sends, turns, hears, partAfter, says, alone}
 use Rattle.rules.specs.declared.Settings.{Settings}
 use Rattle.rules.specs.declared.Rx.{Rx}
 use Rattle.rules.specs.declared.Tx.{Tx}
 use Rattle.rules.specs.declared.Berth.{Berth}
-use Rattle.rules.proofs.Cases.{is-true, is-false, eqb-is, eqb-not, or-cases}
+use Rattle.rules.proofs.Cases.{is-true, eqb-is, eqb-not, or-cases}
 use Rattle.rules.proofs.Ranges.{range-in-order}
 use Rattle.laws.specs.Own.{over, ownDone, own, heardOf, saidReports, partShown, Sound}
 use Rattle.laws.specs.Sides.{sideOf, frameSide, handedIn, framesBy}
-use Rattle.laws.specs.Line.{Handed, there, back, World, reportsBy, deliveredIn, callA, callB, carriedA, carriedB, Deed, atA, atB, carryA, carryB, acts, living, tickCode, Spares, Apart, AllApart, gapLeft, AtRest, exchanged, thereOf, backOf, blocks, begin, MayBegin, Arrived}
+use Rattle.laws.specs.Line.{Handed, there, back, World, reportsBy, deliveredIn, callA, callB, carriedA, carriedB, Deed, atA, atB, carryA, carryB, acts, living, tickCode, Spares, Apart, AllApart, AtRest, exchanged, thereOf, backOf, blocks, begin, MayBegin, Arrived}
 use Rattle.laws.proofs.Isolation.{settings-step, part-step}
 use Rattle.laws.proofs.Reports.{berth-shown}
 use Rattle.laws.proofs.SetUp.{sound-step}
-use Rattle.laws.proofs.Touch.{SparedBy, TickOf, TurnOf, TouchedBy, spared, clocked, turned, touch, Carried, carry, delivered-carried, none-delivered, own-is, all-met}
+use Rattle.laws.proofs.Touch.{SparedBy, TickOf, TurnOf, TouchedBy, spared, clocked, turned, touch, carry, delivered-carried, none-delivered, own-is, all-met}
 use Rattle.laws.proofs.Frames.{extended}
 use Rattle.laws.proofs.Exchanged.{there-exchanged, back-exchanged}
 use Rattle.laws.proofs.Line.{Line, Phase, under-way, handS, handR, tickS, tickR, tookR, tookS, receiving, sending, ticks-S, ticks-R, hands-S, hands-R, carries-S, carries-R, there-whole, back-whole, starts, Landed, at-rest}

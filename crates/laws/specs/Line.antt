@@ -10,13 +10,12 @@ use Rattle.rules.specs.Tests.{pick}
 use Rattle.rules.specs.Numbers.{berthCount, fromBerth, frameLength, N-OK}
 use Rattle.rules.specs.Ranges.{berthAt}
 use Rattle.rules.specs.Frames.{counted, fillsBlock, goFrame, roundedUp, framesOf}
-use Rattle.rules.specs.Arrivals.{Came}
 use Rattle.rules.specs.Ticks.{rxCode, txCode}
 use Rattle.rules.specs.Turns.{flowDue, messageDue}
 use Rattle.rules.specs.Stores.{Held, areaOf, cameAt}
 use Rattle.rules.specs.Answers.{Answer, Side, receive, send as sendSide, Report, reported, reports}
 use Rattle.rules.specs.Refusals.{Call, frame, tick, send, turn, show, senderOf, refusal}
-use Rattle.rules.specs.Calls.{Outcome, outcome, showing}
+use Rattle.rules.specs.Calls.{outcome, showing}
 use Rattle.rules.specs.Alone.{Says, hears, expires, accepts, hands}
 use Rattle.rules.specs.declared.Settings.{Settings}
 use Rattle.rules.specs.declared.Rx.{Rx}

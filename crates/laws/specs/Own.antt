@@ -1,7 +1,7 @@
 -- Demand 3: which events of the node's run are berth k's own, and what the answers say of that berth.
 use Prim.Native.Nat.{ℕ, _-_, _*_}
 use mathlib.Core.Path.{_≡_}
-use mathlib.Core.Bool.{Bool, true, false, _&&_}
+use mathlib.Core.Bool.{Bool, _&&_}
 use mathlib.Core.List.{List, [], _∷_, _++_}
 use lib.ListN.{length, getD, take}
 use lib.Dec.{ltb, eqb}
@@ -10,9 +10,9 @@ use Rattle.rules.specs.Numbers.{berthCount, toBerth}
 use Rattle.rules.specs.Turns.{lengthSending}
 use Rattle.rules.specs.Ranges.{fresh, InOrder}
 use Rattle.rules.specs.Stores.{Held, areaOf, passedOver, reached}
-use Rattle.rules.specs.Answers.{Answer, refused, ready, heard, codes, sent, handed, none, shown, Side, receive, send as sendSide, Report, reported, wordReports, reports}
+use Rattle.rules.specs.Answers.{Answer, refused, ready, heard, codes, sent, handed, none, shown, receive, send as sendSide, Report, reported, wordReports, reports}
 use Rattle.rules.specs.Refusals.{Call, frame, tick, send, turn, show, senderOf, refusal}
-use Rattle.rules.specs.Calls.{Outcome, outcome, setUpOutcome, answers, final, showing}
+use Rattle.rules.specs.Calls.{outcome, setUpOutcome, answers, final, showing}
 use Rattle.rules.specs.Alone.{partOf, alone, saysAll, Part, Event, arrives, ticks, sends, turns, Says, hears, expires, accepts, hands}
 use Rattle.rules.specs.declared.Settings.{Settings}
 use Rattle.rules.specs.declared.Codes.{Codes}

@@ -1,7 +1,7 @@
 -- Demand 3, second half: which berths had turns in a run, and what it is that a berth stays due.
 use Prim.Native.Nat.{ℕ, _≤_}
 use mathlib.Core.Path.{_≡_}
-use mathlib.Core.Bool.{Bool, true, false}
+use mathlib.Core.Bool.{Bool, false}
 use mathlib.Core.List.{List, [], _∷_, List·Memᴰ}
 use lib.ListN.{length, getD}
 use lib.Dec.{T, eqb}
@@ -11,7 +11,7 @@ use Rattle.rules.specs.Turns.{due}
 use Rattle.rules.specs.Stores.{Held}
 use Rattle.rules.specs.Answers.{Answer, refused, ready, heard, codes, sent, handed, none, shown}
 use Rattle.rules.specs.Refusals.{Call, frame, tick, send, turn, show, refusal}
-use Rattle.rules.specs.Calls.{Outcome, outcome}
+use Rattle.rules.specs.Calls.{outcome}
 use Rattle.laws.specs.Own.{takerOf}
 
 -- the answers to calls for a frame, in order: the berth served, or that there was none
