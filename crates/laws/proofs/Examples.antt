@@ -23,7 +23,7 @@ use Rattle.rules.specs.declared.Berth.{Berth}
 use Rattle.rules.specs.declared.Codes.{Codes}
 use Rattle.rules.specs.declared.Word.the-variants.{Delivered, Ignored}
 use Rattle.rules.proofs.Ranges.{in-order-range}
-use Rattle.laws.specs.Own.{over, ownDone, own, owns, heardOf, ofBerth, Sound, Alone}
+use Rattle.laws.specs.Own.{over, only, ownDone, own, owns, heardOf, ofBerth, Sound, Alone}
 use Rattle.laws.specs.Rounds.{served, turnOf, StaysDue, Fair}
 use Rattle.laws.specs.Sides.{frameSide, ofSide, handedSide, framesBy}
 use Rattle.laws.specs.Line.{there, back, deliveredIn, callA, callB, carriedA, carriedB, Deed, atA, atB, carryA, carryB, acts, living, spares, AllApart, gapLeft, AtRest, begin, MayBegin, Arrived, blank}
@@ -146,12 +146,12 @@ may-begin =
     }
 
 deeds-apart : AllApart 2 7 (begin 2 programme scheduler mast) deeds
-unfolding AllApart spares frameSide living acts callA callB carriedA carriedB framesBy handedSide ofSide ofBerth reports reported wordReports codesReports failedSide heardOf deliveredIn over answers final done reply written outcome refusedOutcome refusal needs firstUnmet rightStore inside berthAt busy inOrder all each settingsAllowed stminAllowed berthInOrder rxInRange txInRange takingInRange sendingInRange inBlock afterFrame cameAt frameCame byKind kind low heardBy toldBy ignored singleCame singleFits oldCode withBerth stored tickedNode ticked rxTicked txTicked ran rxCode txCode codesOf sentBerth beginsWith passedOver leastDistance distance due flowDue messageDue reached servedNode handedAt handOver areaOf afterFlow flowFrame afterMessage messageFrame messageCode singleFrame padded showing showable shownLength setUpNode firstCame shortLength escapeLength announced firstFits begun taking consecutiveCame awaitedCame consecutiveFits missing piece grown completed afterTook took wrongSn counted fillsBlock nextSn share flowCame flowFits byStatus granted gapOf newBlock goFrame firstFrame consecutiveFrame toGo opened moved afterConsecutive closer
+unfolding AllApart spares frameSide living acts callA callB carriedA carriedB framesBy handedSide ofSide ofBerth only reports reported wordReports codesReports failedSide heardOf deliveredIn over answers final done reply written outcome refusedOutcome refusal needs firstUnmet rightStore inside berthAt busy inOrder all each settingsAllowed stminAllowed berthInOrder rxInRange txInRange takingInRange sendingInRange inBlock afterFrame cameAt frameCame byKind kind low heardBy toldBy ignored singleCame singleFits oldCode withBerth stored tickedNode ticked rxTicked txTicked ran rxCode txCode codesOf sentBerth beginsWith passedOver leastDistance distance due flowDue messageDue reached servedNode handedAt handOver areaOf afterFlow flowFrame afterMessage messageFrame messageCode singleFrame padded showing showable shownLength setUpNode firstCame shortLength escapeLength announced firstFits begun taking consecutiveCame awaitedCame consecutiveFits missing piece grown completed afterTook took wrongSn counted fillsBlock nextSn share flowCame flowFits byStatus granted gapOf newBlock goFrame firstFrame consecutiveFrame toGo opened moved afterConsecutive closer
 deeds-apart =
     ((λ e. tt), ((λ e. tt), (tt, ((λ e. tt), ((λ e. tt), ((λ e. tt), ((λ e. tt), (tt, ((λ e. tt), ((λ e. tt), (tt, ((λ e. tt), ((λ e. tt), ((λ e. tt), ((λ e. tt), ((λ e. tt), (tt, ((λ e. tt), (tt, ((λ e. tt), (tt, ((λ e. tt), ((λ e. tt), ((λ e. tt), ((λ e. tt), ((λ e. tt), (tt, ((λ e. tt), (tt, ((λ e. tt), (tt, tt)))))))))))))))))))))))))))))))
 
 deeds-rest : AtRest 2 7 (living 2 7 (begin 2 programme scheduler mast) deeds)
-unfolding gapLeft living acts callA callB carriedA carriedB framesBy handedSide ofSide ofBerth reports reported wordReports codesReports failedSide heardOf deliveredIn over answers final done reply written outcome refusedOutcome refusal needs firstUnmet rightStore inside berthAt busy inOrder all each settingsAllowed stminAllowed berthInOrder rxInRange txInRange takingInRange sendingInRange inBlock afterFrame cameAt frameCame byKind kind low heardBy toldBy ignored singleCame singleFits oldCode withBerth stored tickedNode ticked rxTicked txTicked ran rxCode txCode codesOf sentBerth beginsWith passedOver leastDistance distance due flowDue messageDue reached servedNode handedAt handOver areaOf afterFlow flowFrame afterMessage messageFrame messageCode singleFrame padded showing showable shownLength setUpNode firstCame shortLength escapeLength announced firstFits begun taking consecutiveCame awaitedCame consecutiveFits missing piece grown completed afterTook took wrongSn counted fillsBlock nextSn share flowCame flowFits byStatus granted gapOf newBlock goFrame firstFrame consecutiveFrame toGo opened moved afterConsecutive closer
+unfolding gapLeft living acts callA callB carriedA carriedB framesBy handedSide ofSide ofBerth only reports reported wordReports codesReports failedSide heardOf deliveredIn over answers final done reply written outcome refusedOutcome refusal needs firstUnmet rightStore inside berthAt busy inOrder all each settingsAllowed stminAllowed berthInOrder rxInRange txInRange takingInRange sendingInRange inBlock afterFrame cameAt frameCame byKind kind low heardBy toldBy ignored singleCame singleFits oldCode withBerth stored tickedNode ticked rxTicked txTicked ran rxCode txCode codesOf sentBerth beginsWith passedOver leastDistance distance due flowDue messageDue reached servedNode handedAt handOver areaOf afterFlow flowFrame afterMessage messageFrame messageCode singleFrame padded showing showable shownLength setUpNode firstCame shortLength escapeLength announced firstFits begun taking consecutiveCame awaitedCame consecutiveFits missing piece grown completed afterTook took wrongSn counted fillsBlock nextSn share flowCame flowFits byStatus granted gapOf newBlock goFrame firstFrame consecutiveFrame toGo opened moved afterConsecutive closer
 deeds-rest = record { none-there = refl; none-back = refl; none-due = refl; no-gap = refl; no-flow = refl }
 
 deeds-log : living 2 7 (begin 2 programme scheduler mast) deeds .log
@@ -165,7 +165,7 @@ deeds-log : living 2 7 (begin 2 programme scheduler mast) deeds .log
     ∷ back (0x30 ∷ 2 ∷ 2 ∷ 0xCC ∷ 0xCC ∷ 0xCC ∷ 0xCC ∷ 0xCC ∷ [])
     ∷ there (0x25 ∷ 35 ∷ 36 ∷ 0xCC ∷ 0xCC ∷ 0xCC ∷ 0xCC ∷ 0xCC ∷ [])
     ∷ []
-unfolding living acts callA callB carriedA carriedB framesBy handedSide ofSide ofBerth reports reported wordReports codesReports failedSide heardOf deliveredIn over answers final done reply written outcome refusedOutcome refusal needs firstUnmet rightStore inside berthAt busy inOrder all each settingsAllowed stminAllowed berthInOrder rxInRange txInRange takingInRange sendingInRange inBlock afterFrame cameAt frameCame byKind kind low heardBy toldBy ignored singleCame singleFits oldCode withBerth stored tickedNode ticked rxTicked txTicked ran rxCode txCode codesOf sentBerth beginsWith passedOver leastDistance distance due flowDue messageDue reached servedNode handedAt handOver areaOf afterFlow flowFrame afterMessage messageFrame messageCode singleFrame padded showing showable shownLength setUpNode firstCame shortLength escapeLength announced firstFits begun taking consecutiveCame awaitedCame consecutiveFits missing piece grown completed afterTook took wrongSn counted fillsBlock nextSn share flowCame flowFits byStatus granted gapOf newBlock goFrame firstFrame consecutiveFrame toGo opened moved afterConsecutive closer
+unfolding living acts callA callB carriedA carriedB framesBy handedSide ofSide ofBerth only reports reported wordReports codesReports failedSide heardOf deliveredIn over answers final done reply written outcome refusedOutcome refusal needs firstUnmet rightStore inside berthAt busy inOrder all each settingsAllowed stminAllowed berthInOrder rxInRange txInRange takingInRange sendingInRange inBlock afterFrame cameAt frameCame byKind kind low heardBy toldBy ignored singleCame singleFits oldCode withBerth stored tickedNode ticked rxTicked txTicked ran rxCode txCode codesOf sentBerth beginsWith passedOver leastDistance distance due flowDue messageDue reached servedNode handedAt handOver areaOf afterFlow flowFrame afterMessage messageFrame messageCode singleFrame padded showing showable shownLength setUpNode firstCame shortLength escapeLength announced firstFits begun taking consecutiveCame awaitedCame consecutiveFits missing piece grown completed afterTook took wrongSn counted fillsBlock nextSn share flowCame flowFits byStatus granted gapOf newBlock goFrame firstFrame consecutiveFrame toGo opened moved afterConsecutive closer
 deeds-log = refl
 
 pub programme-arrived : Arrived 2 7 programme (living 2 7 (begin 2 programme scheduler mast) deeds)

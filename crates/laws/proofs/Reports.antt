@@ -16,12 +16,12 @@ use Rattle.rules.specs.Stores.{Held, rightStore, areaOf}
 use Rattle.rules.specs.Answers.{Answer, refused, ready, heard, codes, sent, handed, none, shown, Side, receive, send, Report, reported, failedSide, wordReports, codesReports, reports}
 use Rattle.rules.specs.Refusals.{Call}
 use Rattle.rules.specs.Calls.{answers, showable, shownLength, showing}
-use Rattle.rules.specs.Alone.{partOf, accepts, saysAll}
+use Rattle.rules.specs.Alone.{Says, partOf, accepts, saysAll}
 use Rattle.rules.specs.declared.Codes.{Codes}
 use Rattle.rules.specs.declared.Word.{Word}
 use Rattle.rules.specs.declared.Word.the-variants.{Delivered, Begun, Failed, Ignored, TooLong, Took, Going, Waiting}
-use Rattle.rules.proofs.Cases.{Tested, holds, fails, eqb-cases, eqb-is, eqb-not, is-true}
-use Rattle.laws.specs.Own.{over, owns, takerOf, noCodes, heardOf, ofBerth, saidReports, partShown}
+use Rattle.rules.proofs.Cases.{Tested, holds, fails, eqb-cases, eqb-is, eqb-not, is-true, pick-either}
+use Rattle.laws.specs.Own.{over, only, owns, takerOf, noCodes, heardOf, ofBerth, saidReports, partShown}
 use Rattle.laws.proofs.Isolation.{berth-says}
 
 -- ---- lists of reports
@@ -31,100 +31,89 @@ unfolding over
 over-append f [] ys = refl
 over-append f (x ∷ xs) ys = ap (λ r. f x ++ r) (over-append f xs ys) ∙ sym (append-assoc (f x) (over f xs) (over f ys))
 
-of-append : (k : ℕ) (rs ss : List Report) → ofBerth k (rs ++ ss) ≡ ofBerth k rs ++ ofBerth k ss
-unfolding ofBerth
-of-append k [] ss = refl
-of-append k (r ∷ rs) ss = go (eqb (r .berth) k) (of-append k rs ss)
+pub only-append : (f : Report → Bool) (rs ss : List Report) → only f (rs ++ ss) ≡ only f rs ++ only f ss
+unfolding only
+only-append f [] ss = refl
+only-append f (r ∷ rs) ss = go (f r) (only-append f rs ss)
   where
-    go : (b : Bool) → ofBerth k (rs ++ ss) ≡ ofBerth k rs ++ ofBerth k ss
-        → pick b (r ∷ ofBerth k (rs ++ ss)) (ofBerth k (rs ++ ss)) ≡ pick b (r ∷ ofBerth k rs) (ofBerth k rs) ++ ofBerth k ss
+    go : (b : Bool) → only f (rs ++ ss) ≡ only f rs ++ only f ss
+        → pick b (r ∷ only f (rs ++ ss)) (only f (rs ++ ss)) ≡ pick b (r ∷ only f rs) (only f rs) ++ only f ss
     go true e = ap (λ q. r ∷ q) e
     go false e = e
 
+of-append : (k : ℕ) (rs ss : List Report) → ofBerth k (rs ++ ss) ≡ ofBerth k rs ++ ofBerth k ss
+unfolding ofBerth
+of-append k rs ss = only-append (λ r. eqb (r .berth) k) rs ss
+
+-- the reports of berth j are all k's or none
 module _ (k j : ℕ) where
-  mine : (side : Side) (c : ℕ) → eqb j k ≡ true → ofBerth k (reported j side c) ≡ reported j side c
-  unfolding ofBerth reported
-  mine side zero e = refl
-  mine side (suc c) e = rw e
+  none-either : (b : Bool) → _≡_ {A = List Report} [] (pick b [] [])
+  none-either true = refl
+  none-either false = refl
 
-  others : (side : Side) (c : ℕ) → eqb j k ≡ false → ofBerth k (reported j side c) ≡ []
-  unfolding ofBerth reported
-  others side zero e = refl
-  others side (suc c) e = rw e
+  reported-of : (side : Side) (c : ℕ) → ofBerth k (reported j side c) ≡ pick (eqb j k) (reported j side c) []
+  unfolding ofBerth only reported
+  reported-of side zero = none-either (eqb j k)
+  reported-of side (suc c) = refl
 
-  word-mine : (w : Word) → eqb j k ≡ true → ofBerth k (wordReports j w) ≡ wordReports j w
-  unfolding wordReports
-  word-mine (Delivered n) e = mine receive N-OK e
-  word-mine (Begun n) e = unfold ofBerth in refl
-  word-mine (Failed c) e = mine (failedSide c) c e
-  word-mine (Ignored i) e = unfold ofBerth in refl
-  word-mine TooLong e = unfold ofBerth in refl
-  word-mine Took e = unfold ofBerth in refl
-  word-mine Going e = unfold ofBerth in refl
-  word-mine Waiting e = unfold ofBerth in refl
-
-  word-others : (w : Word) → eqb j k ≡ false → ofBerth k (wordReports j w) ≡ []
-  unfolding wordReports
-  word-others (Delivered n) e = others receive N-OK e
-  word-others (Begun n) e = unfold ofBerth in refl
-  word-others (Failed c) e = others (failedSide c) c e
-  word-others (Ignored i) e = unfold ofBerth in refl
-  word-others TooLong e = unfold ofBerth in refl
-  word-others Took e = unfold ofBerth in refl
-  word-others Going e = unfold ofBerth in refl
-  word-others Waiting e = unfold ofBerth in refl
+  word-of : (w : Word) → ofBerth k (wordReports j w) ≡ pick (eqb j k) (wordReports j w) []
+  unfolding wordReports ofBerth only
+  word-of (Delivered n) = reported-of receive N-OK
+  word-of (Begun n) = none-either (eqb j k)
+  word-of (Failed c) = reported-of (failedSide c) c
+  word-of (Ignored i) = none-either (eqb j k)
+  word-of TooLong = none-either (eqb j k)
+  word-of Took = none-either (eqb j k)
+  word-of Going = none-either (eqb j k)
+  word-of Waiting = none-either (eqb j k)
 
 -- ---- a tick's codes: those of berth k stand at place k
 
 module _ (k : ℕ) where
   codes-past : (cs : List Codes) (i : ℕ) → k < i → ofBerth k (codesReports i cs) ≡ []
   unfolding codesReports
-  codes-past [] i h = unfold ofBerth in refl
+  codes-past [] i h = unfold ofBerth only in refl
   codes-past (c ∷ cs) i h =
       let e : eqb i k ≡ false = eqb-not i k (λ q. omega arith) in
-      rw (of-append, others k i receive (c .receive) e, of-append, others k i send (c .send) e) (codes-past cs (suc i) (omega arith))
+      rw (of-append, reported-of k i receive (c .receive), of-append, reported-of k i send (c .send), e) (codes-past cs (suc i) (omega arith))
 
   codes-at : (cs : List Codes) (n i : ℕ) → k ≡ i + n
       → ofBerth k (codesReports i cs) ≡ reported k receive (getD cs n noCodes .receive) ++ reported k send (getD cs n noCodes .send)
   unfolding codesReports
-  codes-at [] n i e = unfold ofBerth reported in refl
+  codes-at [] n i e = unfold ofBerth only reported in refl
   codes-at (c ∷ cs) zero i e =
       let q : i ≡ k = omega arith in
       let t : eqb i k ≡ true = eqb-is i k q in
-      rw (of-append, mine k i receive (c .receive) t, of-append, mine k i send (c .send) t, codes-past cs (suc i) (omega arith), append-nil, q)
+      rw (of-append, reported-of k i receive (c .receive), of-append, reported-of k i send (c .send), t, codes-past cs (suc i) (omega arith), append-nil, q)
   codes-at (c ∷ cs) (suc n) i e =
       let t : eqb i k ≡ false = eqb-not i k (λ q. omega arith) in
-      rw (of-append, others k i receive (c .receive) t, of-append, others k i send (c .send) t) (codes-at cs n (suc i) (omega arith))
+      rw (of-append, reported-of k i receive (c .receive), of-append, reported-of k i send (c .send), t) (codes-at cs n (suc i) (omega arith))
 
   -- ---- one answer
 
   pub reports-of : (a : Answer) → ofBerth k (reports a) ≡ over (saidReports k) (heardOf k a)
-  unfolding reports heardOf over saidReports ofBerth
+  unfolding reports heardOf over saidReports ofBerth only
   reports-of (refused n) = refl
   reports-of ready = refl
   reports-of (heard j old w) = go (eqb-cases j k)
     where
       go : Tested (eqb j k) (j ≡ k) (j ≡ k → ⊥) → ofBerth k (reports (heard j old w)) ≡ over (saidReports k) (heardOf k (heard j old w))
-      go (holds t e) = rw (of-append, mine k j receive old t, word-mine k j w t, t, append-nil, e)
-      go (fails t e) = rw (of-append, others k j receive old t, word-others k j w t, t)
+      go (holds t e) = rw (of-append, reported-of k j receive old, word-of k j w, t, append-nil, e)
+      go (fails t e) = rw (of-append, reported-of k j receive old, word-of k j w, t)
   reports-of (codes cs) = codes-at cs k 0 (omega arith) ∙ sym (append-nil _)
-  reports-of (sent j) = go (eqb j k)
-    where
-      go : (b : Bool) → [] ≡ over (saidReports k) (pick b (accepts ∷ []) [])
-      go true = refl
-      go false = refl
+  reports-of (sent j) = pick-either (λ (xs : List Says). [] ≡ over (saidReports k) xs) (eqb j k) _ _ (λ t. refl) (λ t. refl)
   reports-of (handed id f c passed) = go (eqb-cases (takerOf id) k)
     where
       go : Tested (eqb (takerOf id) k) (takerOf id ≡ k) (takerOf id ≡ k → ⊥)
           → ofBerth k (reports (handed id f c passed)) ≡ over (saidReports k) (heardOf k (handed id f c passed))
-      go (holds t e) = rw (mine k (takerOf id) send c t, t, append-nil, e)
-      go (fails t e) = rw (others k (takerOf id) send c t, t)
+      go (holds t e) = rw (reported-of k (takerOf id) send c, t, append-nil, e)
+      go (fails t e) = rw (reported-of k (takerOf id) send c, t)
   reports-of (none passed) = refl
   reports-of (shown part) = refl
 
   reports-all : (rs : List Answer) → ofBerth k (over reports rs) ≡ over (saidReports k) (over (heardOf k) rs)
   unfolding over
-  reports-all [] = unfold ofBerth in refl
+  reports-all [] = unfold ofBerth only in refl
   reports-all (a ∷ rs) =
       of-append k (reports a) (over reports rs)
       ∙ ap₂ (λ (q r : List Report). q ++ r) (reports-of a) (reports-all rs)

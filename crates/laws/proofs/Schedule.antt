@@ -32,7 +32,7 @@ use Rattle.laws.proofs.SetUp.{sound-step}
 use Rattle.laws.proofs.Round.{some-reached, nearer}
 use Rattle.laws.proofs.Touch.{SparedBy, TurnOf, own-is, held-is, own-k, turn-of-side, turn-of-other, other-berth, touch-tick, none-delivered, all-met}
 use Rattle.laws.proofs.Line.{Line, Phase, Nearer, tickS, tickR, hands-S, hands-R, there-whole, back-whole}
-use Rattle.laws.proofs.World.{lineOf, Alive, alive-carriedA, alive-carriedB, spared-A, tick-A, turn-A, spared-B, tick-B, turn-B, took-A, took-B, outA, setB, expected, fit-a, small-b, begun-alive, line-law}
+use Rattle.laws.proofs.World.{lineOf, Alive, after-A, after-B, alive-carriedA, alive-carriedB, spared-A, tick-A, turn-A, spared-B, tick-B, turn-B, took-A, took-B, outA, setB, expected, fit-a, small-b, begun-alive, line-law}
 use Rattle.laws.proofs.Onward.{Young, young-start, young-handed, young-flow, young-there, young-back, Next, bring-there, bring-back, hand-message, hand-flow, wait, at-end, next}
 
 -- ---- a call for a frame is answered by a sound node
@@ -182,24 +182,6 @@ module _ (i j : ℕ) (small-i : i < berthCount) (small-j : j < berthCount) (set 
       subst (λ (x : List (List ℕ)). Onto w (s .steps) (carriedA i w x)) (sym z)
       (record { alive = g .alive; young = y; less = fewer-steps w (carriedA i w (d ∷ q)) (s .steps) (g .alive .steps) (g .fewer) })
 
-  -- node A after a call, with the line in a phase again
-  alive-A : (w : World) (c : Call) (s : Lives w) (m : ℕ) → Phase i j set n out E (lineOf i j (callA i w c)) m → partOf i (outcome (w .a) c .held) .outgoing ≡ out → Lives (callA i w c)
-  unfolding callA
-  alive-A w c s m ph o =
-      record { sound-a = sound-step (w .a) c (s .sound-a); sound-b = s .sound-b; settings-b = s .settings-b; kept = o; steps = m; phase = ph }
-
-  alive-B : (w : World) (c : Call) (s : Lives w) (m : ℕ) → Phase i j set n out E (lineOf i j (callB j w c)) m → Lives (callB j w c)
-  unfolding callB
-  alive-B w c s m ph =
-      record {
-        sound-a = s .sound-a;
-        sound-b = sound-step (w .b) c (s .sound-b);
-        settings-b = settings-step (w .b) c ∙ s .settings-b;
-        kept = s .kept;
-        steps = m;
-        phase = ph;
-      }
-
   shorter-A : (w : World) (c : Call) (m : ℕ) → waiting sendSide i (outcome (w .a) c .held) < waiting sendSide i (w .a) → far (callA i w c) m < far w m
   unfolding far callA
   shorter-A w c m h = omega arith
@@ -217,21 +199,21 @@ module _ (i j : ℕ) (small-i : i < berthCount) (small-j : j < berthCount) (set 
   flow-due h t = rw (is-true (flowDue (berthAt (h .node) j .rx)) t) tt
 
   onto-message : (w : World) (s : Lives w) → Young (lineOf i j w) → T (messageDue (lineOf i j w .tx)) → Onto w (s .steps) (acts i j w (atA (turn blank)))
-  unfolding acts alive-A
+  unfolding acts after-A
   onto-message w s young t =
       ⊎-elim
       (λ x.
       let (d, line, o) = turn-A i j small-i small-j set n out E w (turn blank) (s .kept) x in
       let (m, h, ph) = hands-S i j set n out E (lineOf i j w) (s .steps) t (s .phase) in
       record {
-        alive = alive-A w (turn blank) s m (subst (λ (l : Line). Phase i j set n out E l m) (sym line) ph) o;
+        alive = after-A i j small-i small-j set n out E w (turn blank) s m (subst (λ (l : Line). Phase i j set n out E l m) (sym line) ph) o;
         young = subst (λ (l : Line). Young l) (sym line) (young-handed i j set n out E (lineOf i j w));
         less = fewer-steps w (callA i w (turn blank)) (s .steps) m h;
       })
       (λ x.
       let (line, o) = spared-A i j small-i small-j set n out E w (turn blank) (s .kept) (x .0) in
       record {
-        alive = alive-A w (turn blank) s (s .steps) (subst (λ (l : Line). Phase i j set n out E l (s .steps)) (sym line) (s .phase)) o;
+        alive = after-A i j small-i small-j set n out E w (turn blank) s (s .steps) (subst (λ (l : Line). Phase i j set n out E l (s .steps)) (sym line) (s .phase)) o;
         young = subst (λ (l : Line). Young l) (sym line) young;
         less = shorter-A w (turn blank) (s .steps) (x .1);
       })
@@ -242,7 +224,7 @@ module _ (i j : ℕ) (small-i : i < berthCount) (small-j : j < berthCount) (set 
   free-turn k s h e = tt
 
   onto-flow : (w : World) (s : Lives w) → Young (lineOf i j w) → T (flowDue (lineOf i j w .rx)) → Onto w (s .steps) (acts i j w (atB (turn blank)))
-  unfolding acts alive-B
+  unfolding acts after-B
   onto-flow w s young t =
       let none = none-delivered j (w .b) (s .sound-b) small-j (turn blank) (free-turn j receive (w .b)) in
       ⊎-elim
@@ -250,14 +232,14 @@ module _ (i j : ℕ) (small-i : i < berthCount) (small-j : j < berthCount) (set 
       let (d, line) = turn-B i j small-i small-j set n out E w (turn blank) (s .settings-b) none x in
       let (m, h, ph) = hands-R i j set n out E (lineOf i j w) (s .steps) t (s .phase) in
       record {
-        alive = alive-B w (turn blank) s m (subst (λ (l : Line). Phase i j set n out E l m) (sym line) ph);
+        alive = after-B i j small-i small-j set n out E w (turn blank) s m (subst (λ (l : Line). Phase i j set n out E l m) (sym line) ph);
         young = subst (λ (l : Line). Young l) (sym line) (young-flow i j set n out E (lineOf i j w) (s .steps) (s .phase) t);
         less = fewer-steps w (callB j w (turn blank)) (s .steps) m h;
       })
       (λ x.
       let line = spared-B i j small-i small-j set n out E w (turn blank) none (x .0) in
       record {
-        alive = alive-B w (turn blank) s (s .steps) (subst (λ (l : Line). Phase i j set n out E l (s .steps)) (sym line) (s .phase));
+        alive = after-B i j small-i small-j set n out E w (turn blank) s (s .steps) (subst (λ (l : Line). Phase i j set n out E l (s .steps)) (sym line) (s .phase));
         young = subst (λ (l : Line). Young l) (sym line) young;
         less = shorter-B w (turn blank) (s .steps) (x .1);
       })

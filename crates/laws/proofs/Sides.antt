@@ -25,10 +25,10 @@ use Rattle.rules.specs.declared.Rx.{Rx}
 use Rattle.rules.specs.declared.Tx.{Tx}
 use Rattle.rules.specs.declared.Berth.{Berth}
 use Rattle.rules.proofs.Cases.{Tested, holds, fails, eqb-cases, eqb-not, pick-either}
-use Rattle.laws.specs.Own.{over, owns, ofBerth, saidReports}
+use Rattle.laws.specs.Own.{over, only, owns, ofBerth, saidReports}
 use Rattle.laws.specs.Sides.{sameSide, sideOf, frameSide, turnSide, forSide, sideEvents, onlySide, sideSays, ofSide}
 use Rattle.laws.proofs.Isolation.{berth-alone, alone-append, says-append}
-use Rattle.laws.proofs.Reports.{over-append, berth-reports}
+use Rattle.laws.proofs.Reports.{over-append, only-append, berth-reports}
 
 -- ---- a frame that is no flow control: the send side stays, and nothing depends on it
 
@@ -69,13 +69,7 @@ came-send set b (x ∷ d) e = rw (eqb-not (length (x ∷ d)) 0 (λ z. omega arit
 
 of-side-append : (s : Side) (rs qs : List Report) → ofSide s (rs ++ qs) ≡ ofSide s rs ++ ofSide s qs
 unfolding ofSide
-of-side-append s [] qs = refl
-of-side-append s (r ∷ rs) qs = go (sameSide s (r .side)) (of-side-append s rs qs)
-  where
-    go : (b : Bool) → ofSide s (rs ++ qs) ≡ ofSide s rs ++ ofSide s qs
-        → pick b (r ∷ ofSide s (rs ++ qs)) (ofSide s (rs ++ qs)) ≡ pick b (r ∷ ofSide s rs) (ofSide s rs) ++ ofSide s qs
-    go true e = ap (λ q. r ∷ q) e
-    go false e = e
+of-side-append s rs qs = only-append (λ r. sameSide s (r .side)) rs qs
 
 module _ (k : ℕ) where
   -- of these reports side s has all, if they are its own, or none
@@ -83,14 +77,14 @@ module _ (k : ℕ) where
   AllOf side rs = (s : Side) → ofSide s rs ≡ pick (sameSide s side) rs []
 
   no-reports : (side : Side) → AllOf side []
-  unfolding ofSide
+  unfolding ofSide only
   no-reports receive receive = refl
   no-reports receive send = refl
   no-reports send receive = refl
   no-reports send send = refl
 
   reported-all : (side : Side) (c : ℕ) → AllOf side (reported k side c)
-  unfolding reported ofSide
+  unfolding reported ofSide only
   reported-all receive zero receive = refl
   reported-all receive zero send = refl
   reported-all receive (suc c) receive = refl
@@ -281,22 +275,22 @@ module _ (set : Settings) where
       of-side-append send (reported k receive (rxCode (p .berth .rx))) (reported k send (txCode (p .berth .tx)))
       ∙ ap₂ (λ (x y : List Report). x ++ y) (reported-all k receive (rxCode (p .berth .rx)) send) (reported-all k send (txCode (p .berth .tx)) send)
       ∙ unfold reported in (sym (append-nil _))
-  side-reported k receive p (sends m) = unfold ofSide in refl
-  side-reported k send p (sends m) = unfold ofSide in refl
+  side-reported k receive p (sends m) = unfold ofSide only in refl
+  side-reported k send p (sends m) = unfold ofSide only in refl
   side-reported k s p turns = unfold handOver turnSide in (go s (flowDue (p .berth .rx)) refl)
     where
       go : (s : Side) (b : Bool) → flowDue (p .berth .rx) ≡ b
           → ofSide s (reported k send (handOver set (p .berth) (p .outgoing) .code))
           ≡ over (saidReports k) (map (λ x. hands (handOver set (p .berth) (p .outgoing) .frame) (handOver set (p .berth) (p .outgoing) .code)) (pick (sameSide s (pick b receive send)) (turns ∷ []) []))
-      go receive true e = unfold handOver in (rw e (unfold reported ofSide in refl))
-      go send true e = unfold handOver in (rw e (unfold reported ofSide in refl))
+      go receive true e = unfold handOver in (rw e (unfold reported ofSide only in refl))
+      go send true e = unfold handOver in (rw e (unfold reported ofSide only in refl))
       go receive false e = reported-all k send (handOver set (p .berth) (p .outgoing) .code) receive
       go send false e = reported-all k send (handOver set (p .berth) (p .outgoing) .code) send ∙ sym (append-nil _)
 
   side-reports-said : (k : ℕ) (s : Side) (p : Part) (es : List Event)
       → ofSide s (over (saidReports k) (saysAll set p es)) ≡ over (saidReports k) (sideSays s set p es)
   unfolding saysAll sideSays over
-  side-reports-said k s p [] = unfold ofSide in refl
+  side-reports-said k s p [] = unfold ofSide only in refl
   side-reports-said k s p (e ∷ es) =
       of-side-append s (saidReports k (says set p e)) (over (saidReports k) (saysAll set (partAfter set p e) es))
       ∙ ap₂ (λ (x y : List Report). x ++ y) (side-reported k s p e) (side-reports-said k s (partAfter set p e) es)

@@ -32,7 +32,7 @@ use Rattle.rules.proofs.Ranges.{range-in-order}
 use Rattle.rules.proofs.Order.{frame-inside}
 use Rattle.rules.proofs.Round.{reached-due}
 use Rattle.rules.proofs.Facts.{frame-either, ignored-leaves}
-use Rattle.laws.specs.Own.{over, ownDone, own, takerOf, heardOf, saidReports, Sound}
+use Rattle.laws.specs.Own.{over, only, ownDone, own, takerOf, heardOf, saidReports, Sound}
 use Rattle.laws.specs.Sides.{sameSide, sideOf, frameSide, turnSide, forSide, sideEvents, ofSide, handedIn, handedSide, framesBy}
 use Rattle.laws.specs.Line.{reportsBy, deliveredIn, isIgnored, tickCode, spares, Spares}
 use Rattle.laws.proofs.Isolation.{part-step, says-step}
@@ -230,7 +230,7 @@ module _ (k : ℕ) (h : Held) where
 
   passed-by : (s : Side) (c : Call) (d : List ℕ) → own k h c ≡ arrives d ∷ [] → T (isIgnored (cameAt h k d .word))
       → (sideOf s (partOf k (outcome h c .held)) ≡ sideOf s (partOf k h)) × (reportsBy s k (outcome h c .answer) ≡ [])
-  unfolding ofSide
+  unfolding ofSide only
   passed-by s c d o t = (
     ap (sideOf s) (part-step k h c ∙ ap (alone set (partOf k h)) o ∙ ignored-part d t),
     ap (ofSide s) (reports-of k (outcome h c .answer) ∙ ap (over (saidReports k)) (says-step k h c ∙ ap (saysAll set (partOf k h)) o) ∙ ignored-said d t),

@@ -402,6 +402,24 @@ module _ (i j : ℕ) (small-i : i < berthCount) (small-j : j < berthCount) (set 
     pub steps : ℕ
     pub phase : Phase i j set n out E (lineOf i j w) steps
 
+  -- so they do after a call on either node that leaves the line in a phase
+  unfoldable pub after-A : (w : World) (c : Call) (s : Alive w) (m : ℕ) → Phase i j set n out E (lineOf i j (callA i w c)) m → KeptA w c → Alive (callA i w c)
+  unfolding callA
+  after-A w c s m ph o =
+      record { sound-a = sound-step (w .a) c (s .sound-a); sound-b = s .sound-b; settings-b = s .settings-b; kept = o; steps = m; phase = ph }
+
+  unfoldable pub after-B : (w : World) (c : Call) (s : Alive w) (m : ℕ) → Phase i j set n out E (lineOf i j (callB j w c)) m → Alive (callB j w c)
+  unfolding callB
+  after-B w c s m ph =
+      record {
+        sound-a = s .sound-a;
+        sound-b = sound-step (w .b) c (s .sound-b);
+        settings-b = settings-step (w .b) c ∙ s .settings-b;
+        kept = s .kept;
+        steps = m;
+        phase = ph;
+      }
+
   module _ (fit : n ≤ length out) (some : 1 ≤ n) (in-area : n ≤ set .area) (small : set .area ≤ shortMost) where
     -- a phase, however many steps are to come
     abbrev Phased : Line → Type 0
@@ -418,25 +436,16 @@ module _ (i j : ℕ) (small-i : i < berthCount) (small-j : j < berthCount) (set 
     phased-R l l′ m (hand-R t e) ph = let (m′, h, ph′) = hands-R i j set n out E l m t ph in rw e (m′, ph′)
 
     alive-A : (w : World) (c : Call) → Spares sendSide i (w .a) c → Alive w → Alive (callA i w c)
-    unfolding callA
     alive-A w c t s =
         let (step, o) = step-A w c (s .kept) (touch i (w .a) (s .sound-a) small-i sendSide c t) in
         let (m, ph) = phased-S (lineOf i j w) (lineOf i j (callA i w c)) (s .steps) step (s .phase) in
-        record { sound-a = sound-step (w .a) c (s .sound-a); sound-b = s .sound-b; settings-b = s .settings-b; kept = o; steps = m; phase = ph }
+        after-A w c s m ph o
 
     alive-B : (w : World) (c : Call) → Spares receive j (w .b) c → Alive w → Alive (callB j w c)
-    unfolding callB
     alive-B w c t s =
         let step = step-B w c (s .settings-b) (none-delivered j (w .b) (s .sound-b) small-j c t) (touch j (w .b) (s .sound-b) small-j receive c t) in
         let (m, ph) = phased-R (lineOf i j w) (lineOf i j (callB j w c)) (s .steps) step (s .phase) in
-        record {
-          sound-a = s .sound-a;
-          sound-b = sound-step (w .b) c (s .sound-b);
-          settings-b = settings-step (w .b) c ∙ s .settings-b;
-          kept = s .kept;
-          steps = m;
-          phase = ph;
-        }
+        after-B w c s m ph
 
     -- a carried frame leads nearer
     pub record NearerWorld (m : ℕ) (w : World) : Type 0 where

@@ -60,10 +60,14 @@ heardOf k (shown part) = []
 
 -- ---- reports
 
+-- those for which a test holds
+unfoldable pub only : (Report → Bool) → List Report → List Report
+only f [] = []
+only f (r ∷ rs) = pick (f r) (r ∷ only f rs) (only f rs)
+
 -- those of berth k
 unfoldable pub ofBerth : ℕ → List Report → List Report
-ofBerth k [] = []
-ofBerth k (r ∷ rs) = pick (eqb (r .berth) k) (r ∷ ofBerth k rs) (ofBerth k rs)
+ofBerth k rs = only (λ r. eqb (r .berth) k) rs
 
 -- those in what berth k says
 unfoldable pub saidReports : ℕ → Says → List Report

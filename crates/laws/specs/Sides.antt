@@ -12,7 +12,7 @@ use Rattle.rules.specs.Turns.{flowDue}
 use Rattle.rules.specs.Answers.{Answer, refused, ready, heard, codes, sent, handed, none, shown, Side, receive, send, Report}
 use Rattle.rules.specs.Alone.{Part, Event, arrives, ticks, sends, turns, Says, hears, expires, accepts, hands, partAfter, says}
 use Rattle.rules.specs.declared.Settings.{Settings}
-use Rattle.laws.specs.Own.{takerOf}
+use Rattle.laws.specs.Own.{takerOf, only}
 
 abbrev pub sameSide : Side → Side → Bool
 sameSide receive receive = true
@@ -63,8 +63,7 @@ sideSays s set p (e ∷ es) = map (λ x. onlySide s (says set p e)) (forSide s p
 -- ---- the reports and the frames of a side
 
 unfoldable pub ofSide : Side → List Report → List Report
-ofSide s [] = []
-ofSide s (r ∷ rs) = pick (sameSide s (r .side)) (r ∷ ofSide s rs) (ofSide s rs)
+ofSide s rs = only (λ r. sameSide s (r .side)) rs
 
 -- the frame in what a berth says
 unfoldable pub handedIn : Says → List (List ℕ)
