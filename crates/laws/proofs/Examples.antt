@@ -54,7 +54,7 @@ twoRun =
     send 5 (1 ∷ 2 ∷ 3 ∷ []) ∷ frame 0x643 (0x70 ∷ []) ∷ turn (0 ∷ []) ∷ tick ∷ turn blank ∷ frame 0x645 (0x02 ∷ 0xAA ∷ 0xBB ∷ []) ∷ tick
     ∷ show 5 false ∷ []
 
-two-sound : Sound two
+pub two-sound : Sound two
 unfolding inOrder all each settingsAllowed stminAllowed berthInOrder rxInRange txInRange takingInRange inBlock
 two-sound = record { order = in-order-range (two .node) tt; incoming = refl; outgoing = refl }
 
@@ -73,7 +73,7 @@ two-owns = (refl, refl)
 
 -- so each is as it would be alone
 pub two-alone : Alone (two .node .settings) (partOf 3 two) 3 two twoRun × Alone (two .node .settings) (partOf 5 two) 5 two twoRun
-two-alone = (each-alone two twoRun 3 (lit< tt) two-sound, each-alone two twoRun 5 (lit< tt) two-sound)
+two-alone = (each-alone two twoRun 3 (lit< tt), each-alone two twoRun 5 (lit< tt))
 
 -- ---- fairness: all ten are due, berth 4 was served last, and nine others are served before it
 

@@ -3,7 +3,7 @@
 use mathlib.Core.Path.{_≡_, refl, sym, ap, ap₂, _∙_}
 use Prim.Native.Nat.{ℕ, zero, suc, _+_, _≤_, _<_}
 use native.Mathlib.Omega.{arith}
-use mathlib.Core.List.{List, [], _∷_, _++_}
+use mathlib.Core.List.{List, [], _∷_, _++_, map}
 use lib.ListN.{length, getD, set, List·getD-map}
 use lib.Seq.{getD-set-same, getD-set-other}
 use lib.Dec.{T, eqb, ltb}
@@ -24,9 +24,9 @@ use Rattle.rules.specs.declared.Codes.{Codes}
 use Rattle.rules.proofs.Cases.{Tested, holds, fails, eqb-cases, ltb-cases}
 use Rattle.rules.proofs.Areas.{area-same, area-other}
 use Rattle.rules.proofs.Ranges.{in-order-range}
-use Rattle.rules.proofs.Order.{reached-small}
+use Rattle.rules.proofs.Order.{reached-small, berth-ticked}
 use Rattle.rules.proofs.Answered.{FrameAnswered, frame-answered, SendAnswered, send-answered, turn-answered}
-use Rattle.laws.specs.Own.{over, ownDone, own, owns, takerOf, heardOf}
+use Rattle.laws.specs.Own.{over, ownDone, own, owns, takerOf, noCodes, heardOf}
 
 -- ---- one berth is written
 
@@ -44,6 +44,11 @@ module _ (k : ℕ) (n : Node) (j : ℕ) (b : Berth) where
   berth-other : (j ≡ k → ⊥) → getD (set (n .berths) j b) k fresh ≡ berthAt n k
   unfolding berthAt
   berth-other ne = getD-set-other (n .berths) j k b fresh (λ e. ne (sym e))
+
+-- a fresh berth has no codes
+codes-fresh : codesOf fresh ≡ noCodes
+unfolding codesOf rxCode txCode
+codes-fresh = refl
 
 -- ---- berth k's part after an answered call
 
@@ -80,8 +85,8 @@ module _ (k : ℕ) where
           refl (area-other (h .node .settings .area) k j 0 m (h .outgoing) (λ e. ne (sym e)) fits))
 
   part-tick : (h : Held) → partOf k (done h tick) ≡ alone (h .node .settings) (partOf k h) (ownDone k h tick)
-  unfolding partOf done tickedNode berthAt alone partAfter ownDone ticked rxTicked txTicked
-  part-tick h = part-path (List·getD-map ticked (h .node .berths) k fresh) refl refl
+  unfolding partOf done tickedNode alone partAfter ownDone
+  part-tick h = part-path (berth-ticked (h .node) k) refl refl
 
   part-turn : (h : Held) (buffer : List ℕ) → T (inOrder (h .node))
       → partOf k (done h (turn buffer)) ≡ alone (h .node .settings) (partOf k h) (ownDone k h (turn buffer))
@@ -117,8 +122,10 @@ module _ (k : ℕ) where
   -- ---- what is said
 
   says-tick : (h : Held) → heardOf k (reply h tick) ≡ saysAll (h .node .settings) (partOf k h) (ownDone k h tick)
-  unfolding heardOf reply saysAll ownDone says partOf berthAt codesOf rxCode txCode
-  says-tick h = ap {A = Codes} (λ p. expires (p .receive) (p .send) ∷ []) (List·getD-map codesOf (h .node .berths) k fresh)
+  unfolding heardOf reply saysAll ownDone says partOf berthAt codesOf
+  says-tick h =
+      ap {A = Codes} (λ p. expires (p .receive) (p .send) ∷ [])
+      (ap (getD (map codesOf (h .node .berths)) k) (sym codes-fresh) ∙ List·getD-map codesOf (h .node .berths) k fresh)
 
   said-to : (n : Node) → takerOf (toBerth + reached n) ≡ reached n
   said-to n = omega arith

@@ -81,32 +81,34 @@ set-up-settings : (h : Held) (s : Settings) → setUpRefusal (s .area) (s .block
 unfolding setUpNode
 set-up-settings h s e = ap (λ (g : Held). g .node .settings) (set-up-held h s e)
 
--- EACH BERTH ALONE, from any start in which the node is in order and the stores have their lengths.
-pub each-alone : (h : Held) (cs : List Call) (k : ℕ) → k < berthCount → Sound h → Alone (h .node .settings) (partOf k h) k h cs
-each-alone h cs k l s =
-    let g = sound-run h cs s in
+-- EACH BERTH ALONE, in any run of the five calls from any start.
+pub each-alone : (h : Held) (cs : List Call) (k : ℕ) → k < berthCount → Alone (h .node .settings) (partOf k h) k h cs
+each-alone h cs k l =
     record {
       part = berth-alone k h cs;
       says = berth-says k h cs;
       reported = berth-reports k h cs;
-      shown = λ choice. berth-shown k (final h cs) choice l (range-in-order (final h cs .node) (g .order)) (g .incoming) (g .outgoing) ∙ ap (λ (p : Part). partShown p choice) (berth-alone k h cs);
+      shown = λ s choice.
+          let g = sound-run h cs s in
+          berth-shown k (final h cs) choice l (range-in-order (final h cs .node) (g .order)) (g .incoming) (g .outgoing)
+          ∙ ap (λ (p : Part). partShown p choice) (berth-alone k h cs);
     }
 
 -- DEMAND 3, FIRST HALF. Take any run of the five calls after a set-up that was answered, the same node and the same two stores
--- throughout. Each berth's state, areas, words, codes, frames, reports and what is shown of it are those that the rules give
+-- throughout. Each berth's state, areas, words, codes, frames and reports, and what is shown of it, are those that the rules give
 -- for that berth alone, fresh at the start: its own frames and sends, all ticks, and the turns it received, refused calls left out.
 pub each-alone-after-set-up : (h : Held) (s : Settings) (cs : List Call) (k : ℕ) → k < berthCount
-    → setUpRefusal (s .area) (s .block) (s .stmin) ≡ 0
-    → length (h .incoming) ≡ berthCount * s .area → length (h .outgoing) ≡ berthCount * s .area
-    → Alone s (freshPart h s k) k (setUp h s) cs
-each-alone-after-set-up h s cs k l e i o =
-    let t : setUp h s .node .settings ≡ s = set-up-settings h s e in
-    let a : setUp h s .node .settings .area ≡ s .area = ap (λ (x : Settings). x .area) t in
+    → setUpRefusal (s .area) (s .block) (s .stmin) ≡ 0 → Alone s (freshPart h s k) k (setUp h s) cs
+each-alone-after-set-up h s cs k l e = rw (set-up-settings h s e, set-up-part h s k l e) at (each-alone (setUp h s) cs k l)
+
+-- after it what is lent is sound, if the stores have their lengths
+pub set-up-sound : (h : Held) (s : Settings) → setUpRefusal (s .area) (s .block) (s .stmin) ≡ 0
+    → length (h .incoming) ≡ berthCount * s .area → length (h .outgoing) ≡ berthCount * s .area → Sound (setUp h s)
+set-up-sound h s e i o =
+    let a : setUp h s .node .settings .area ≡ s .area = ap (λ (x : Settings). x .area) (set-up-settings h s e) in
     let q = set-up-held h s e in
-    let sound : Sound (setUp h s) =
     record {
       order = set-up-in-order h (s .area) (s .block) (s .stmin) e;
       incoming = ap (λ (g : Held). length (g .incoming)) q ∙ i ∙ ap (λ (x : ℕ). berthCount * x) (sym a);
       outgoing = ap (λ (g : Held). length (g .outgoing)) q ∙ o ∙ ap (λ (x : ℕ). berthCount * x) (sym a);
-    } in
-    rw (t, set-up-part h s k l e) at (each-alone (setUp h s) cs k l sound)
+    }

@@ -561,9 +561,13 @@ module _ (i j : ℕ) (m : List ℕ) (a b : Held) (may : MayBegin i j m a b) wher
   unfolding busy
   idle-free = rw (may .idle-a)
 
+  -- the send is answered
+  pub taken : refusal a (send i m) ≡ 0
+  taken = send-met a i m (may .small-i) (may .sound-a) idle-free (may .some) (may .fits-a)
+
   sent-facts : (berthAt (outcome a (send i m) .held .node) i .tx ≡ beginsWith (length m))
       × (outA ≡ sets (areaOf (a .node .settings .area) i (a .outgoing)) 0 m)
-  sent-facts = sent-part a i m (send-met a i m (may .small-i) (may .sound-a) idle-free (may .some) (may .fits-a))
+  sent-facts = sent-part a i m taken
 
   area-a : length (areaOf (a .node .settings .area) i (a .outgoing)) ≡ a .node .settings .area
   area-a = area-length (a .node .settings .area) i (a .outgoing) (may .small-i) (may .sound-a .outgoing)
@@ -621,8 +625,8 @@ module _ (i j : ℕ) (m : List ℕ) (a b : Held) (may : MayBegin i j m a b) wher
             ∙ ap (λ (k : ℕ). take k (areaOf (w .b .node .settings .area) j (w .b .incoming))) (l .last) ∙ bytes;
         delivered = l .delivered;
         last = l .last;
-        sender = l .said;
-        taker = l .heard;
+        sender = l .said ∙ unfold reported in refl;
+        taker = l .heard ∙ unfold reported in refl;
         handed = l .log ∙ ap (λ (x : Settings). exchanged x (framesOf m)) (sym (s .settings-b));
         frames = ap thereOf (l .log) ∙ there-exchanged setB (framesOf m);
         flow = ap backOf (l .log) ∙ back-exchanged setB (framesOf m)

@@ -13,7 +13,7 @@ use Rattle.rules.specs.Frames.{counted, fillsBlock, goFrame, roundedUp, framesO
 use Rattle.rules.specs.Ticks.{rxCode, txCode}
 use Rattle.rules.specs.Turns.{flowDue, messageDue}
 use Rattle.rules.specs.Stores.{Held, areaOf, cameAt}
-use Rattle.rules.specs.Answers.{Answer, Side, receive, send as sendSide, Report, reported, reports}
+use Rattle.rules.specs.Answers.{Answer, Side, receive, send as sendSide, Report, reports}
 use Rattle.rules.specs.Refusals.{Call, frame, tick, send, turn, show, senderOf, refusal}
 use Rattle.rules.specs.Calls.{outcome, showing}
 use Rattle.rules.specs.Alone.{Says, hears, expires, accepts, hands}
@@ -230,8 +230,8 @@ pub record Arrived (i j : ℕ) (m : List ℕ) (w : World) : Type 0 where
   pub shown : showing (w .b) j false ≡ m
   pub delivered : w .delivered ≡ length m ∷ []
   pub last : berthAt (w .b .node) j .last ≡ length m
-  pub sender : w .said ≡ reported i sendSide N-OK
-  pub taker : w .heard ≡ reported j receive N-OK
+  pub sender : w .said ≡ record { berth = i; side = sendSide; code = N-OK } ∷ []
+  pub taker : w .heard ≡ record { berth = j; side = receive; code = N-OK } ∷ []
   pub handed : w .log ≡ exchanged (w .b .node .settings) (framesOf m)
   pub frames : thereOf (w .log) ≡ framesOf m
   pub flow : backOf (w .log) ≡ replicate (blocks (w .b .node .settings .block) (length (framesOf m) - 1)) (goFrame (w .b .node .settings))

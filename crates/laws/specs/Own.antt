@@ -101,10 +101,10 @@ freshPart h s k = record { berth = fresh; incoming = areaOf (s .area) k (h .inco
 
 -- ---- demand 3, first half
 
--- what demand 3 says of berth k in a run: its state and areas; its words, codes and frames; its reports; and, at any time after it,
--- what a show of it returns, are those of its own events on that berth alone
+-- what demand 3 says of berth k in a run: its state and areas; its words, codes and frames; its reports; and, if the node is in order
+-- and the stores have their lengths, what a show of it returns after the run, are those of its own events on that berth alone
 pub record Alone (s : Settings) (start : Part) (k : ℕ) (h : Held) (cs : List Call) : Type 0 where
   pub part : partOf k (final h cs) ≡ alone s start (owns k h cs)
   pub says : over (heardOf k) (answers h cs) ≡ saysAll s start (owns k h cs)
   pub reported : ofBerth k (over reports (answers h cs)) ≡ over (saidReports k) (saysAll s start (owns k h cs))
-  pub shown : (choice : Bool) → showing (final h cs) k choice ≡ partShown (alone s start (owns k h cs)) choice
+  pub shown : Sound h → (choice : Bool) → showing (final h cs) k choice ≡ partShown (alone s start (owns k h cs)) choice
