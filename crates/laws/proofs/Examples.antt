@@ -58,18 +58,15 @@ pub two-sound : Sound two
 unfolding inOrder all each settingsAllowed stminAllowed berthInOrder rxInRange txInRange takingInRange inBlock
 two-sound = record { order = in-order-range (two .node) tt; incoming = refl; outgoing = refl }
 
-two-answers : answers two twoRun
+-- the answers; what is berth 3's own, and what is berth 5's: the refused call is in neither
+pub two-computed : (answers two twoRun
     ≡ sent 5 ∷ heard 3 0 (Ignored 2) ∷ refused 9 ∷ codes (replicate 10 (pairOf 0 0))
     ∷ handed 0x665 (0x03 ∷ 1 ∷ 2 ∷ 3 ∷ 0xCC ∷ 0xCC ∷ 0xCC ∷ 0xCC ∷ []) 1 5 ∷ heard 5 0 (Delivered 2)
-    ∷ codes (set (replicate 10 (pairOf 0 0)) 3 (pairOf 4 0)) ∷ shown (0xAA ∷ 0xBB ∷ []) ∷ []
-unfolding answers final done reply written outcome refusedOutcome refusal needs firstUnmet rightStore inside berthAt busy inOrder all each settingsAllowed stminAllowed berthInOrder rxInRange txInRange takingInRange sendingInRange inBlock afterFrame cameAt frameCame byKind kind low heardBy toldBy ignored singleCame singleFits oldCode withBerth stored tickedNode ticked rxTicked txTicked ran rxCode txCode codesOf sentBerth beginsWith passedOver leastDistance distance due flowDue messageDue reached servedNode handedAt handOver areaOf afterFlow flowFrame afterMessage messageFrame messageCode singleFrame padded showing showable shownLength
-two-answers = refl
-
--- what is berth 3's own, and what is berth 5's; the refused call is in neither
-two-owns : (owns 3 two twoRun ≡ arrives (0x70 ∷ []) ∷ ticks ∷ ticks ∷ [])
+    ∷ codes (set (replicate 10 (pairOf 0 0)) 3 (pairOf 4 0)) ∷ shown (0xAA ∷ 0xBB ∷ []) ∷ [])
+    × (owns 3 two twoRun ≡ arrives (0x70 ∷ []) ∷ ticks ∷ ticks ∷ [])
     × (owns 5 two twoRun ≡ sends (1 ∷ 2 ∷ 3 ∷ []) ∷ ticks ∷ turns ∷ arrives (0x02 ∷ 0xAA ∷ 0xBB ∷ []) ∷ ticks ∷ [])
 unfolding owns own ownDone answers final done reply written outcome refusedOutcome refusal needs firstUnmet rightStore inside berthAt busy inOrder all each settingsAllowed stminAllowed berthInOrder rxInRange txInRange takingInRange sendingInRange inBlock afterFrame cameAt frameCame byKind kind low heardBy toldBy ignored singleCame singleFits oldCode withBerth stored tickedNode ticked rxTicked txTicked ran rxCode txCode codesOf sentBerth beginsWith passedOver leastDistance distance due flowDue messageDue reached servedNode handedAt handOver areaOf afterFlow flowFrame afterMessage messageFrame messageCode singleFrame padded showing showable shownLength
-two-owns = (refl, refl)
+two-computed = (refl, refl, refl)
 
 -- so each is as it would be alone
 pub two-alone : Alone (two .node .settings) (partOf 3 two) 3 two twoRun × Alone (two .node .settings) (partOf 5 two) 5 two twoRun
@@ -92,17 +89,14 @@ crowd =
 abbrev crowdRun : List Call
 crowdRun = replicate 10 (turn blank)
 
-crowd-turns : over turnOf (answers crowd crowdRun)
-    ≡ served 5 ∷ served 6 ∷ served 7 ∷ served 8 ∷ served 9 ∷ served 0 ∷ served 1 ∷ served 2 ∷ served 3 ∷ served 4 ∷ []
-unfolding over turnOf answers final done reply written outcome refusedOutcome refusal needs firstUnmet rightStore inside berthAt busy inOrder all each settingsAllowed stminAllowed berthInOrder rxInRange txInRange takingInRange sendingInRange inBlock afterFrame cameAt frameCame byKind kind low heardBy toldBy ignored singleCame singleFits oldCode withBerth stored tickedNode ticked rxTicked txTicked ran rxCode txCode codesOf sentBerth beginsWith passedOver leastDistance distance due flowDue messageDue reached servedNode handedAt handOver areaOf afterFlow flowFrame afterMessage messageFrame messageCode singleFrame padded showing showable shownLength
-crowd-turns = refl
-
-crowd-due : StaysDue 4 crowd crowdRun
-unfolding StaysDue answers final done reply written outcome refusedOutcome refusal needs firstUnmet rightStore inside berthAt busy inOrder all each settingsAllowed stminAllowed berthInOrder rxInRange txInRange takingInRange sendingInRange inBlock afterFrame cameAt frameCame byKind kind low heardBy toldBy ignored singleCame singleFits oldCode withBerth stored tickedNode ticked rxTicked txTicked ran rxCode txCode codesOf sentBerth beginsWith passedOver leastDistance distance due flowDue messageDue reached servedNode handedAt handOver areaOf afterFlow flowFrame afterMessage messageFrame messageCode singleFrame padded showing showable shownLength
-crowd-due = ((λ e. tt), ((λ e. tt), ((λ e. tt), ((λ e. tt), ((λ e. tt), ((λ e. tt), ((λ e. tt), ((λ e. tt), ((λ e. tt), ((λ e. tt), tt))))))))))
+pub crowd-computed : (over turnOf (answers crowd crowdRun)
+    ≡ served 5 ∷ served 6 ∷ served 7 ∷ served 8 ∷ served 9 ∷ served 0 ∷ served 1 ∷ served 2 ∷ served 3 ∷ served 4 ∷ [])
+    × StaysDue 4 crowd crowdRun
+unfolding StaysDue over turnOf answers final done reply written outcome refusedOutcome refusal needs firstUnmet rightStore inside berthAt busy inOrder all each settingsAllowed stminAllowed berthInOrder rxInRange txInRange takingInRange sendingInRange inBlock afterFrame cameAt frameCame byKind kind low heardBy toldBy ignored singleCame singleFits oldCode withBerth stored tickedNode ticked rxTicked txTicked ran rxCode txCode codesOf sentBerth beginsWith passedOver leastDistance distance due flowDue messageDue reached servedNode handedAt handOver areaOf afterFlow flowFrame afterMessage messageFrame messageCode singleFrame padded showing showable shownLength
+crowd-computed = (refl, ((λ e. tt), ((λ e. tt), ((λ e. tt), ((λ e. tt), ((λ e. tt), ((λ e. tt), ((λ e. tt), ((λ e. tt), ((λ e. tt), ((λ e. tt), tt)))))))))))
 
 pub crowd-fair : Fair 4 (over turnOf (answers crowd crowdRun))
-crowd-fair = fair 4 (lit< tt) crowd crowdRun crowd-due
+crowd-fair = fair 4 (lit< tt) crowd crowdRun (crowd-computed .1)
 
 -- ---- the line's law: A 36 and 40, BS 8 and 2, STmin 0 and 2. 36 bytes in five consecutive frames, three blocks, a gap of two ticks; berth
 -- 6 of A and the send side of B's berth 7 have traffic of their own, and a frame of kind 5 comes to the taker
@@ -145,16 +139,10 @@ may-begin =
       fits-b = lit≤ tt;
     }
 
-deeds-apart : AllApart 2 7 (begin 2 programme scheduler mast) deeds
-unfolding AllApart spares frameSide living acts callA callB carriedA carriedB framesBy handedSide ofSide ofBerth only reports reported wordReports codesReports failedSide heardOf deliveredIn over answers final done reply written outcome refusedOutcome refusal needs firstUnmet rightStore inside berthAt busy inOrder all each settingsAllowed stminAllowed berthInOrder rxInRange txInRange takingInRange sendingInRange inBlock afterFrame cameAt frameCame byKind kind low heardBy toldBy ignored singleCame singleFits oldCode withBerth stored tickedNode ticked rxTicked txTicked ran rxCode txCode codesOf sentBerth beginsWith passedOver leastDistance distance due flowDue messageDue reached servedNode handedAt handOver areaOf afterFlow flowFrame afterMessage messageFrame messageCode singleFrame padded showing showable shownLength setUpNode firstCame shortLength escapeLength announced firstFits begun taking consecutiveCame awaitedCame consecutiveFits missing piece grown completed afterTook took wrongSn counted fillsBlock nextSn share flowCame flowFits byStatus granted gapOf newBlock goFrame firstFrame consecutiveFrame toGo opened moved afterConsecutive closer
-deeds-apart =
-    ((λ e. tt), ((λ e. tt), (tt, ((λ e. tt), ((λ e. tt), ((λ e. tt), ((λ e. tt), (tt, ((λ e. tt), ((λ e. tt), (tt, ((λ e. tt), ((λ e. tt), ((λ e. tt), ((λ e. tt), ((λ e. tt), (tt, ((λ e. tt), (tt, ((λ e. tt), (tt, ((λ e. tt), ((λ e. tt), ((λ e. tt), ((λ e. tt), ((λ e. tt), (tt, ((λ e. tt), (tt, ((λ e. tt), (tt, tt)))))))))))))))))))))))))))))))
-
-deeds-rest : AtRest 2 7 (living 2 7 (begin 2 programme scheduler mast) deeds)
-unfolding gapLeft living acts callA callB carriedA carriedB framesBy handedSide ofSide ofBerth only reports reported wordReports codesReports failedSide heardOf deliveredIn over answers final done reply written outcome refusedOutcome refusal needs firstUnmet rightStore inside berthAt busy inOrder all each settingsAllowed stminAllowed berthInOrder rxInRange txInRange takingInRange sendingInRange inBlock afterFrame cameAt frameCame byKind kind low heardBy toldBy ignored singleCame singleFits oldCode withBerth stored tickedNode ticked rxTicked txTicked ran rxCode txCode codesOf sentBerth beginsWith passedOver leastDistance distance due flowDue messageDue reached servedNode handedAt handOver areaOf afterFlow flowFrame afterMessage messageFrame messageCode singleFrame padded showing showable shownLength setUpNode firstCame shortLength escapeLength announced firstFits begun taking consecutiveCame awaitedCame consecutiveFits missing piece grown completed afterTook took wrongSn counted fillsBlock nextSn share flowCame flowFits byStatus granted gapOf newBlock goFrame firstFrame consecutiveFrame toGo opened moved afterConsecutive closer
-deeds-rest = record { none-there = refl; none-back = refl; none-due = refl; no-gap = refl; no-flow = refl }
-
-deeds-log : living 2 7 (begin 2 programme scheduler mast) deeds .log
+-- the deeds keep apart, they end at rest, and this was handed over
+pub deeds-computed : AllApart 2 7 (begin 2 programme scheduler mast) deeds
+    × AtRest 2 7 (living 2 7 (begin 2 programme scheduler mast) deeds)
+    × (living 2 7 (begin 2 programme scheduler mast) deeds .log
     ≡ there (0x10 ∷ 36 ∷ 1 ∷ 2 ∷ 3 ∷ 4 ∷ 5 ∷ 6 ∷ [])
     ∷ back (0x30 ∷ 2 ∷ 2 ∷ 0xCC ∷ 0xCC ∷ 0xCC ∷ 0xCC ∷ 0xCC ∷ [])
     ∷ there (0x21 ∷ 7 ∷ 8 ∷ 9 ∷ 10 ∷ 11 ∷ 12 ∷ 13 ∷ [])
@@ -164,9 +152,13 @@ deeds-log : living 2 7 (begin 2 programme scheduler mast) deeds .log
     ∷ there (0x24 ∷ 28 ∷ 29 ∷ 30 ∷ 31 ∷ 32 ∷ 33 ∷ 34 ∷ [])
     ∷ back (0x30 ∷ 2 ∷ 2 ∷ 0xCC ∷ 0xCC ∷ 0xCC ∷ 0xCC ∷ 0xCC ∷ [])
     ∷ there (0x25 ∷ 35 ∷ 36 ∷ 0xCC ∷ 0xCC ∷ 0xCC ∷ 0xCC ∷ 0xCC ∷ [])
-    ∷ []
-unfolding living acts callA callB carriedA carriedB framesBy handedSide ofSide ofBerth only reports reported wordReports codesReports failedSide heardOf deliveredIn over answers final done reply written outcome refusedOutcome refusal needs firstUnmet rightStore inside berthAt busy inOrder all each settingsAllowed stminAllowed berthInOrder rxInRange txInRange takingInRange sendingInRange inBlock afterFrame cameAt frameCame byKind kind low heardBy toldBy ignored singleCame singleFits oldCode withBerth stored tickedNode ticked rxTicked txTicked ran rxCode txCode codesOf sentBerth beginsWith passedOver leastDistance distance due flowDue messageDue reached servedNode handedAt handOver areaOf afterFlow flowFrame afterMessage messageFrame messageCode singleFrame padded showing showable shownLength setUpNode firstCame shortLength escapeLength announced firstFits begun taking consecutiveCame awaitedCame consecutiveFits missing piece grown completed afterTook took wrongSn counted fillsBlock nextSn share flowCame flowFits byStatus granted gapOf newBlock goFrame firstFrame consecutiveFrame toGo opened moved afterConsecutive closer
-deeds-log = refl
+    ∷ [])
+unfolding gapLeft AllApart spares frameSide living acts callA callB carriedA carriedB framesBy handedSide ofSide ofBerth only reports reported wordReports codesReports failedSide heardOf deliveredIn over answers final done reply written outcome refusedOutcome refusal needs firstUnmet rightStore inside berthAt busy inOrder all each settingsAllowed stminAllowed berthInOrder rxInRange txInRange takingInRange sendingInRange inBlock afterFrame cameAt frameCame byKind kind low heardBy toldBy ignored singleCame singleFits oldCode withBerth stored tickedNode ticked rxTicked txTicked ran rxCode txCode codesOf sentBerth beginsWith passedOver leastDistance distance due flowDue messageDue reached servedNode handedAt handOver areaOf afterFlow flowFrame afterMessage messageFrame messageCode singleFrame padded showing showable shownLength setUpNode firstCame shortLength escapeLength announced firstFits begun taking consecutiveCame awaitedCame consecutiveFits missing piece grown completed afterTook took wrongSn counted fillsBlock nextSn share flowCame flowFits byStatus granted gapOf newBlock goFrame firstFrame consecutiveFrame toGo opened moved afterConsecutive closer
+deeds-computed = (
+  ((λ e. tt), ((λ e. tt), (tt, ((λ e. tt), ((λ e. tt), ((λ e. tt), ((λ e. tt), (tt, ((λ e. tt), ((λ e. tt), (tt, ((λ e. tt), ((λ e. tt), ((λ e. tt), ((λ e. tt), ((λ e. tt), (tt, ((λ e. tt), (tt, ((λ e. tt), (tt, ((λ e. tt), ((λ e. tt), ((λ e. tt), ((λ e. tt), ((λ e. tt), (tt, ((λ e. tt), (tt, ((λ e. tt), (tt, tt))))))))))))))))))))))))))))))),
+  record { none-there = refl; none-back = refl; none-due = refl; no-gap = refl; no-flow = refl },
+  refl,
+)
 
 pub programme-arrived : Arrived 2 7 programme (living 2 7 (begin 2 programme scheduler mast) deeds)
-programme-arrived = line-law 2 7 programme scheduler mast may-begin deeds deeds-apart deeds-rest
+programme-arrived = line-law 2 7 programme scheduler mast may-begin deeds (deeds-computed .0) (deeds-computed .1)
