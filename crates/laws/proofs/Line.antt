@@ -274,13 +274,23 @@ module _ (i j : ℕ) (set : Settings) (n : ℕ) (out : List ℕ) (E : List Hande
   unfolding ran
   ran-on on ended t c k = rw (ran-short t c k)
 
-  pub closer-at : (o : Sending) (k : ℕ) → SendAt n o k → SendAt n (closer o) k
+  closer-at : (o : Sending) (k : ℕ) → SendAt n o k → SendAt n (closer o) k
   unfolding closer
   closer-at o k s = record { length = s .length; position = s .position; sn = s .sn; more = s .more }
 
   pub gap-falls : (o : Sending) → closer o .left ≡ o .left - 1
   unfolding closer
   gap-falls o = refl
+
+  -- a tick while a gap is left
+  pub gap-closes : (o : Sending) (t : ℕ) (q : List (List ℕ)) (p : Taking) (u last : ℕ) (ina : List ℕ) (k c l : ℕ) (g : List Handed)
+      → q ≡ span n out c k → SendAt n o (k + c) → TakeAt n out p k ina → o .block ≡ set .block
+      → (0 < set .block → (o .sent ≡ p .taken + c) × (o .sent < set .block)) → o .gap ≤ longestGap → o .left ≤ longestGap
+      → Ahead n (k + c) l → g ++ rest (o .sent) (k + c) l ≡ E
+      → Phase (under-way (Tx.Consecutive (closer o) t) q [] g (Rx.Awaits p u) last ina) (pace * suc l + (closer o .left + c))
+  unfolding closer
+  gap-closes o t q p u last ina k c l g e s r b f gap left a w =
+      in-block (closer o) t q p u last ina k c l g e (closer-at o (k + c) s) r b f gap (omega arith) a w
 
   pub ticks-S : (l : Line) (m : ℕ) → txCode (l .tx) ≡ 0 → Phase l m → NoFarther m (tickS l)
   unfolding txTicked txCode
@@ -295,16 +305,13 @@ module _ (i j : ℕ) (set : Settings) (n : ℕ) (out : List ℕ) (E : List Hande
       rw (ran-on (λ v. Tx.AwaitsFlow o v) Tx.Idle t 2 k) (stays (go-sent o (t + 1) p u last ina f h g a b c d e))
   ticks-S l m k (in-block o t q p u last ina f c h g a b d e x y z v w) = go (eqb-cases (o .left) 0)
     where
-      closing : {l : Line} → Phase l (pace * suc h + (closer o .left + c)) → NoFarther (pace * suc h + (o .left + c)) l
-      closing ph = (pace * suc h + (closer o .left + c), omega (arith, gap-falls o), ph)
-
       go : Tested (eqb (o .left) 0) (o .left ≡ 0) (o .left ≡ 0 → ⊥)
           → NoFarther (pace * suc h + (o .left + c)) (tickS (under-way (Tx.Consecutive o t) q [] g (Rx.Awaits p u) last ina))
       go (holds r s) =
           rw (r, ran-on (λ v. Tx.Consecutive o v) Tx.Idle t 1 (rw r at k))
           (stays (in-block o (t + 1) q p u last ina f c h g a b d e x y z v w))
       go (fails r s) =
-          rw r (closing (in-block (closer o) t q p u last ina f c h g a (closer-at o (f + c) b) d (unfold closer in e) (unfold closer in x) (unfold closer in y) (unfold closer in (omega arith)) v (unfold closer in w)))
+          rw r (pace * suc h + (closer o .left + c), omega (arith, gap-falls o), gap-closes o t q p u last ina f c h g a b d e x y z v w)
   ticks-S l m k (block-full o t q p u last ina f c h g a b d e x v w) =
       rw (ran-on (λ v. Tx.AwaitsFlow o v) Tx.Idle t 2 k) (stays (block-full o (t + 1) q p u last ina f c h g a b d e x v w))
   ticks-S l m k (last-sent q p u last ina f c g a b d e x) = (stays (last-sent q p u last ina f c g a b d e x))

@@ -20,7 +20,7 @@ use Rattle.rules.specs.declared.Tx.{Tx}
 use Rattle.rules.proofs.Cases.{Tested, holds, fails, eqb-cases, ltb-is, pick-either}
 use Rattle.laws.specs.Line.{Handed, gapLeft}
 use Rattle.laws.proofs.Frames.{posAt, span, frameAt}
-use Rattle.laws.proofs.Line.{Line, TakeAt, pace, Phase, single-ready, single-sent, first-ready, first-sent, go-owed, go-sent, in-block, block-full, last-sent, arrived, under-way, all-sent, Nearer, handS, handR, tickS, tickR, tookR, tookS, receiving, sending, closer-at, gap-falls, went, granted-go, took-more, took-last, heard-single, heard-first}
+use Rattle.laws.proofs.Line.{Line, TakeAt, pace, Phase, single-ready, single-sent, first-ready, first-sent, go-owed, go-sent, in-block, block-full, last-sent, arrived, under-way, all-sent, Nearer, handS, handR, tickS, tickR, tookR, tookS, receiving, sending, gap-falls, gap-closes, went, granted-go, took-more, took-last, heard-single, heard-first}
 
 -- the timer of a side that awaits, and the gap left of one that sends
 unfoldable pub timer : Rx → ℕ
@@ -170,7 +170,7 @@ module _ (i j : ℕ) (set : Settings) (n : ℕ) (out : List ℕ) (E : List Hande
         go (holds r c) = hand-message (rw r tt)
         go (fails r c) =
             waits o t q p u last ina f h (pace * suc h + (closer o .left + 0)) g a c r y
-            (in-block (closer o) t q p (u + 1) last ina f zero h g a (closer-at i j set n out E o (f + 0) b) x (unfold closer in e) (unfold closer in v) (unfold closer in w) (unfold closer in (omega arith)) k (unfold closer in z))
+            (gap-closes i j set n out E o t q p (u + 1) last ina f zero h g a b x e v w s k z)
             (pace * suc h + (o .left + 0)) (omega (arith, gap-falls i j set n out E o))
     next l m (in-block o t q p u last ina f (suc c) h g a b x e v w s k z) y = bring-there _ _ a
     next l m (block-full o t q p u last ina f c h g a b x e v k z) y = bring-there _ _ a

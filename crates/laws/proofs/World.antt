@@ -14,7 +14,7 @@ use mir.Facts.{yes-eqb, yes-leb, yes-ltb}
 use Rattle.rules.specs.Numbers.{berthCount, fromBerth, frameLength, flowKind, shortMost}
 use Rattle.rules.specs.Ranges.{berthAt, inOrder}
 use Rattle.rules.specs.Frames.{kind, goFrame, framesOf}
-use Rattle.rules.specs.Arrivals.{frameCame}
+use Rattle.rules.specs.Arrivals.{Came, frameCame}
 use Rattle.rules.specs.Ticks.{rxTicked, rxCode, txTicked, txCode, ticked}
 use Rattle.rules.specs.Turns.{flowDue, messageDue, due, flowFrame, afterFlow, messageFrame, messageCode, afterMessage, handOver, beginsWith, sent as sentBerth, busy}
 use Rattle.rules.specs.Stores.{Held, rightStore, areaOf}
@@ -327,12 +327,14 @@ module _ (i j : ℕ) (small-i : i < berthCount) (small-j : j < berthCount) (set 
   unfolding frameSide
   side-of-other d ne = rw (eqb-not (kind d) flowKind ne)
 
+  -- a frame at the send side of berth i alone
+  abbrev cameA : Held → List ℕ → Came
+  cameA h d = frameCame (h .node .settings) (record { rx = Rx.Idle; last = 0; tx = berthAt (h .node) i .tx }) d
+
   came-A : (h : Held) (d : List ℕ)
-      → (partAfter (h .node .settings) (sideA h) (arrives d) .berth .tx ≡ frameCame (h .node .settings) (record { rx = Rx.Idle; last = 0; tx = berthAt (h .node) i .tx }) d .berth .tx)
+      → (partAfter (h .node .settings) (sideA h) (arrives d) .berth .tx ≡ cameA h d .berth .tx)
       × (partAfter (h .node .settings) (sideA h) (arrives d) .outgoing ≡ partOf i h .outgoing)
-      × (saidReports i (says (h .node .settings) (sideA h) (arrives d))
-      ≡ reported i receive (frameCame (h .node .settings) (record { rx = Rx.Idle; last = 0; tx = berthAt (h .node) i .tx }) d .old)
-      ++ wordReports i (frameCame (h .node .settings) (record { rx = Rx.Idle; last = 0; tx = berthAt (h .node) i .tx }) d .word))
+      × (saidReports i (says (h .node .settings) (sideA h) (arrives d)) ≡ reported i receive (cameA h d .old) ++ wordReports i (cameA h d .word))
   unfolding partAfter sideOf partOf says saidReports
   came-A h d = (refl, refl, refl)
 
@@ -359,14 +361,15 @@ module _ (i j : ℕ) (small-i : i < berthCount) (small-j : j < berthCount) (set 
         o ∙ b,
       )
 
+  -- a frame at the receive side of berth j alone
+  abbrev cameB : Held → List ℕ → Came
+  cameB h d =
+      frameCame (h .node .settings) (record { rx = berthAt (h .node) j .rx; last = berthAt (h .node) j .last; tx = Tx.Idle }) d
+
   came-B : (h : Held) (d : List ℕ)
-      → (partAfter (h .node .settings) (sideB h) (arrives d) .berth ≡ frameCame (h .node .settings) (record { rx = berthAt (h .node) j .rx; last = berthAt (h .node) j .last; tx = Tx.Idle }) d .berth)
-      × (partAfter (h .node .settings) (sideB h) (arrives d) .incoming
-      ≡ sets (partOf j h .incoming) (frameCame (h .node .settings) (record { rx = berthAt (h .node) j .rx; last = berthAt (h .node) j .last; tx = Tx.Idle }) d .place)
-      (frameCame (h .node .settings) (record { rx = berthAt (h .node) j .rx; last = berthAt (h .node) j .last; tx = Tx.Idle }) d .bytes))
-      × (says (h .node .settings) (sideB h) (arrives d)
-      ≡ hears (frameCame (h .node .settings) (record { rx = berthAt (h .node) j .rx; last = berthAt (h .node) j .last; tx = Tx.Idle }) d .old)
-      (frameCame (h .node .settings) (record { rx = berthAt (h .node) j .rx; last = berthAt (h .node) j .last; tx = Tx.Idle }) d .word))
+      → (partAfter (h .node .settings) (sideB h) (arrives d) .berth ≡ cameB h d .berth)
+      × (partAfter (h .node .settings) (sideB h) (arrives d) .incoming ≡ sets (partOf j h .incoming) (cameB h d .place) (cameB h d .bytes))
+      × (says (h .node .settings) (sideB h) (arrives d) ≡ hears (cameB h d .old) (cameB h d .word))
   unfolding partAfter sideOf partOf says
   came-B h d = (refl, refl, refl)
 
