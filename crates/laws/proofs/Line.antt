@@ -108,6 +108,36 @@ module _ (i j : ℕ) (set : Settings) (n : ℕ) (out : List ℕ) (E : List Hande
   abbrev rest : ℕ → ℕ → ℕ → List Handed
   rest count k l = inBlocks set count (span n out (suc l) k)
 
+  -- c frames are on the way, and the block is not full
+  pub record InBlock (q : List (List ℕ)) (o : Sending) (p : Taking) (ina : List ℕ) (k c l : ℕ) (g : List Handed) : Type 0 where
+    pub queued : q ≡ span n out c k
+    pub sender : SendAt n o (k + c)
+    pub taker : TakeAt n out p k ina
+    pub same-block : o .block ≡ set .block
+    pub counts : 0 < set .block → (o .sent ≡ p .taken + c) × (o .sent < set .block)
+    pub gap-most : o .gap ≤ longestGap
+    pub left-most : o .left ≤ longestGap
+    pub ahead : Ahead n (k + c) l
+    pub to-come : g ++ rest (o .sent) (k + c) l ≡ E
+
+  -- the last c frames and one of a full block are on the way
+  pub record BlockFull (q : List (List ℕ)) (o : Sending) (p : Taking) (ina : List ℕ) (k c l : ℕ) (g : List Handed) : Type 0 where
+    pub queued : q ≡ span n out (suc c) k
+    pub sender : SendAt n o (k + suc c)
+    pub taker : TakeAt n out p k ina
+    pub some-block : 0 < set .block
+    pub full : p .taken + suc c ≡ set .block
+    pub ahead : Ahead n (k + suc c) l
+    pub to-come : g ++ (back (goFrame set) ∷ rest 0 (k + suc c) l) ≡ E
+
+  -- the last c frames and one of the message are on the way
+  pub record LastSent (q : List (List ℕ)) (p : Taking) (ina : List ℕ) (k c : ℕ) (g : List Handed) : Type 0 where
+    pub queued : q ≡ span n out (suc c) k
+    pub ahead : Ahead n k c
+    pub taker : TakeAt n out p k ina
+    pub within : 0 < set .block → p .taken + suc c ≤ set .block
+    pub to-come : g ≡ E
+
   -- the phases of a transfer, and a bound of the steps to come
   pub data Phase : Line → ℕ → Type 0 where
     single-ready : (t last : ℕ) (ina : List ℕ) → n ≤ singleMost → n ≤ length ina → there (singleOf n out) ∷ [] ≡ E
@@ -126,21 +156,12 @@ module _ (i j : ℕ) (set : Settings) (n : ℕ) (out : List ℕ) (E : List Hande
     go-sent : (o : Sending) (t : ℕ) (p : Taking) (u last : ℕ) (ina : List ℕ) (k l : ℕ) (g : List Handed) → SendAt n o k → TakeAt n out p k ina
         → p .taken ≡ 0 → Ahead n k l → g ++ rest 0 k l ≡ E
         → Phase (under-way (Tx.AwaitsFlow o t) [] (goFrame set ∷ []) g (Rx.Awaits p u) last ina) (pace * suc l + 1)
-    -- c frames are on the way, and the block is not full
     in-block : (o : Sending) (t : ℕ) (q : List (List ℕ)) (p : Taking) (u last : ℕ) (ina : List ℕ) (k c l : ℕ) (g : List Handed)
-        → q ≡ span n out c k → SendAt n o (k + c) → TakeAt n out p k ina → o .block ≡ set .block
-        → (0 < set .block → (o .sent ≡ p .taken + c) × (o .sent < set .block)) → o .gap ≤ longestGap → o .left ≤ longestGap
-        → Ahead n (k + c) l → g ++ rest (o .sent) (k + c) l ≡ E
-        → Phase (under-way (Tx.Consecutive o t) q [] g (Rx.Awaits p u) last ina) (pace * suc l + (o .left + c))
-    -- the last c frames and one of a full block are on the way
+        → InBlock q o p ina k c l g → Phase (under-way (Tx.Consecutive o t) q [] g (Rx.Awaits p u) last ina) (pace * suc l + (o .left + c))
     block-full : (o : Sending) (t : ℕ) (q : List (List ℕ)) (p : Taking) (u last : ℕ) (ina : List ℕ) (k c l : ℕ) (g : List Handed)
-        → q ≡ span n out (suc c) k → SendAt n o (k + suc c) → TakeAt n out p k ina → 0 < set .block → p .taken + suc c ≡ set .block
-        → Ahead n (k + suc c) l → g ++ (back (goFrame set) ∷ rest 0 (k + suc c) l) ≡ E
-        → Phase (under-way (Tx.AwaitsFlow o t) q [] g (Rx.Awaits p u) last ina) (pace * suc l + (3 + c))
-    -- the last c frames and one of the message are on the way
+        → BlockFull q o p ina k c l g → Phase (under-way (Tx.AwaitsFlow o t) q [] g (Rx.Awaits p u) last ina) (pace * suc l + (3 + c))
     last-sent : (q : List (List ℕ)) (p : Taking) (u last : ℕ) (ina : List ℕ) (k c : ℕ) (g : List Handed)
-        → q ≡ span n out (suc c) k → Ahead n k c → TakeAt n out p k ina → (0 < set .block → p .taken + suc c ≤ set .block) → g ≡ E
-        → Phase (all-sent q g (Rx.Awaits p u) last ina) (suc c)
+        → LastSent q p ina k c g → Phase (all-sent q g (Rx.Awaits p u) last ina) (suc c)
     arrived : (ina : List ℕ) (g : List Handed) → take n ina ≡ take n out → g ≡ E → Phase (all-there g ina) 0
 
   -- a phase with fewer steps to come
@@ -283,14 +304,21 @@ module _ (i j : ℕ) (set : Settings) (n : ℕ) (out : List ℕ) (E : List Hande
   gap-falls o = refl
 
   -- a tick while a gap is left
-  pub gap-closes : (o : Sending) (t : ℕ) (q : List (List ℕ)) (p : Taking) (u last : ℕ) (ina : List ℕ) (k c l : ℕ) (g : List Handed)
-      → q ≡ span n out c k → SendAt n o (k + c) → TakeAt n out p k ina → o .block ≡ set .block
-      → (0 < set .block → (o .sent ≡ p .taken + c) × (o .sent < set .block)) → o .gap ≤ longestGap → o .left ≤ longestGap
-      → Ahead n (k + c) l → g ++ rest (o .sent) (k + c) l ≡ E
-      → Phase (under-way (Tx.Consecutive (closer o) t) q [] g (Rx.Awaits p u) last ina) (pace * suc l + (closer o .left + c))
+  pub gap-closes : (q : List (List ℕ)) (o : Sending) (p : Taking) (ina : List ℕ) (k c l : ℕ) (g : List Handed)
+      → InBlock q o p ina k c l g → InBlock q (closer o) p ina k c l g
   unfolding closer
-  gap-closes o t q p u last ina k c l g e s r b f gap left a w =
-      in-block (closer o) t q p u last ina k c l g e (closer-at o (k + c) s) r b f gap (omega arith) a w
+  gap-closes q o p ina k c l g r =
+      record {
+        queued = r .queued;
+        sender = closer-at o (k + c) (r .sender);
+        taker = r .taker;
+        same-block = r .same-block;
+        counts = r .counts;
+        gap-most = r .gap-most;
+        left-most = omega (arith, r .left-most);
+        ahead = r .ahead;
+        to-come = r .to-come;
+      }
 
   pub ticks-S : (l : Line) (m : ℕ) → txCode (l .tx) ≡ 0 → Phase l m → NoFarther m (tickS l)
   unfolding txTicked txCode
@@ -303,18 +331,17 @@ module _ (i j : ℕ) (set : Settings) (n : ℕ) (out : List ℕ) (E : List Hande
       rw (ran-on (λ v. Tx.AwaitsFlow o v) Tx.Idle t 2 k) (stays (go-owed o (t + 1) p u last ina f h g a b c e))
   ticks-S l m k (go-sent o t p u last ina f h g a b c d e) =
       rw (ran-on (λ v. Tx.AwaitsFlow o v) Tx.Idle t 2 k) (stays (go-sent o (t + 1) p u last ina f h g a b c d e))
-  ticks-S l m k (in-block o t q p u last ina f c h g a b d e x y z v w) = go (eqb-cases (o .left) 0)
+  ticks-S l m k (in-block o t q p u last ina f c h g r) = go (eqb-cases (o .left) 0)
     where
       go : Tested (eqb (o .left) 0) (o .left ≡ 0) (o .left ≡ 0 → ⊥)
           → NoFarther (pace * suc h + (o .left + c)) (tickS (under-way (Tx.Consecutive o t) q [] g (Rx.Awaits p u) last ina))
-      go (holds r s) =
-          rw (r, ran-on (λ v. Tx.Consecutive o v) Tx.Idle t 1 (rw r at k))
-          (stays (in-block o (t + 1) q p u last ina f c h g a b d e x y z v w))
-      go (fails r s) =
-          rw r (pace * suc h + (closer o .left + c), omega (arith, gap-falls o), gap-closes o t q p u last ina f c h g a b d e x y z v w)
-  ticks-S l m k (block-full o t q p u last ina f c h g a b d e x v w) =
-      rw (ran-on (λ v. Tx.AwaitsFlow o v) Tx.Idle t 2 k) (stays (block-full o (t + 1) q p u last ina f c h g a b d e x v w))
-  ticks-S l m k (last-sent q p u last ina f c g a b d e x) = (stays (last-sent q p u last ina f c g a b d e x))
+      go (holds d z) =
+          rw (d, ran-on (λ v. Tx.Consecutive o v) Tx.Idle t 1 (rw d at k)) (stays (in-block o (t + 1) q p u last ina f c h g r))
+      go (fails d z) =
+          rw d (pace * suc h + (closer o .left + c), omega (arith, gap-falls o), in-block (closer o) t q p u last ina f c h g (gap-closes q o p ina f c h g r))
+  ticks-S l m k (block-full o t q p u last ina f c h g r) =
+      rw (ran-on (λ v. Tx.AwaitsFlow o v) Tx.Idle t 2 k) (stays (block-full o (t + 1) q p u last ina f c h g r))
+  ticks-S l m k (last-sent q p u last ina f c g r) = (stays (last-sent q p u last ina f c g r))
   ticks-S l m k (arrived ina g a e) = (stays (arrived ina g a e))
 
   pub ticks-R : (l : Line) (m : ℕ) → rxCode (l .rx) ≡ 0 → Phase l m → NoFarther m (tickR l)
@@ -327,12 +354,12 @@ module _ (i j : ℕ) (set : Settings) (n : ℕ) (out : List ℕ) (E : List Hande
       rw (ran-on (λ v. Rx.OwesGo p v) Rx.Idle u 1 k) (stays (go-owed o t p (u + 1) last ina f h g a b c e))
   ticks-R l m k (go-sent o t p u last ina f h g a b c d e) =
       rw (ran-on (λ v. Rx.Awaits p v) Rx.Idle u 3 k) (stays (go-sent o t p (u + 1) last ina f h g a b c d e))
-  ticks-R l m k (in-block o t q p u last ina f c h g a b d e x y z v w) =
-      rw (ran-on (λ v. Rx.Awaits p v) Rx.Idle u 3 k) (stays (in-block o t q p (u + 1) last ina f c h g a b d e x y z v w))
-  ticks-R l m k (block-full o t q p u last ina f c h g a b d e x v w) =
-      rw (ran-on (λ v. Rx.Awaits p v) Rx.Idle u 3 k) (stays (block-full o t q p (u + 1) last ina f c h g a b d e x v w))
-  ticks-R l m k (last-sent q p u last ina f c g a b d e x) =
-      rw (ran-on (λ v. Rx.Awaits p v) Rx.Idle u 3 k) (stays (last-sent q p (u + 1) last ina f c g a b d e x))
+  ticks-R l m k (in-block o t q p u last ina f c h g r) =
+      rw (ran-on (λ v. Rx.Awaits p v) Rx.Idle u 3 k) (stays (in-block o t q p (u + 1) last ina f c h g r))
+  ticks-R l m k (block-full o t q p u last ina f c h g r) =
+      rw (ran-on (λ v. Rx.Awaits p v) Rx.Idle u 3 k) (stays (block-full o t q p (u + 1) last ina f c h g r))
+  ticks-R l m k (last-sent q p u last ina f c g r) =
+      rw (ran-on (λ v. Rx.Awaits p v) Rx.Idle u 3 k) (stays (last-sent q p (u + 1) last ina f c g r))
   ticks-R l m k (arrived ina g a e) = (stays (arrived ina g a e))
 
   -- ---- a frame of the message is handed over
@@ -357,65 +384,88 @@ module _ (i j : ℕ) (set : Settings) (n : ℕ) (out : List ℕ) (E : List Hande
   unfolding span inBlocks
   after-frame count k k′ l e = rw e
 
+  -- the frames on the way and this one
+  queue-on : (o : Sending) (t : ℕ) (q : List (List ℕ)) (p : Taking) (ina : List ℕ) (k c l : ℕ) (g : List Handed) → InBlock q o p ina k c l g
+      → q ++ (messageFrame (Tx.Consecutive o t) out ∷ []) ≡ span n out (suc c) k
+  queue-on o t q p ina k c l g r =
+      ap₂ (λ (x : List (List ℕ)) (y : List ℕ). x ++ (y ∷ [])) (r .queued) (frame-of o t (k + c) (r .sender)) ∙ sym (span-snoc n out c k)
+
   hand-on : (o : Sending) (t : ℕ) (q : List (List ℕ)) (p : Taking) (u last : ℕ) (ina : List ℕ) (k c l : ℕ) (g : List Handed)
-      → q ≡ span n out c k → SendAt n o (k + c) → TakeAt n out p k ina → o .block ≡ set .block
-      → (0 < set .block → (o .sent ≡ p .taken + c) × (o .sent < set .block)) → o .gap ≤ longestGap → o .left ≤ longestGap
-      → Ahead n (k + c) l → g ++ rest (o .sent) (k + c) l ≡ E
+      → InBlock q o p ina k c l g
       → Nearer (pace * suc l + (o .left + c)) (handS (under-way (Tx.Consecutive o t) q [] g (Rx.Awaits p u) last ina))
   unfolding afterMessage afterConsecutive messageCode reported moved
-  hand-on o t q p u last ina k c zero g e s r b f gap left a w =
-      let d : leb (toGo o) consecutiveMost ≡ true = leb-is (toGo o) consecutiveMost (unfold posAt in (omega (arith, to-go o (k + c) s, a .last))) in
-      let queue : q ++ (messageFrame (Tx.Consecutive o t) out ∷ []) ≡ span n out (suc c) k =
-      ap₂ (λ (x : List (List ℕ)) (y : List ℕ). x ++ (y ∷ [])) e (frame-of o t (k + c) s) ∙ sym (span-snoc n out c k) in
+  hand-on o t q p u last ina k c zero g r =
+      let d : leb (toGo o) consecutiveMost ≡ true = leb-is (toGo o) consecutiveMost (unfold posAt in (omega (arith, to-go o (k + c) (r .sender), r .ahead .last))) in
       let log : g ++ (there (messageFrame (Tx.Consecutive o t) out) ∷ []) ≡ E =
-      ap (λ (y : List ℕ). g ++ (there y ∷ [])) (frame-of o t (k + c) s) ∙ unfold inBlocks span in w in
-      rw d (nearer (last-sent _ p u last ina k c _ queue (record { more = s .more; last = unfold posAt in (omega (arith, a .last)) }) r
-      (λ h. let (x, y) = f h in omega arith) log) (omega arith))
-  hand-on o t q p u last ina k c (suc l) g e s r b f gap left a w = go (fills-cases (o .block) (o .sent))
+      ap (λ (y : List ℕ). g ++ (there y ∷ [])) (frame-of o t (k + c) (r .sender)) ∙ unfold inBlocks span in (r .to-come) in
+      rw d (nearer (last-sent _ p u last ina k c _ (record {
+        queued = queue-on o t q p ina k c zero g r;
+        ahead = record { more = r .sender .more; last = unfold posAt in (omega (arith, r .ahead .last)) };
+        taker = r .taker;
+        within = λ h. let (x, y) = r .counts h in omega arith;
+        to-come = log;
+      })) (omega arith))
+  hand-on o t q p u last ina k c (suc l) g r = go (fills-cases (o .block) (o .sent))
     where
       next : k + suc c ≡ suc (k + c)
       next = omega arith
 
       more : posAt (k + suc c) < n
-      more = unfold posAt in (omega (arith, a .more))
+      more = unfold posAt in (omega (arith, r .ahead .more))
 
       long : leb (toGo o) consecutiveMost ≡ false
-      long = leb-not (toGo o) consecutiveMost (unfold posAt in (omega (arith, to-go o (k + c) s, a .more)))
-
-      queue : q ++ (messageFrame (Tx.Consecutive o t) out ∷ []) ≡ span n out (suc c) k
-      queue = ap₂ (λ (x : List (List ℕ)) (y : List ℕ). x ++ (y ∷ [])) e (frame-of o t (k + c) s) ∙ sym (span-snoc n out c k)
+      long = leb-not (toGo o) consecutiveMost (unfold posAt in (omega (arith, to-go o (k + c) (r .sender), r .ahead .more)))
 
       ahead : Ahead n (k + suc c) l
-      ahead = record { more = unfold posAt in (omega (arith, a .more)); last = unfold posAt in (omega (arith, a .last)) }
+      ahead = record { more = unfold posAt in (omega (arith, r .ahead .more)); last = unfold posAt in (omega (arith, r .ahead .last)) }
 
-      log : (b : Bool) → fillsBlock (o .block) (o .sent) ≡ b
+      -- what is still to be handed over, by whether this frame fills the block
+      to-come : (b : Bool) → fillsBlock (o .block) (o .sent) ≡ b
           → (g ++ (there (messageFrame (Tx.Consecutive o t) out) ∷ []))
           ++ pick b (back (goFrame set) ∷ rest 0 (k + suc c) l) (rest (counted (o .block) (o .sent)) (k + suc c) l)
           ≡ E
-      log x y =
+      to-come x y =
           append-snoc g (there (messageFrame (Tx.Consecutive o t) out)) _
-          ∙ ap₂ (λ (z : List ℕ) (v : List Handed). g ++ there z ∷ v) (frame-of o t (k + c) s)
-          (ap₂ (λ (z : ℕ) (v : Bool). pick v (back (goFrame set) ∷ rest 0 (k + suc c) l) (rest (counted z (o .sent)) (k + suc c) l)) b (sym y ∙ ap (λ (z : ℕ). fillsBlock z (o .sent)) b))
+          ∙ ap₂ (λ (z : List ℕ) (v : List Handed). g ++ there z ∷ v) (frame-of o t (k + c) (r .sender))
+          (ap₂ (λ (z : ℕ) (v : Bool). pick v (back (goFrame set) ∷ rest 0 (k + suc c) l) (rest (counted z (o .sent)) (k + suc c) l)) (r .same-block)
+          (sym y ∙ ap (λ (z : ℕ). fillsBlock z (o .sent)) (r .same-block)))
           ∙ ap (λ (v : List Handed). g ++ v) (sym (after-frame (o .sent) (k + c) (k + suc c) l next))
-          ∙ w
+          ∙ r .to-come
 
       go : Tested (fillsBlock (o .block) (o .sent)) ((0 < o .block) × (o .sent + 1 ≡ o .block)) (0 < o .block → o .sent + 1 ≡ o .block → ⊥)
           → Nearer (pace * suc (suc l) + (o .left + c)) (handS (under-way (Tx.Consecutive o t) q [] g (Rx.Awaits p u) last ina))
       go (holds d x) =
-          let (y, z) = f (omega (arith, x .0, b)) in
-          rw (long, d) (nearer (block-full (moved o 0 0) 0 _ p u last ina k c l _ queue (sent-on o (k + c) (k + suc c) 0 0 s (omega arith) more) r
-          (omega (arith, x .0, b)) (omega (arith, x .1, b)) ahead (log true d)) (omega arith))
+          let b = r .same-block in
+          let (y, z) = r .counts (omega (arith, x .0)) in
+          rw (long, d) (nearer (block-full (moved o 0 0) 0 _ p u last ina k c l _ (record {
+            queued = queue-on o t q p ina k c (suc l) g r;
+            sender = sent-on o (k + c) (k + suc c) 0 0 (r .sender) (omega arith) more;
+            taker = r .taker;
+            some-block = omega (arith, x .0);
+            full = omega (arith, x .1);
+            ahead = ahead;
+            to-come = to-come true d;
+          })) (omega arith))
       go (fails d x) =
-          rw (long, d) (nearer (in-block (moved o (counted (o .block) (o .sent)) (o .gap)) 0 _ p u last ina k (suc c) l _ queue
-          (sent-on o (k + c) (k + suc c) (counted (o .block) (o .sent)) (o .gap) s (omega arith) more) r b
-          counts gap gap ahead (log false d)) (omega arith))
+          rw (long, d) (nearer (in-block (moved o (counted (o .block) (o .sent)) (o .gap)) 0 _ p u last ina k (suc c) l _ (record {
+            queued = queue-on o t q p ina k c (suc l) g r;
+            sender = sent-on o (k + c) (k + suc c) (counted (o .block) (o .sent)) (o .gap) (r .sender) (omega arith) more;
+            taker = r .taker;
+            same-block = r .same-block;
+            counts = counts;
+            gap-most = r .gap-most;
+            left-most = r .gap-most;
+            ahead = ahead;
+            to-come = to-come false d;
+          })) (omega (arith, r .gap-most)))
         where
           counts : 0 < set .block → (counted (o .block) (o .sent) ≡ p .taken + suc c) × (counted (o .block) (o .sent) < set .block)
           counts h =
-              let (y, z) = f h in
-              let v : 0 < o .block = omega (arith, b) in
+              let b = r .same-block in
+              let (y, z) = r .counts h in
+              let v : 0 < o .block = omega arith in
               let ne : o .sent + 1 ≡ o .block → ⊥ = x v in
-              (omega (arith, counted-on (o .block) (o .sent) v), omega (arith, counted-on (o .block) (o .sent) v, b))
+              (omega (arith, counted-on (o .block) (o .sent) v), omega (arith, counted-on (o .block) (o .sent) v))
 
   open-at : leastLong ≤ n → SendAt n (opened n) 0
   unfolding opened posAt snAt
@@ -431,9 +481,9 @@ module _ (i j : ℕ) (set : Settings) (n : ℕ) (out : List ℕ) (E : List Hande
   hands-S l m t (first-sent o u last ina h g a b c d e) = absurd t
   hands-S l m t (go-owed o u p v last ina f h g a b c e) = absurd t
   hands-S l m t (go-sent o u p v last ina f h g a b c d e) = absurd t
-  hands-S l m t (in-block o u q p v last ina f c h g a b d e x y z s w) = hand-on o u q p v last ina f c h g a b d e x y z s w
-  hands-S l m t (block-full o u q p v last ina f c h g a b d e x s w) = absurd t
-  hands-S l m t (last-sent q p u last ina f c g a b d e x) = absurd t
+  hands-S l m t (in-block o u q p v last ina f c h g r) = hand-on o u q p v last ina f c h g r
+  hands-S l m t (block-full o u q p v last ina f c h g r) = absurd t
+  hands-S l m t (last-sent q p u last ina f c g r) = absurd t
   hands-S l m t (arrived ina g a e) = absurd t
 
   -- ---- flow control is handed over
@@ -452,9 +502,9 @@ module _ (i j : ℕ) (set : Settings) (n : ℕ) (out : List ℕ) (E : List Hande
       unfold flowFrame afterFlow in (nearer (go-sent o u (newBlock p) 0 last ina f h _ a (new-block-at p f ina b) (unfold newBlock in refl) c
       (append-snoc g (back (goFrame set)) (rest 0 f h) ∙ e)) (omega arith))
   hands-R l m t (go-sent o u p v last ina f h g a b c d e) = absurd t
-  hands-R l m t (in-block o u q p v last ina f c h g a b d e x y z s w) = absurd t
-  hands-R l m t (block-full o u q p v last ina f c h g a b d e x s w) = absurd t
-  hands-R l m t (last-sent q p u last ina f c g a b d e x) = absurd t
+  hands-R l m t (in-block o u q p v last ina f c h g r) = absurd t
+  hands-R l m t (block-full o u q p v last ina f c h g r) = absurd t
+  hands-R l m t (last-sent q p u last ina f c g r) = absurd t
   hands-R l m t (arrived ina g a e) = absurd t
 
   -- ---- flow control comes in
@@ -497,9 +547,17 @@ module _ (i j : ℕ) (set : Settings) (n : ℕ) (out : List ℕ) (E : List Hande
       let (x, y, v, left) = granted-go o in
       let gap : granted o (goFrame set) .gap ≤ longestGap = omega (arith, gap-small (set .stmin)) in
       rw (e, went setS o t)
-      (nearer (in-block (granted o (goFrame set)) 0 [] p u last ina k 0 l g (unfold span in refl) (granted-at o (goFrame set) k (k + 0) s (no-shift k)) r x
-      (λ h. (omega arith, omega arith)) gap (omega arith)
-      (rw (no-shift k) a) (rw (v, no-shift k) w)) (omega arith))
+      (nearer (in-block (granted o (goFrame set)) 0 [] p u last ina k 0 l g (record {
+        queued = unfold span in refl;
+        sender = granted-at o (goFrame set) k (k + 0) s (no-shift k);
+        taker = r;
+        same-block = x;
+        counts = λ h. (omega arith, omega arith);
+        gap-most = gap;
+        left-most = omega arith;
+        ahead = rw (no-shift k) a;
+        to-come = rw (v, no-shift k) w;
+      })) (omega arith))
 
   pub carries-S : (setS : Settings) (l : Line) (m : ℕ) (d : List ℕ) (q : List (List ℕ)) → l .toS ≡ d ∷ q → Phase l m
       → Nearer m (tookS l q (frameCame setS (sending l) d))
@@ -510,9 +568,9 @@ module _ (i j : ℕ) (set : Settings) (n : ℕ) (out : List ℕ) (E : List Hande
   carries-S setS l m d q z (go-owed o t p u last ina f h g a b c e) = absurd (nil≢cons z)
   carries-S setS l m d q z (go-sent o t p u last ina f h g a b c x e) =
       rw (← (head-eq-of-cons-eq z), ← (tail-eq-of-cons-eq z)) (take-go setS o t p u last ina f h g a b c x e _ refl)
-  carries-S setS l m d q z (in-block o t r p u last ina f c h g a b x e y v w k s) = absurd (nil≢cons z)
-  carries-S setS l m d q z (block-full o t r p u last ina f c h g a b x e y k s) = absurd (nil≢cons z)
-  carries-S setS l m d q z (last-sent r p u last ina f c g a b x e y) = absurd (nil≢cons z)
+  carries-S setS l m d q z (in-block o t r p u last ina f c h g s) = absurd (nil≢cons z)
+  carries-S setS l m d q z (block-full o t r p u last ina f c h g s) = absurd (nil≢cons z)
+  carries-S setS l m d q z (last-sent r p u last ina f c g s) = absurd (nil≢cons z)
   carries-S setS l m d q z (arrived ina g a e) = absurd (nil≢cons z)
 
   -- ---- a frame of the message comes in
@@ -595,57 +653,74 @@ module _ (i j : ℕ) (set : Settings) (n : ℕ) (out : List ℕ) (E : List Hande
         rw (e, heard-right p u (l .last) (l .ina) k r, g, piece-at p k (l .ina) r, r .got, r .total) (unfold reported in refl)
 
     take-in-block : (o : Sending) (t : ℕ) (q : List (List ℕ)) (p : Taking) (u last : ℕ) (ina : List ℕ) (k c l : ℕ) (g : List Handed)
-        → SendAt n o (k + suc c) → TakeAt n out p k ina → o .block ≡ set .block
-        → (0 < set .block → (o .sent ≡ p .taken + suc c) × (o .sent < set .block)) → o .gap ≤ longestGap → o .left ≤ longestGap
-        → Ahead n (k + suc c) l → g ++ rest (o .sent) (k + suc c) l ≡ E
+        → InBlock q o p ina k (suc c) l g
         → (line : Line) → line ≡ under-way (Tx.Consecutive o t) q [] g (Rx.Awaits p u) last ina
         → Nearer (pace * suc l + (o .left + suc c)) (tookR line (span n out c (suc k)) (frameCame set (receiving line) (frameAt n out k)))
-    take-in-block o t q p u last ina k c l g s r b f gap left a w line e =
-        let m : posAt (suc k) < n = unfold posAt in (omega (arith, s .more)) in
-        let no : fillsBlock (set .block) (p .taken) ≡ false = fills-no (set .block) (p .taken) (λ h. let (x, y) = f h in omega arith) in
+    take-in-block o t q p u last ina k c l g r line e =
+        let m : posAt (suc k) < n = unfold posAt in (omega (arith, r .sender .more)) in
+        let room : fillsBlock (set .block) (p .taken) ≡ false = fills-no (set .block) (p .taken) (λ h. let (x, y) = r .counts h in omega arith) in
         let next : k + suc c ≡ suc k + c = omega arith in
-        rw e (rw (took-more (under-way (Tx.Consecutive o t) q [] g (Rx.Awaits p u) last ina) (span n out c (suc k)) p u k refl r m, no)
-        (nearer (in-block o t _ (grown p (counted (set .block) (p .taken))) 0 last _ (suc k) c l g refl (rw next at s) (take-on p k _ ina r m) b
-        (λ h. let (x, y) = f h in unfold grown in (omega (arith, counted-on (set .block) (p .taken) h))) gap left (rw next at a) (rw next at w))
-        (omega arith)))
+        rw e (rw (took-more (under-way (Tx.Consecutive o t) q [] g (Rx.Awaits p u) last ina) (span n out c (suc k)) p u k refl (r .taker) m, room)
+        (nearer (in-block o t _ (grown p (counted (set .block) (p .taken))) 0 last _ (suc k) c l g (record {
+          queued = refl;
+          sender = rw next at (r .sender);
+          taker = take-on p k _ ina (r .taker) m;
+          same-block = r .same-block;
+          counts = λ h. let (x, y) = r .counts h in unfold grown in (omega (arith, counted-on (set .block) (p .taken) h));
+          gap-most = r .gap-most;
+          left-most = r .left-most;
+          ahead = rw next at (r .ahead);
+          to-come = rw next at (r .to-come);
+        })) (omega arith)))
 
     take-block-full : (o : Sending) (t : ℕ) (q : List (List ℕ)) (p : Taking) (u last : ℕ) (ina : List ℕ) (k c l : ℕ) (g : List Handed)
-        → SendAt n o (k + suc c) → TakeAt n out p k ina → 0 < set .block → p .taken + suc c ≡ set .block
-        → Ahead n (k + suc c) l → g ++ (back (goFrame set) ∷ rest 0 (k + suc c) l) ≡ E
+        → BlockFull q o p ina k c l g
         → (line : Line) → line ≡ under-way (Tx.AwaitsFlow o t) q [] g (Rx.Awaits p u) last ina
         → Nearer (pace * suc l + (3 + c)) (tookR line (span n out c (suc k)) (frameCame set (receiving line) (frameAt n out k)))
     unfolding span
-    take-block-full o t q p u last ina k zero l g s r b f a w line e =
-        let m : posAt (suc k) < n = unfold posAt in (omega (arith, s .more)) in
-        let yes : fillsBlock (set .block) (p .taken) ≡ true = fills-yes (set .block) (p .taken) b (omega arith) in
+    take-block-full o t q p u last ina k zero l g r line e =
+        let m : posAt (suc k) < n = unfold posAt in (omega (arith, r .sender .more)) in
+        let full : fillsBlock (set .block) (p .taken) ≡ true = fills-yes (set .block) (p .taken) (r .some-block) (r .full) in
         let next : k + 1 ≡ suc k = omega arith in
-        rw e (rw (took-more (under-way (Tx.AwaitsFlow o t) q [] g (Rx.Awaits p u) last ina) [] p u k refl r m, yes)
-        (nearer (go-owed o t (grown p 0) 0 last _ (suc k) l g (rw next at s) (take-on p k 0 ina r m) (rw next at a) (rw next at w)) (omega arith)))
-    take-block-full o t q p u last ina k (suc c) l g s r b f a w line e =
-        let m : posAt (suc k) < n = unfold posAt in (omega (arith, s .more)) in
-        let no : fillsBlock (set .block) (p .taken) ≡ false = fills-no (set .block) (p .taken) (λ h. omega arith) in
+        rw e (rw (took-more (under-way (Tx.AwaitsFlow o t) q [] g (Rx.Awaits p u) last ina) [] p u k refl (r .taker) m, full)
+        (nearer (go-owed o t (grown p 0) 0 last _ (suc k) l g (rw next at (r .sender)) (take-on p k 0 ina (r .taker) m) (rw next at (r .ahead)) (rw next at (r .to-come)))
+        (omega arith)))
+    take-block-full o t q p u last ina k (suc c) l g r line e =
+        let m : posAt (suc k) < n = unfold posAt in (omega (arith, r .sender .more)) in
+        let f = r .full in
+        let room : fillsBlock (set .block) (p .taken) ≡ false = fills-no (set .block) (p .taken) (λ h. omega arith) in
         let next : k + suc (suc c) ≡ suc k + suc c = omega arith in
-        rw e (rw (took-more (under-way (Tx.AwaitsFlow o t) q [] g (Rx.Awaits p u) last ina) (span n out (suc c) (suc k)) p u k refl r m, no)
-        (nearer (block-full o t _ (grown p (counted (set .block) (p .taken))) 0 last _ (suc k) c l g refl (rw next at s) (take-on p k _ ina r m) b
-        (unfold grown in (omega (arith, counted-on (set .block) (p .taken) b, f))) (rw next at a) (rw next at w)) (omega arith)))
+        rw e (rw (took-more (under-way (Tx.AwaitsFlow o t) q [] g (Rx.Awaits p u) last ina) (span n out (suc c) (suc k)) p u k refl (r .taker) m, room)
+        (nearer (block-full o t _ (grown p (counted (set .block) (p .taken))) 0 last _ (suc k) c l g (record {
+          queued = refl;
+          sender = rw next at (r .sender);
+          taker = take-on p k _ ina (r .taker) m;
+          some-block = r .some-block;
+          full = unfold grown in (omega (arith, counted-on (set .block) (p .taken) (r .some-block)));
+          ahead = rw next at (r .ahead);
+          to-come = rw next at (r .to-come);
+        })) (omega arith)))
 
-    take-last : (q : List (List ℕ)) (p : Taking) (u last : ℕ) (ina : List ℕ) (k c : ℕ) (g : List Handed)
-        → Ahead n k c → TakeAt n out p k ina → (0 < set .block → p .taken + suc c ≤ set .block) → g ≡ E
+    take-last : (q : List (List ℕ)) (p : Taking) (u last : ℕ) (ina : List ℕ) (k c : ℕ) (g : List Handed) → LastSent q p ina k c g
         → (line : Line) → line ≡ all-sent q g (Rx.Awaits p u) last ina
         → Nearer (suc c) (tookR line (span n out c (suc k)) (frameCame set (receiving line) (frameAt n out k)))
     unfolding span
-    take-last q p u last ina k zero g a r f w line e =
-        let m : n ≤ posAt (suc k) = unfold posAt in (omega (arith, a .last)) in
-        let whole : posAt k + share consecutiveMost (n - posAt k) ≡ n = unfold posAt share in (omega (arith, a .last, r .more)) in
-        rw e (rw (took-last (all-sent q g (Rx.Awaits p u) last ina) [] p u k refl r m)
-        (nearer (arrived _ g (rw whole at (grows n out fit ina k (r .fits) (omega (arith, r .more)) (r .same))) w) (omega arith)))
-    take-last q p u last ina k (suc c) g a r f w line e =
-        let m : posAt (suc k) < n = unfold posAt in (omega (arith, a .more)) in
-        let no : fillsBlock (set .block) (p .taken) ≡ false = fills-no (set .block) (p .taken) (λ h. let x : p .taken + suc (suc c) ≤ set .block = f h in omega arith) in
-        rw e (rw (took-more (all-sent q g (Rx.Awaits p u) last ina) (span n out (suc c) (suc k)) p u k refl r m, no)
-        (nearer (last-sent _ (grown p (counted (set .block) (p .taken))) 0 last _ (suc k) c g refl
-        (record { more = unfold posAt in (omega (arith, a .more)); last = unfold posAt in (omega (arith, a .last)) }) (take-on p k _ ina r m)
-        (λ h. let x : p .taken + suc (suc c) ≤ set .block = f h in unfold grown in (omega (arith, counted-on (set .block) (p .taken) h))) w) (omega arith)))
+    take-last q p u last ina k zero g r line e =
+        let m : n ≤ posAt (suc k) = unfold posAt in (omega (arith, r .ahead .last)) in
+        let whole : posAt k + share consecutiveMost (n - posAt k) ≡ n = unfold posAt share in (omega (arith, r .ahead .last, r .taker .more)) in
+        rw e (rw (took-last (all-sent q g (Rx.Awaits p u) last ina) [] p u k refl (r .taker) m)
+        (nearer (arrived _ g (rw whole at (grows n out fit ina k (r .taker .fits) (omega (arith, r .taker .more)) (r .taker .same))) (r .to-come)) (omega arith)))
+    take-last q p u last ina k (suc c) g r line e =
+        let m : posAt (suc k) < n = unfold posAt in (omega (arith, r .ahead .more)) in
+        let room : fillsBlock (set .block) (p .taken) ≡ false = fills-no (set .block) (p .taken) (λ h. let x : p .taken + suc (suc c) ≤ set .block = r .within h in omega arith) in
+        rw e (rw (took-more (all-sent q g (Rx.Awaits p u) last ina) (span n out (suc c) (suc k)) p u k refl (r .taker) m, room)
+        (nearer (last-sent _ (grown p (counted (set .block) (p .taken))) 0 last _ (suc k) c g (record {
+          queued = refl;
+          ahead = record { more = unfold posAt in (omega (arith, r .ahead .more)); last = unfold posAt in (omega (arith, r .ahead .last)) };
+          taker = take-on p k _ ina (r .taker) m;
+          within = λ h. let x : p .taken + suc (suc c) ≤ set .block = r .within h in unfold grown in (omega (arith, counted-on (set .block) (p .taken) h));
+          to-come = r .to-come;
+        })) (omega arith)))
 
     front : (ina : List ℕ) (k : ℕ) → k ≤ n → n ≤ length ina → take k (sets ina 0 (take k out)) ≡ take k out
     front ina k a b =
@@ -685,13 +760,13 @@ module _ (i j : ℕ) (set : Settings) (n : ℕ) (out : List ℕ) (E : List Hande
           (unfold tookR wordReports reported deliveredIn in (nearer (go-owed o t (taking n) 0 0 _ 0 h g c (taking-at a ina b) x e) (omega arith)))
       carries-R l m d q z (go-owed o t p u last ina f h g a b c e) = absurd (nil≢cons z)
       carries-R l m d q z (go-sent o t p u last ina f h g a b c x e) = absurd (nil≢cons z)
-      carries-R l m d q z (in-block o t r p u last ina f zero h g a b x e y v w k s) = absurd (nil≢cons (sym a ∙ z))
-      carries-R l m d q z (in-block o t r p u last ina f (suc c) h g a b x e y v w k s) =
-          rw (← (head-eq-of-cons-eq (sym a ∙ z)), ← (tail-eq-of-cons-eq (sym a ∙ z))) (take-in-block o t r p u last ina f c h g b x e y v w k s _ refl)
-      carries-R l m d q z (block-full o t r p u last ina f c h g a b x e y k s) =
-          rw (← (head-eq-of-cons-eq (sym a ∙ z)), ← (tail-eq-of-cons-eq (sym a ∙ z))) (take-block-full o t r p u last ina f c h g b x e y k s _ refl)
-      carries-R l m d q z (last-sent r p u last ina f c g a b x e y) =
-          rw (← (head-eq-of-cons-eq (sym a ∙ z)), ← (tail-eq-of-cons-eq (sym a ∙ z))) (take-last r p u last ina f c g b x e y _ refl)
+      carries-R l m d q z (in-block o t r p u last ina f zero h g s) = absurd (nil≢cons (sym (s .queued) ∙ z))
+      carries-R l m d q z (in-block o t r p u last ina f (suc c) h g s) =
+          rw (← (head-eq-of-cons-eq (sym (s .queued) ∙ z)), ← (tail-eq-of-cons-eq (sym (s .queued) ∙ z))) (take-in-block o t r p u last ina f c h g s _ refl)
+      carries-R l m d q z (block-full o t r p u last ina f c h g s) =
+          rw (← (head-eq-of-cons-eq (sym (s .queued) ∙ z)), ← (tail-eq-of-cons-eq (sym (s .queued) ∙ z))) (take-block-full o t r p u last ina f c h g s _ refl)
+      carries-R l m d q z (last-sent r p u last ina f c g s) =
+          rw (← (head-eq-of-cons-eq (sym (s .queued) ∙ z)), ← (tail-eq-of-cons-eq (sym (s .queued) ∙ z))) (take-last r p u last ina f c g s _ refl)
       carries-R l m d q z (arrived ina g a e) = absurd (nil≢cons z)
 
       consecutive-whole : (k : ℕ) (d : List ℕ) → frameAt n out k ≡ d → (length d ≡ frameLength) × (kind d ≡ flowKind → ⊥)
@@ -710,10 +785,10 @@ module _ (i j : ℕ) (set : Settings) (n : ℕ) (out : List ℕ) (E : List Hande
           (rw h at (first-length n out fit), (λ y. omega (arith, first-kind n out fit (omega arith), ap kind h)))
       there-whole l m d q z (go-owed o t p u last ina f h g a b c e) = absurd (nil≢cons z)
       there-whole l m d q z (go-sent o t p u last ina f h g a b c x e) = absurd (nil≢cons z)
-      there-whole l m d q z (in-block o t r p u last ina f zero h g a b x e y v w k s) = absurd (nil≢cons (sym a ∙ z))
-      there-whole l m d q z (in-block o t r p u last ina f (suc c) h g a b x e y v w k s) = consecutive-whole f d (head-eq-of-cons-eq (sym a ∙ z))
-      there-whole l m d q z (block-full o t r p u last ina f c h g a b x e y k s) = consecutive-whole f d (head-eq-of-cons-eq (sym a ∙ z))
-      there-whole l m d q z (last-sent r p u last ina f c g a b x e y) = consecutive-whole f d (head-eq-of-cons-eq (sym a ∙ z))
+      there-whole l m d q z (in-block o t r p u last ina f zero h g s) = absurd (nil≢cons (sym (s .queued) ∙ z))
+      there-whole l m d q z (in-block o t r p u last ina f (suc c) h g s) = consecutive-whole f d (head-eq-of-cons-eq (sym (s .queued) ∙ z))
+      there-whole l m d q z (block-full o t r p u last ina f c h g s) = consecutive-whole f d (head-eq-of-cons-eq (sym (s .queued) ∙ z))
+      there-whole l m d q z (last-sent r p u last ina f c g s) = consecutive-whole f d (head-eq-of-cons-eq (sym (s .queued) ∙ z))
       there-whole l m d q z (arrived ina g a e) = absurd (nil≢cons z)
 
       go-whole : (d : List ℕ) → goFrame set ≡ d → (length d ≡ frameLength) × (kind d ≡ flowKind)
@@ -726,9 +801,9 @@ module _ (i j : ℕ) (set : Settings) (n : ℕ) (out : List ℕ) (E : List Hande
       back-whole l m d q z (first-sent o t last ina h g a b c x e) = absurd (nil≢cons z)
       back-whole l m d q z (go-owed o t p u last ina f h g a b c e) = absurd (nil≢cons z)
       back-whole l m d q z (go-sent o t p u last ina f h g a b c x e) = go-whole d (head-eq-of-cons-eq z)
-      back-whole l m d q z (in-block o t r p u last ina f c h g a b x e y v w k s) = absurd (nil≢cons z)
-      back-whole l m d q z (block-full o t r p u last ina f c h g a b x e y k s) = absurd (nil≢cons z)
-      back-whole l m d q z (last-sent r p u last ina f c g a b x e y) = absurd (nil≢cons z)
+      back-whole l m d q z (in-block o t r p u last ina f c h g s) = absurd (nil≢cons z)
+      back-whole l m d q z (block-full o t r p u last ina f c h g s) = absurd (nil≢cons z)
+      back-whole l m d q z (last-sent r p u last ina f c g s) = absurd (nil≢cons z)
       back-whole l m d q z (arrived ina g a e) = absurd (nil≢cons z)
 
       -- ---- the start
@@ -771,9 +846,9 @@ module _ (i j : ℕ) (set : Settings) (n : ℕ) (out : List ℕ) (E : List Hande
   at-rest l m (first-sent o t last ina h g a b c x e) r s due gap flow = absurd (nil≢cons (sym r))
   at-rest l m (go-owed o t p u last ina f h g a b c e) r s due gap flow = let z : _≡_ {A = ℕ} 0 1 = cc in absurd (omega arith)
   at-rest l m (go-sent o t p u last ina f h g a b c x e) r s due gap flow = absurd (nil≢cons (sym s))
-  at-rest l m (in-block o t q p u last ina f c h g a b x e y v w k z) r s due gap flow =
+  at-rest l m (in-block o t q p u last ina f c h g z) r s due gap flow =
       let d : _≡_ {A = ℕ} 0 1 = cc (eqb-is (o .left) 0 gap) in absurd (omega arith)
-  at-rest l m (block-full o t q p u last ina f c h g a b x e y k z) r s due gap flow = absurd (nil≢cons (sym r ∙ a))
-  at-rest l m (last-sent q p u last ina f c g a b x e y) r s due gap flow = absurd (nil≢cons (sym r ∙ a))
+  at-rest l m (block-full o t q p u last ina f c h g z) r s due gap flow = absurd (nil≢cons (sym r ∙ z .queued))
+  at-rest l m (last-sent q p u last ina f c g z) r s due gap flow = absurd (nil≢cons (sym r ∙ z .queued))
   at-rest l m (arrived ina g a e) r s due gap flow =
       record { bytes = a; last = refl; said = refl; heard = refl; delivered = refl; log = e; tx = refl; rx = refl }

@@ -60,9 +60,9 @@ module _ (i j : ℕ) (set : Settings) (n : ℕ) (out : List ℕ) (E : List Hande
   gap-most l m (first-sent o t last ina h g a b c x e) = omega arith
   gap-most l m (go-owed o t p u last ina f h g a b c e) = omega arith
   gap-most l m (go-sent o t p u last ina f h g a b c x e) = omega arith
-  gap-most l m (in-block o t q p u last ina f c h g a b x e y v w k z) = w
-  gap-most l m (block-full o t q p u last ina f c h g a b x e y k z) = omega arith
-  gap-most l m (last-sent q p u last ina f c g a b x e y) = omega arith
+  gap-most l m (in-block o t q p u last ina f c h g r) = r .left-most
+  gap-most l m (block-full o t q p u last ina f c h g r) = omega arith
+  gap-most l m (last-sent q p u last ina f c g r) = omega arith
   gap-most l m (arrived ina g a e) = omega arith
 
   pub young-start : (l : Line) (m : ℕ) → Phase i j set n out E l m → l .rx ≡ Rx.Idle → Young l
@@ -94,20 +94,20 @@ module _ (i j : ℕ) (set : Settings) (n : ℕ) (out : List ℕ) (E : List Hande
         rw (← (head-eq-of-cons-eq z), heard-first i j set n out E fit some in-area small a last) (unfold tookR timer in refl)
     timer-there l m d q z (go-owed o t p u last ina f h g a b c e) = absurd (nil≢cons z)
     timer-there l m d q z (go-sent o t p u last ina f h g a b c x e) = absurd (nil≢cons z)
-    timer-there l m d q z (in-block o t r p u last ina f zero h g a b x e y v w k s) = absurd (nil≢cons (sym a ∙ z))
-    timer-there l m d q z (in-block o t r p u last ina f (suc c) h g a b x e y v w k s) =
-        rw (← (head-eq-of-cons-eq (sym a ∙ z)))
-        (timer-more (under-way i j set n out E (Tx.Consecutive o t) r [] g (Rx.Awaits p u) last ina) q p u f refl x (unfold posAt in (omega (arith, b .more))))
-    timer-there l m d q z (block-full o t r p u last ina f c h g a b x e y k s) =
-        rw (← (head-eq-of-cons-eq (sym a ∙ z)))
-        (timer-more (under-way i j set n out E (Tx.AwaitsFlow o t) r [] g (Rx.Awaits p u) last ina) q p u f refl x (unfold posAt in (omega (arith, b .more))))
-    timer-there l m d q z (last-sent r p u last ina f zero g a b x e y) =
-        rw (← (head-eq-of-cons-eq (sym a ∙ z)))
-        (ap (λ (x : Line). timer (x .rx)) (took-last i j set n out E fit (all-sent i j set n out E r g (Rx.Awaits p u) last ina) q p u f refl x (unfold posAt in (omega (arith, b .last))))
+    timer-there l m d q z (in-block o t r p u last ina f zero h g s) = absurd (nil≢cons (sym (s .queued) ∙ z))
+    timer-there l m d q z (in-block o t r p u last ina f (suc c) h g s) =
+        rw (← (head-eq-of-cons-eq (sym (s .queued) ∙ z)))
+        (timer-more (under-way i j set n out E (Tx.Consecutive o t) r [] g (Rx.Awaits p u) last ina) q p u f refl (s .taker) (unfold posAt in (omega (arith, s .sender .more))))
+    timer-there l m d q z (block-full o t r p u last ina f c h g s) =
+        rw (← (head-eq-of-cons-eq (sym (s .queued) ∙ z)))
+        (timer-more (under-way i j set n out E (Tx.AwaitsFlow o t) r [] g (Rx.Awaits p u) last ina) q p u f refl (s .taker) (unfold posAt in (omega (arith, s .sender .more))))
+    timer-there l m d q z (last-sent r p u last ina f zero g s) =
+        rw (← (head-eq-of-cons-eq (sym (s .queued) ∙ z)))
+        (ap (λ (x : Line). timer (x .rx)) (took-last i j set n out E fit (all-sent i j set n out E r g (Rx.Awaits p u) last ina) q p u f refl (s .taker) (unfold posAt in (omega (arith, s .ahead .last))))
         ∙ unfold timer in refl)
-    timer-there l m d q z (last-sent r p u last ina f (suc c) g a b x e y) =
-        rw (← (head-eq-of-cons-eq (sym a ∙ z)))
-        (timer-more (all-sent i j set n out E r g (Rx.Awaits p u) last ina) q p u f refl x (unfold posAt in (omega (arith, b .more))))
+    timer-there l m d q z (last-sent r p u last ina f (suc c) g s) =
+        rw (← (head-eq-of-cons-eq (sym (s .queued) ∙ z)))
+        (timer-more (all-sent i j set n out E r g (Rx.Awaits p u) last ina) q p u f refl (s .taker) (unfold posAt in (omega (arith, s .ahead .more))))
     timer-there l m d q z (arrived ina g a e) = absurd (nil≢cons z)
 
     pub young-there : (l : Line) (m : ℕ) (d : List ℕ) (q : List (List ℕ)) → l .toR ≡ d ∷ q → Phase i j set n out E l m
@@ -128,9 +128,9 @@ module _ (i j : ℕ) (set : Settings) (n : ℕ) (out : List ℕ) (E : List Hande
         let (r, s, v, left) = granted-go i j set n out E o in
         rw (← (head-eq-of-cons-eq z), went i j set n out E setS o t)
         (unfold tookS timer gapNow in (λ w. let k : u + 0 ≤ longestGap = unfold timer gapNow in (y refl) in omega arith))
-    young-back setS l m d q z (in-block o t r p u last ina f c h g a b x e v w k s y) yo = absurd (nil≢cons z)
-    young-back setS l m d q z (block-full o t r p u last ina f c h g a b x e v k s) y = absurd (nil≢cons z)
-    young-back setS l m d q z (last-sent r p u last ina f c g a b x e v) y = absurd (nil≢cons z)
+    young-back setS l m d q z (in-block o t r p u last ina f c h g s) y = absurd (nil≢cons z)
+    young-back setS l m d q z (block-full o t r p u last ina f c h g s) y = absurd (nil≢cons z)
+    young-back setS l m d q z (last-sent r p u last ina f c g s) y = absurd (nil≢cons z)
     young-back setS l m d q z (arrived ina g a e) y = absurd (nil≢cons z)
 
     -- ---- what to do next
@@ -163,16 +163,16 @@ module _ (i j : ℕ) (set : Settings) (n : ℕ) (out : List ℕ) (E : List Hande
     next l m (first-sent o t last ina h g a b c x e) y = bring-there _ _ refl
     next l m (go-owed o t p u last ina f h g a b c e) y = hand-flow tt
     next l m (go-sent o t p u last ina f h g a b c x e) y = bring-back _ _ refl
-    next l m (in-block o t q p u last ina f zero h g a b x e v w s k z) y = go (eqb-cases (o .left) 0)
+    next l m (in-block o t q p u last ina f zero h g s) y = go (eqb-cases (o .left) 0)
       where
         go : Tested (eqb (o .left) 0) (o .left ≡ 0) (o .left ≡ 0 → ⊥)
             → Next (under-way i j set n out E (Tx.Consecutive o t) q [] g (Rx.Awaits p u) last ina) (pace * suc h + (o .left + 0))
         go (holds r c) = hand-message (rw r tt)
         go (fails r c) =
-            waits o t q p u last ina f h (pace * suc h + (closer o .left + 0)) g a c r y
-            (gap-closes i j set n out E o t q p (u + 1) last ina f zero h g a b x e v w s k z)
+            waits o t q p u last ina f h (pace * suc h + (closer o .left + 0)) g (s .queued) c r y
+            (in-block (closer o) t q p (u + 1) last ina f zero h g (gap-closes i j set n out E q o p ina f zero h g s))
             (pace * suc h + (o .left + 0)) (omega (arith, gap-falls i j set n out E o))
-    next l m (in-block o t q p u last ina f (suc c) h g a b x e v w s k z) y = bring-there _ _ a
-    next l m (block-full o t q p u last ina f c h g a b x e v k z) y = bring-there _ _ a
-    next l m (last-sent q p u last ina f c g a b x e v) y = bring-there _ _ a
+    next l m (in-block o t q p u last ina f (suc c) h g s) y = bring-there _ _ (s .queued)
+    next l m (block-full o t q p u last ina f c h g s) y = bring-there _ _ (s .queued)
+    next l m (last-sent q p u last ina f c g s) y = bring-there _ _ (s .queued)
     next l m (arrived ina g a e) y = at-end refl refl refl refl refl
