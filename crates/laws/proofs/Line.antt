@@ -816,12 +816,12 @@ module _ (i j : ℕ) (set : Settings) (n : ℕ) (out : List ℕ) (E : List Hande
           go : Tested (leb n singleMost) (n ≤ singleMost) (singleMost < n) → (m : ℕ) × Phase (under-way (beginsWith n) [] [] [] Rx.Idle last ina) m
           go (holds e a) = rw e (2, single-ready 0 last ina a h (ap (exchanged set) (sym (frames-single n out fit a)) ∙ w))
           go (fails e a) =
-              let more : posAt ((n - 7) / 7) < n = unfold posAt in (omega arith) in
-              let last′ : n ≤ posAt (suc ((n - 7) / 7)) = unfold posAt in (omega arith) in
+              let more : posAt ((n - suc firstBytes) / consecutiveMost) < n = unfold posAt in (omega arith) in
+              let last′ : n ≤ posAt (suc ((n - suc firstBytes) / consecutiveMost)) = unfold posAt in (omega arith) in
               rw e (
                 _,
-                first-ready 0 last ina ((n - 7) / 7) a h (record { more = unfold posAt in (omega arith); last = unfold posAt in (omega arith) })
-                    (ap (exchanged set) (sym (frames-long n out fit ((n - 7) / 7) a more last′)) ∙ w),
+                first-ready 0 last ina ((n - suc firstBytes) / consecutiveMost) a h (record { more = unfold posAt in (omega arith); last = unfold posAt in (omega arith) })
+                    (ap (exchanged set) (sym (frames-long n out fit ((n - suc firstBytes) / consecutiveMost) a more last′)) ∙ w),
               )
 
   -- ---- at rest
