@@ -11,10 +11,10 @@ use lib.Seq.{sets}
 use lib.Dec.{T, eqb, ltb, leb, le→leb, lt→ltb}
 use mir.Facts.{eqb-yes, yes-eqb, yes-leb, yes-and}
 use Rattle.rules.specs.Tests.{pick, Need, firstUnmet}
-use Rattle.rules.specs.Numbers.{berthCount, fromBerth, toBerth, frameLength, flowKind, goStatus, waitStatus, overflowStatus, consecutiveMost, shortMost}
+use Rattle.rules.specs.Numbers.{berthCount, fromBerth, toBerth, frameLength, singleKind, firstKind, consecutiveKind, flowKind, goStatus, waitStatus, overflowStatus, consecutiveMost, shortMost}
 use Rattle.rules.specs.Ranges.{berthAt, BerthRange, TxRange}
 use Rattle.rules.specs.Frames.{kind, low, padded, singleFits, announced, firstFits, consecutiveFits, flowFits, singleFrame, firstFrame, consecutiveFrame, goFrame, overflowFrame}
-use Rattle.rules.specs.Arrivals.{Heard, Told, Came, ignored, singleCame, firstCame, aboveArea, turnedAway, begun, missing, completed, took, wrongSn, awaitedCame, consecutiveCame, byStatus, flowIgnored, flowCame, heardBy, toldBy, frameCame}
+use Rattle.rules.specs.Arrivals.{Heard, Told, Came, ignored, singleCame, firstCame, aboveArea, turnedAway, begun, missing, completed, took, wrongSn, awaitedCame, consecutiveCame, byStatus, flowIgnored, flowCame, heardBy, toldBy, byKind, frameCame}
 use Rattle.rules.specs.Turns.{flowDue, messageDue, due, flowFrame, messageFrame, handOver}
 use Rattle.rules.specs.Stores.{Held, rightStore, inside, passedOver, reached, cameAt, handedAt}
 use Rattle.rules.specs.Answers.{Side, receive, send as sendSide, Report, reported, wordReports}
@@ -27,7 +27,7 @@ use Rattle.rules.specs.declared.Tx.{Tx}
 use Rattle.rules.specs.declared.Berth.{Berth}
 use Rattle.rules.specs.declared.Word.{Word}
 use Rattle.rules.specs.declared.Word.the-variants.{Delivered, Begun, Failed, Ignored, TooLong, Took, Going, Waiting}
-use Rattle.rules.proofs.Cases.{Tested, holds, fails, test-cases, eqb-cases, ltb-cases, eqb-is, eqb-not, ltb-is, is-true, is-false, or-cases, pick-either}
+use Rattle.rules.proofs.Cases.{Tested, holds, fails, test-cases, eqb-cases, ltb-cases, eqb-is, eqb-not, ltb-is, is-true, is-false, or-cases, or-left, or-right, pick-either}
 use Rattle.rules.proofs.Ranges.{range-in-order}
 use Rattle.rules.proofs.Order.{frame-inside}
 use Rattle.rules.proofs.Round.{reached-due}
@@ -94,6 +94,18 @@ frame-nothing b set d t =
     let (why, e) = ignored-why (frameCame set b d .word) t in
     let (x, y) = ignored-leaves why set b d e in
     (x, frame-old set b d t, y)
+
+-- EMPTY FRAMES AND KINDS 4 TO 15 are ignored, whatever the berth's state, so they spare both sides of every berth
+noise-ignored : (set : Settings) (b : Berth) (d : List ℕ) → (length d ≡ 0) ⊎ (flowKind < kind d) → T (isIgnored (frameCame set b d .word))
+unfolding frameCame byKind heardBy ignored
+noise-ignored set b d (inl e) = rw (eqb-is (length d) 0 e) tt
+noise-ignored set b d (inr h) =
+    rw (eqb-not (kind d) singleKind (λ e. omega arith), eqb-not (kind d) firstKind (λ e. omega arith), eqb-not (kind d) consecutiveKind (λ e. omega arith), eqb-not (kind d) flowKind (λ e. omega arith))
+    (pick-either (λ (c : Came). T (isIgnored (c .word))) (eqb (length d) 0) _ _ (λ t. tt) (λ t. tt))
+
+pub noise-spares : (s : Side) (k : ℕ) (h : Held) (id : ℕ) (d : List ℕ) → (length d ≡ 0) ⊎ (flowKind < kind d) → Spares s k h (frame id d)
+unfolding spares cameAt
+noise-spares s k h id d n e = or-right (not (eqb (senderOf id) k)) _ (or-left (isIgnored (cameAt h k d .word)) _ (noise-ignored (h .node .settings) (berthAt (h .node) k) d n))
 
 -- no report and no Delivered in an ignored frame's answer
 ignored-reports : (k : ℕ) (w : Word) → T (isIgnored w) → wordReports k w ≡ []
