@@ -1,4 +1,5 @@
--- Demand 3, second half: which berths had turns in a run, and what it is that a berth stays due. A run may start anywhere, so any stretch of a run is meant.
+-- Demand 3, second half: which berths had turns in a run, and what it is that a berth stays due. A run may start anywhere, so any
+-- stretch of a run is meant.
 use Prim.Native.Nat.{ℕ, _≤_}
 use mathlib.Core.Path.{_≡_}
 use mathlib.Core.Bool.{Bool, false}
