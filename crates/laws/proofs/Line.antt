@@ -26,7 +26,7 @@ use Rattle.rules.specs.declared.Tx.{Tx}
 use Rattle.rules.specs.declared.Berth.{Berth}
 use Rattle.rules.specs.declared.Word.the-variants.{Delivered, Begun, Going}
 use Rattle.rules.proofs.Cases.{Tested, holds, fails, eqb-cases, ltb-cases, leb-cases, eqb-is, leb-is, leb-not, ltb-not, pick-either, tests}
-use Rattle.rules.proofs.Order.{fills-cases}
+use Rattle.rules.proofs.Order.{fills-cases, gap-small}
 use Rattle.laws.specs.Line.{Handed, there, back, deliveredIn, gapLeft, inBlocks, exchanged}
 use Rattle.laws.proofs.Frames.{extended, fills-no, fills-yes, counted-on, snAt, posAt, sn-next, partAt, frameAt, span, span-snoc, singleOf, firstOf, frame-length, frame-kind, frame-low, frame-data, grows, single-length, single-low, single-kind, single-data, single-fits, first-length, first-kind, first-data, first-announced, first-fits, frames-single, frames-long}
 
@@ -508,12 +508,6 @@ module _ (i j : ℕ) (set : Settings) (n : ℕ) (out : List ℕ) (E : List Hande
   hands-R l m t (arrived ina g a e) = absurd t
 
   -- ---- flow control comes in
-
-  gap-small : (stmin : ℕ) → gapOf stmin ≤ longestGap
-  unfolding gapOf
-  gap-small stmin =
-      pick-either (λ (k : ℕ). k ≤ longestGap) (leb stmin mostMillis) _ _ (λ t. omega tests)
-      (λ t. pick-either (λ (k : ℕ). k ≤ longestGap) (leb leastFraction stmin && leb stmin mostFraction) _ _ (λ u. omega arith) (λ u. omega arith))
 
   granted-at : (o : Sending) (d : List ℕ) (k k′ : ℕ) → SendAt n o k → k′ ≡ k → SendAt n (granted o d) k′
   unfolding granted

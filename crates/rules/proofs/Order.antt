@@ -81,6 +81,13 @@ announced-large d t = go (eqb-cases (shortLength d) 0) (and-right (eqb (length d
     go (holds e z) u = let l : shortMost < escapeLength d = ltb-yes (rw e at u) in rw e (omega arith)
     go (fails e z) u = rw e (ltb-yes (rw e at u))
 
+-- a peer's gap is at most the longest
+pub gap-small : (stmin : ℕ) → gapOf stmin ≤ longestGap
+unfolding gapOf
+gap-small stmin =
+    pick-either (λ (k : ℕ). k ≤ longestGap) (leb stmin mostMillis) _ _ (λ t. omega tests)
+    (λ t. pick-either (λ (k : ℕ). k ≤ longestGap) (leb leastFraction stmin && leb stmin mostFraction) _ _ (λ u. omega arith) (λ u. omega arith))
+
 -- a length that is not above A is at most A
 pub within-area : (s : Settings) (n : ℕ) → T (not (aboveArea s n)) → n ≤ s .area
 within-area s n t = ltb-no t
@@ -179,12 +186,6 @@ module _ (s : Settings) (sr : SettingsRange (s .area) (s .block) (s .stmin)) whe
   consecutive-ok (Rx.Awaits p u) last d r = awaited-ok p u last d r
 
   -- ---- a flow control frame at the send side
-
-  gap-small : (stmin : ℕ) → gapOf stmin ≤ longestGap
-  unfolding gapOf
-  gap-small stmin =
-      pick-either (λ (k : ℕ). k ≤ longestGap) (leb stmin mostMillis) _ _ (λ t. omega tests)
-      (λ t. pick-either (λ (k : ℕ). k ≤ longestGap) (leb leastFraction stmin && leb stmin mostFraction) _ _ (λ u. omega arith) (λ u. omega arith))
 
   granted-ok : (o : Sending) (d : List ℕ) → SendingRange s o → SendingRange s (granted o d)
   unfolding granted
