@@ -1,7 +1,12 @@
 // Paper 01, "What each side of a berth remembers": the tests of the ranges. A range that is broken makes a berth out of order.
 ghost use mathlib.Core.Path.{_≡_};
 ghost use Rattle.rules.specs.Ranges.{stminAllowed, settingsAllowed, inBlock, takingInRange, rxInRange, sendingInRange, txInRange, berthInOrder};
-use rules::{Berth, Rx, Sending, Settings, Taking, Tx};
+use rules::Berth;
+use rules::Rx;
+use rules::Sending;
+use rules::Settings;
+use rules::Taking;
+use rules::Tx;
 
 fn stmin_allowed(stmin: u32) -> bool
     ensures { λ r. ⌜ r ≡ stminAllowed stmin ⌝ }

@@ -1,0 +1,72 @@
+use borrow.Author.Needs.{needs}
+use Rattle.berth.proofs.arrivals.consecutive_came.Statement.{statement}
+use Rattle.berth.proofs.arrivals.consecutive_came.Tie as tie
+use Rattle.berth.proofs.arrivals.consecutive_came.Reads as reads
+use Rattle.berth.proofs.arrivals.consecutive_came.Lts as lts
+use Rattle.berth.proofs.arrivals.awaited_came.Reads as awaited-came-reads
+use Rattle.berth.proofs.arrivals.ignored.Reads as ignored-reads
+
+-- src/arrivals.rt:215:21
+enum-told : tie.Need-enum-told
+enum-told c = search needs
+
+-- src/arrivals.rt:215:21
+ignored-requires : tie.Need-ignored-requires
+ignored-requires c κs = search needs
+
+-- src/arrivals.rt:216:32
+enum-told-2 : tie.Need-enum-told-2
+enum-told-2 c = search needs
+
+-- src/arrivals.rt:216:32
+ignored-requires-2 : tie.Need-ignored-requires-2
+ignored-requires-2 c κs = search needs
+
+-- src/arrivals.rt:217:29
+enum-told-3 : tie.Need-enum-told-3
+enum-told-3 c = search needs
+
+-- src/arrivals.rt:217:29
+ignored-requires-3 : tie.Need-ignored-requires-3
+ignored-requires-3 c κs = search needs
+
+-- src/arrivals.rt:218:20
+enum-known-rx : tie.Need-enum-known-rx
+enum-known-rx c = search needs
+
+-- src/arrivals.rt:218:29
+awaited-came-requires : tie.Need-awaited-came-requires
+awaited-came-requires c κs = ?
+
+-- src/arrivals.rt:210:1
+returns : tie.Need-returns
+returns c = ?
+
+-- src/arrivals.rt:210:1
+returns-2 : tie.Need-returns-2
+returns-2 c = ?
+
+-- src/arrivals.rt:210:1
+returns-3 : tie.Need-returns-3
+returns-3 c = ?
+
+-- src/arrivals.rt:210:1
+returns-4 : tie.Need-returns-4
+returns-4 c = ?
+
+pub consecutive-came-spec : {M : Type 1} → statement M
+consecutive-came-spec =
+    tie.close
+    (tie.spec
+    enum-told
+    ignored-requires
+    enum-told-2
+    ignored-requires-2
+    enum-told-3
+    ignored-requires-3
+    enum-known-rx
+    awaited-came-requires
+    returns
+    returns-2
+    returns-3
+    returns-4)

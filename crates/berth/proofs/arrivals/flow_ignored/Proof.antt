@@ -1,0 +1,11 @@
+use Rattle.berth.proofs.arrivals.flow_ignored.Statement.{statement}
+use Rattle.berth.proofs.arrivals.flow_ignored.Tie as tie
+use Rattle.berth.proofs.arrivals.flow_ignored.Reads as reads
+use Rattle.berth.proofs.arrivals.flow_ignored.Lts as lts
+
+-- src/arrivals.rt:269:1
+returns : tie.Need-returns
+returns c = ?
+
+pub flow-ignored-spec : {M : Type 1} → statement M
+flow-ignored-spec = tie.close (tie.spec returns)

@@ -1,0 +1,26 @@
+use borrow.Author.Needs.{needs}
+use Rattle.berth.proofs.arrivals.granted.Statement.{statement}
+use Rattle.berth.proofs.arrivals.granted.Tie as tie
+use Rattle.berth.proofs.arrivals.granted.Reads as reads
+use Rattle.berth.proofs.arrivals.granted.Lts as lts
+use Rattle.berth.proofs.frames.gap_of.Reads as gap-of-reads
+
+-- src/arrivals.rt:232:16
+shared-slice-read-t5 : tie.Need-shared-slice-read-t5
+shared-slice-read-t5 c = search needs
+
+-- src/arrivals.rt:234:29
+shared-slice-read-gap-of : tie.Need-shared-slice-read-gap-of
+shared-slice-read-gap-of c = search needs
+
+-- src/arrivals.rt:234:14
+gap-of-requires : tie.Need-gap-of-requires
+gap-of-requires c κs = search needs
+
+-- src/arrivals.rt:223:1
+returns : tie.Need-returns
+returns c = ?
+
+pub granted-spec : {M : Type 1} → statement M
+granted-spec =
+    tie.close (tie.spec shared-slice-read-t5 shared-slice-read-gap-of gap-of-requires returns)

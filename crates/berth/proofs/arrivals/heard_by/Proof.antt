@@ -1,0 +1,11 @@
+use Rattle.berth.proofs.arrivals.heard_by.Statement.{statement}
+use Rattle.berth.proofs.arrivals.heard_by.Tie as tie
+use Rattle.berth.proofs.arrivals.heard_by.Reads as reads
+use Rattle.berth.proofs.arrivals.heard_by.Lts as lts
+
+-- src/arrivals.rt:296:1
+returns : tie.Need-returns
+returns c = ?
+
+pub heard-by-spec : {M : Type 1} → statement M
+heard-by-spec = tie.close (tie.spec returns)

@@ -1,0 +1,42 @@
+use borrow.Author.Needs.{needs}
+use Rattle.berth.proofs.arrivals.old_code.Statement.{statement}
+use Rattle.berth.proofs.arrivals.old_code.Tie as tie
+use Rattle.berth.proofs.arrivals.old_code.Reads as reads
+use Rattle.berth.proofs.arrivals.old_code.Lts as lts
+
+-- src/arrivals.rt:74:21
+enum-told : tie.Need-enum-told
+enum-told c = search needs
+
+-- src/arrivals.rt:75:32
+enum-told-2 : tie.Need-enum-told-2
+enum-told-2 c = search needs
+
+-- src/arrivals.rt:76:29
+enum-told-3 : tie.Need-enum-told-3
+enum-told-3 c = search needs
+
+-- src/arrivals.rt:77:29
+enum-told-4 : tie.Need-enum-told-4
+enum-told-4 c = search needs
+
+-- src/arrivals.rt:70:1
+returns : tie.Need-returns
+returns c = ?
+
+-- src/arrivals.rt:70:1
+returns-2 : tie.Need-returns-2
+returns-2 c = ?
+
+-- src/arrivals.rt:70:1
+returns-3 : tie.Need-returns-3
+returns-3 c = ?
+
+-- src/arrivals.rt:70:1
+returns-4 : tie.Need-returns-4
+returns-4 c = ?
+
+pub old-code-spec : {M : Type 1} → statement M
+old-code-spec =
+    tie.close
+    (tie.spec enum-told enum-told-2 enum-told-3 enum-told-4 returns returns-2 returns-3 returns-4)

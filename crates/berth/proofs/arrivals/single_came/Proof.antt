@@ -1,0 +1,50 @@
+use borrow.Author.Needs.{needs}
+use Rattle.berth.proofs.arrivals.single_came.Statement.{statement}
+use Rattle.berth.proofs.arrivals.single_came.Tie as tie
+use Rattle.berth.proofs.arrivals.single_came.Reads as reads
+use Rattle.berth.proofs.arrivals.single_came.Lts as lts
+use Rattle.berth.proofs.arrivals.ignored.Reads as ignored-reads
+use Rattle.berth.proofs.arrivals.old_code.Reads as old-code-reads
+use Rattle.berth.proofs.frames.low.Reads as low-reads
+use Rattle.berth.proofs.frames.single_fits.Reads as single-fits-reads
+use Rattle.berth.proofs.frames.wide.Reads as wide-reads
+
+-- src/arrivals.rt:85:8
+single-fits-requires : tie.Need-single-fits-requires
+single-fits-requires c κs = search needs
+
+-- src/arrivals.rt:86:30
+low-requires : tie.Need-low-requires
+low-requires c κs = search needs
+
+-- src/arrivals.rt:86:13
+wide-requires : tie.Need-wide-requires
+wide-requires c κs = search needs
+
+-- src/arrivals.rt:90:18
+old-code-requires : tie.Need-old-code-requires
+old-code-requires c κs = search needs
+
+-- src/arrivals.rt:87:9
+returns : tie.Need-returns
+returns c = ?
+
+-- src/arrivals.rt:97:5
+ignored-requires : tie.Need-ignored-requires
+ignored-requires c κs = search needs
+
+-- src/arrivals.rt:81:1
+returns-2 : tie.Need-returns-2
+returns-2 c = ?
+
+pub single-came-spec : {M : Type 1} → statement M
+single-came-spec =
+    tie.close
+    (tie.spec
+    single-fits-requires
+    low-requires
+    wide-requires
+    old-code-requires
+    returns
+    ignored-requires
+    returns-2)

@@ -1,0 +1,11 @@
+use Rattle.berth.proofs.arrivals.told_by.Statement.{statement}
+use Rattle.berth.proofs.arrivals.told_by.Tie as tie
+use Rattle.berth.proofs.arrivals.told_by.Reads as reads
+use Rattle.berth.proofs.arrivals.told_by.Lts as lts
+
+-- src/arrivals.rt:317:1
+returns : tie.Need-returns
+returns c = ?
+
+pub told-by-spec : {M : Type 1} → statement M
+told-by-spec = tie.close (tie.spec returns)

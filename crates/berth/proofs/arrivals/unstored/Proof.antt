@@ -1,0 +1,11 @@
+use Rattle.berth.proofs.arrivals.unstored.Statement.{statement}
+use Rattle.berth.proofs.arrivals.unstored.Tie as tie
+use Rattle.berth.proofs.arrivals.unstored.Reads as reads
+use Rattle.berth.proofs.arrivals.unstored.Lts as lts
+
+-- src/arrivals.rt:50:1
+returns : tie.Need-returns
+returns c = ?
+
+pub unstored-spec : {M : Type 1} → statement M
+unstored-spec = tie.close (tie.spec returns)

@@ -1,0 +1,19 @@
+use Rattle.berth.proofs.frames.counted.Statement.{statement}
+use Rattle.berth.proofs.frames.counted.Tie as tie
+use Rattle.berth.proofs.frames.counted.Reads as reads
+use Rattle.berth.proofs.frames.counted.Lts as lts
+
+-- src/frames.rt:124:9
+returns : tie.Need-returns
+returns c = ?
+
+-- src/frames.rt:126:5
+add-result : tie.Need-add-result
+add-result c = ?
+
+-- src/frames.rt:119:1
+returns-2 : tie.Need-returns-2
+returns-2 c = ?
+
+pub counted-spec : {M : Type 1} → statement M
+counted-spec = tie.close (tie.spec returns add-result returns-2)

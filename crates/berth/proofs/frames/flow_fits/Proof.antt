@@ -1,0 +1,15 @@
+use Rattle.berth.proofs.frames.flow_fits.Statement.{statement}
+use Rattle.berth.proofs.frames.flow_fits.Tie as tie
+use Rattle.berth.proofs.frames.flow_fits.Reads as reads
+use Rattle.berth.proofs.frames.flow_fits.Lts as lts
+
+-- src/frames.rt:102:9
+returns : tie.Need-returns
+returns c = ?
+
+-- src/frames.rt:98:1
+returns-2 : tie.Need-returns-2
+returns-2 c = ?
+
+pub flow-fits-spec : {M : Type 1} → statement M
+flow-fits-spec = tie.close (tie.spec returns returns-2)

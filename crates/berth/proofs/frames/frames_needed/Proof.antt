@@ -1,0 +1,80 @@
+use borrow.Author.Needs.{needs}
+use Rattle.berth.proofs.frames.frames_needed.Statement.{statement}
+use Rattle.berth.proofs.frames.frames_needed.Tie as tie
+use Rattle.berth.proofs.frames.frames_needed.Reads as reads
+use Rattle.berth.proofs.frames.frames_needed.Lts as lts
+
+-- src/frames.rt:169:9
+returns : tie.Need-returns
+returns c = ?
+
+-- src/frames.rt:171:13
+cast-if2 : tie.Need-cast-if2
+cast-if2 c = search needs
+
+-- src/frames.rt:172:9
+returns-2 : tie.Need-returns-2
+returns-2 c = ?
+
+-- src/frames.rt:174:9
+cast-if3 : tie.Need-cast-if3
+cast-if3 c = search needs
+
+-- src/frames.rt:175:9
+returns-3 : tie.Need-returns-3
+returns-3 c = ?
+
+-- src/frames.rt:178:16
+cast-result : tie.Need-cast-result
+cast-result c = search needs
+
+-- src/frames.rt:178:12
+sub-result : tie.Need-sub-result
+sub-result c = search needs
+
+-- src/frames.rt:178:45
+cast-result-2 : tie.Need-cast-result-2
+cast-result-2 c = search needs
+
+-- src/frames.rt:178:45
+sub-result-2 : tie.Need-sub-result-2
+sub-result-2 c = search needs
+
+-- src/frames.rt:178:12
+add-result : tie.Need-add-result
+add-result c = search needs
+
+-- src/frames.rt:179:15
+cast-result-3 : tie.Need-cast-result-3
+cast-result-3 c = search needs
+
+-- src/frames.rt:178:11
+div-result : tie.Need-div-result
+div-result c = search needs
+
+-- src/frames.rt:177:5
+add-result-2 : tie.Need-add-result-2
+add-result-2 c = search needs
+
+-- src/frames.rt:165:1
+returns-4 : tie.Need-returns-4
+returns-4 c = ?
+
+pub frames-needed-spec : {M : Type 1} → statement M
+frames-needed-spec =
+    tie.close
+    (tie.spec
+    returns
+    cast-if2
+    returns-2
+    cast-if3
+    returns-3
+    cast-result
+    sub-result
+    cast-result-2
+    sub-result-2
+    add-result
+    cast-result-3
+    div-result
+    add-result-2
+    returns-4)

@@ -1,0 +1,52 @@
+use borrow.Author.Needs.{needs}
+use Rattle.berth.proofs.frames.single_fits.Statement.{statement}
+use Rattle.berth.proofs.frames.single_fits.Tie as tie
+use Rattle.berth.proofs.frames.single_fits.Reads as reads
+use Rattle.berth.proofs.frames.single_fits.Lts as lts
+use Rattle.berth.proofs.frames.low.Reads as low-reads
+use Rattle.berth.proofs.frames.wide.Reads as wide-reads
+
+-- src/frames.rt:35:18
+low-requires : tie.Need-low-requires
+low-requires c κs = search needs
+
+-- src/frames.rt:35:9
+wide-requires : tie.Need-wide-requires
+wide-requires c κs = search needs
+
+-- src/frames.rt:37:9
+returns : tie.Need-returns
+returns c = ?
+
+-- src/frames.rt:40:9
+returns-2 : tie.Need-returns-2
+returns-2 c = ?
+
+-- src/frames.rt:43:9
+returns-3 : tie.Need-returns-3
+returns-3 c = ?
+
+-- src/frames.rt:45:20
+cast-result : tie.Need-cast-result
+cast-result c = search needs
+
+-- src/frames.rt:45:20
+add-result : tie.Need-add-result
+add-result c = search needs
+
+-- src/frames.rt:31:1
+returns-4 : tie.Need-returns-4
+returns-4 c = ?
+
+pub single-fits-spec : {M : Type 1} → statement M
+single-fits-spec =
+    tie.close
+    (tie.spec
+    low-requires
+    wide-requires
+    returns
+    returns-2
+    returns-3
+    cast-result
+    add-result
+    returns-4)

@@ -1,0 +1,51 @@
+use borrow.Author.Needs.{needs}
+use Rattle.berth.proofs.turns.single_frame.Statement.{statement}
+use Rattle.berth.proofs.turns.single_frame.Tie as tie
+use Rattle.berth.proofs.turns.single_frame.Reads as reads
+use Rattle.berth.proofs.turns.single_frame.Lts as lts
+use Rattle.berth.proofs.frames.lay_out.Reads as lay-out-reads
+
+-- src/turns.rt:106:17
+mul-t6 : tie.Need-mul-t6
+mul-t6 c = search needs
+
+-- src/turns.rt:106:43
+cast-t7 : tie.Need-cast-t7
+cast-t7 c = search needs
+
+-- src/turns.rt:106:17
+add-t8 : tie.Need-add-t8
+add-t8 c = search needs
+
+-- src/turns.rt:108:28
+slice-aggregate-lay-out : tie.Need-slice-aggregate-lay-out
+slice-aggregate-lay-out c = search needs
+
+-- src/turns.rt:108:35
+slice-aggregate-lay-out-2 : tie.Need-slice-aggregate-lay-out-2
+slice-aggregate-lay-out-2 c = ?
+
+-- src/turns.rt:108:5
+lay-out-requires : tie.Need-lay-out-requires
+lay-out-requires c κs = ?
+
+-- src/turns.rt:102:1
+same-length : tie.Need-same-length
+same-length c = search needs
+
+-- src/turns.rt:102:1
+returns : tie.Need-returns
+returns c = ?
+
+pub single-frame-spec : {M : Type 1} → statement M
+single-frame-spec =
+    tie.close
+    (tie.spec
+    mul-t6
+    cast-t7
+    add-t8
+    slice-aggregate-lay-out
+    slice-aggregate-lay-out-2
+    lay-out-requires
+    same-length
+    returns)
