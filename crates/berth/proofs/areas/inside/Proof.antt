@@ -1,3 +1,5 @@
+use mathlib.Core.Path.{refl}
+use Rattle.rules.specs.Stores.{inside}
 use borrow.Author.Needs.{needs}
 use Rattle.berth.proofs.areas.inside.Statement.{statement}
 use Rattle.berth.proofs.areas.inside.Tie as tie
@@ -10,7 +12,8 @@ add-result c = search needs
 
 -- src/areas.rt:9:1
 returns : tie.Need-returns
-returns c = ?
+unfolding inside
+returns c = refl
 
 pub inside-spec : {M : Type 1} → statement M
 inside-spec = tie.close (tie.spec add-result returns)

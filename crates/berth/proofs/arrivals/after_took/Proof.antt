@@ -1,3 +1,5 @@
+use mathlib.Core.Path.{sym, _∙_}
+use Rattle.rules.specs.Arrivals.{afterTook}
 use borrow.Author.Needs.{needs}
 use Rattle.berth.proofs.arrivals.after_took.Statement.{statement}
 use Rattle.berth.proofs.arrivals.after_took.Tie as tie
@@ -17,7 +19,8 @@ grown-requires c κs = search needs
 
 -- src/arrivals.rt:186:9
 returns : tie.Need-returns
-returns c = ?
+unfolding afterTook
+returns c = simp (sym (c .before .before .fills-block .ensures) ∙ c .before .if1 .taken, c .grown .ensures)
 
 -- src/arrivals.rt:188:22
 counted-requires : tie.Need-counted-requires
@@ -29,7 +32,8 @@ grown-requires-2 c κs = search needs
 
 -- src/arrivals.rt:180:1
 returns-2 : tie.Need-returns-2
-returns-2 c = ?
+unfolding afterTook
+returns-2 c = simp (sym (c .before .before .before .fills-block .ensures) ∙ c .before .before .if1 .left, c .before .counted .ensures, c .grown2 .ensures)
 
 pub after-took-spec : {M : Type 1} → statement M
 after-took-spec =

@@ -1,3 +1,4 @@
+use Rattle.rules.specs.Arrivals.{consecutiveCame}
 use borrow.Author.Needs.{needs}
 use Rattle.berth.proofs.arrivals.consecutive_came.Statement.{statement}
 use Rattle.berth.proofs.arrivals.consecutive_came.Tie as tie
@@ -52,7 +53,8 @@ returns-3 c = ?
 
 -- src/arrivals.rt:210:1
 returns-4 : tie.Need-returns-4
-returns-4 c = ?
+unfolding consecutiveCame
+returns-4 c = simp (c .before .before .rx .given .1) (c .awaited-came .ensures)
 
 pub consecutive-came-spec : {M : Type 1} → statement M
 consecutive-came-spec =

@@ -1,3 +1,5 @@
+use mathlib.Core.Path.{sym, _∙_}
+use Rattle.rules.specs.Arrivals.{firstCame}
 use borrow.Author.Needs.{needs}
 use Rattle.berth.proofs.arrivals.first_came.Statement.{statement}
 use Rattle.berth.proofs.arrivals.first_came.Tie as tie
@@ -39,7 +41,8 @@ ignored-requires c κs = search needs
 
 -- src/arrivals.rt:132:1
 returns-3 : tie.Need-returns-3
-returns-3 c = ?
+unfolding firstCame
+returns-3 c = simp (sym (c .before .before .first-fits .ensures) ∙ c .before .if1 .left) (c .ignored .ensures _)
 
 pub first-came-spec : {M : Type 1} → statement M
 first-came-spec =

@@ -1,3 +1,5 @@
+use mathlib.Core.Path.{sym, _∙_}
+use Rattle.rules.specs.Arrivals.{flowCame}
 use borrow.Author.Needs.{needs}
 use Rattle.berth.proofs.arrivals.flow_came.Statement.{statement}
 use Rattle.berth.proofs.arrivals.flow_came.Tie as tie
@@ -45,7 +47,8 @@ by-status-requires c κs = ?
 
 -- src/arrivals.rt:288:17
 returns : tie.Need-returns
-returns c = ?
+unfolding flowCame
+returns c = simp (c .before .before .before .before .tx .given .1, sym (c .before .before .flow-fits .ensures) ∙ c .before .if1 .taken, c .by-status .ensures)
 
 -- src/arrivals.rt:290:13
 flow-ignored-requires-4 : tie.Need-flow-ignored-requires-4
@@ -61,23 +64,28 @@ flow-ignored-requires-5 c κs = search needs
 
 -- src/arrivals.rt:278:1
 returns-2 : tie.Need-returns-2
-returns-2 c = ?
+unfolding flowCame
+returns-2 c = simp (c .before .enum-told .given .1, c .flow-ignored .ensures)
 
 -- src/arrivals.rt:278:1
 returns-3 : tie.Need-returns-3
-returns-3 c = ?
+unfolding flowCame
+returns-3 c = simp (c .before .enum-told2 .given .1, c .flow-ignored2 .ensures)
 
 -- src/arrivals.rt:278:1
 returns-4 : tie.Need-returns-4
-returns-4 c = ?
+unfolding flowCame
+returns-4 c = simp (c .before .enum-told3 .given .1, c .flow-ignored3 .ensures)
 
 -- src/arrivals.rt:278:1
 returns-5 : tie.Need-returns-5
-returns-5 c = ?
+unfolding flowCame
+returns-5 c = simp (c .before .before .before .before .tx .given .1, sym (c .before .before .flow-fits .ensures) ∙ c .before .if1 .left, c .flow-ignored4 .ensures)
 
 -- src/arrivals.rt:278:1
 returns-6 : tie.Need-returns-6
-returns-6 c = ?
+unfolding flowCame
+returns-6 c = simp (c .before .enum-told4 .given .1, c .flow-ignored5 .ensures)
 
 pub flow-came-spec : {M : Type 1} → statement M
 flow-came-spec =

@@ -1,3 +1,6 @@
+use mathlib.Core.Path.{refl}
+use Rattle.berth.specs.Reading.{toldOf}
+use Rattle.rules.specs.Arrivals.{flowIgnored}
 use Rattle.berth.proofs.arrivals.flow_ignored.Statement.{statement}
 use Rattle.berth.proofs.arrivals.flow_ignored.Tie as tie
 use Rattle.berth.proofs.arrivals.flow_ignored.Reads as reads
@@ -5,7 +8,8 @@ use Rattle.berth.proofs.arrivals.flow_ignored.Lts as lts
 
 -- src/arrivals.rt:269:1
 returns : tie.Need-returns
-returns c = ?
+unfolding toldOf flowIgnored
+returns c = refl
 
 pub flow-ignored-spec : {M : Type 1} → statement M
 flow-ignored-spec = tie.close (tie.spec returns)

@@ -1,3 +1,5 @@
+use borrow.Author.Tests.{ne-eqb}
+use Rattle.rules.specs.Arrivals.{frameCame}
 use borrow.Author.Needs.{needs}
 use Rattle.berth.proofs.arrivals.frame_came.Statement.{statement}
 use Rattle.berth.proofs.arrivals.frame_came.Tie as tie
@@ -25,7 +27,8 @@ by-kind-requires c κs = search needs
 
 -- src/arrivals.rt:361:1
 returns-2 : tie.Need-returns-2
-returns-2 c = ?
+unfolding frameCame
+returns-2 c = simp (ne-eqb _ _ (c .before .if1 .left)) (c .by-kind .ensures)
 
 pub frame-came-spec : {M : Type 1} → statement M
 frame-came-spec =

@@ -1,3 +1,4 @@
+use Rattle.rules.specs.Arrivals.{granted}
 use borrow.Author.Needs.{needs}
 use Rattle.berth.proofs.arrivals.granted.Statement.{statement}
 use Rattle.berth.proofs.arrivals.granted.Tie as tie
@@ -19,7 +20,8 @@ gap-of-requires c κs = search needs
 
 -- src/arrivals.rt:223:1
 returns : tie.Need-returns
-returns c = ?
+unfolding granted
+returns c = simp (c .gap-of .ensures)
 
 pub granted-spec : {M : Type 1} → statement M
 granted-spec =

@@ -1,3 +1,4 @@
+use Rattle.rules.specs.Arrivals.{grown}
 use borrow.Author.Needs.{needs}
 use Rattle.berth.proofs.arrivals.grown.Statement.{statement}
 use Rattle.berth.proofs.arrivals.grown.Tie as tie
@@ -25,7 +26,8 @@ next-requires c κs = search needs
 
 -- src/arrivals.rt:152:1
 returns : tie.Need-returns
-returns c = ?
+unfolding grown
+returns c = simp (c .before .before .before .missing .ensures, c .before .before .share .ensures, c .next .ensures)
 
 pub grown-spec : {M : Type 1} → statement M
 grown-spec = tie.close (tie.spec missing-requires share-requires add-t5 next-requires returns)

@@ -1,3 +1,4 @@
+use Rattle.rules.specs.Arrivals.{ignored}
 use borrow.Author.Needs.{needs}
 use Rattle.berth.proofs.arrivals.ignored.Statement.{statement}
 use Rattle.berth.proofs.arrivals.ignored.Tie as tie
@@ -11,7 +12,8 @@ unstored-requires c κs = search needs
 
 -- src/arrivals.rt:64:1
 returns : tie.Need-returns
-returns c = ?
+unfolding ignored
+returns c = (c .unstored .ensures)
 
 pub ignored-spec : {M : Type 1} → statement M
 ignored-spec = tie.close (tie.spec unstored-requires returns)

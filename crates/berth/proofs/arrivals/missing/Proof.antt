@@ -1,3 +1,5 @@
+use mathlib.Core.Path.{refl}
+use Rattle.rules.specs.Arrivals.{missing}
 use borrow.Author.Needs.{needs}
 use Rattle.berth.proofs.arrivals.missing.Statement.{statement}
 use Rattle.berth.proofs.arrivals.missing.Tie as tie
@@ -10,7 +12,8 @@ sub-result c = search needs
 
 -- src/arrivals.rt:145:1
 returns : tie.Need-returns
-returns c = ?
+unfolding missing
+returns c = refl
 
 pub missing-spec : {M : Type 1} → statement M
 missing-spec = tie.close (tie.spec sub-result returns)

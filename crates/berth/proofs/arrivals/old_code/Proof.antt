@@ -1,3 +1,4 @@
+use Rattle.rules.specs.Arrivals.{oldCode}
 use borrow.Author.Needs.{needs}
 use Rattle.berth.proofs.arrivals.old_code.Statement.{statement}
 use Rattle.berth.proofs.arrivals.old_code.Tie as tie
@@ -22,19 +23,23 @@ enum-told-4 c = search needs
 
 -- src/arrivals.rt:70:1
 returns : tie.Need-returns
-returns c = ?
+unfolding oldCode
+returns c = simp (c .enum-told .given .1)
 
 -- src/arrivals.rt:70:1
 returns-2 : tie.Need-returns-2
-returns-2 c = ?
+unfolding oldCode
+returns-2 c = simp (c .enum-told2 .given .1)
 
 -- src/arrivals.rt:70:1
 returns-3 : tie.Need-returns-3
-returns-3 c = ?
+unfolding oldCode
+returns-3 c = simp (c .enum-told3 .given .1)
 
 -- src/arrivals.rt:70:1
 returns-4 : tie.Need-returns-4
-returns-4 c = ?
+unfolding oldCode
+returns-4 c = simp (c .enum-told4 .given .1)
 
 pub old-code-spec : {M : Type 1} → statement M
 old-code-spec =

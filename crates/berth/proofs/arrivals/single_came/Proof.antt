@@ -1,3 +1,5 @@
+use mathlib.Core.Path.{sym, _∙_}
+use Rattle.rules.specs.Arrivals.{singleCame}
 use borrow.Author.Needs.{needs}
 use Rattle.berth.proofs.arrivals.single_came.Statement.{statement}
 use Rattle.berth.proofs.arrivals.single_came.Tie as tie
@@ -35,7 +37,8 @@ ignored-requires c κs = search needs
 
 -- src/arrivals.rt:81:1
 returns-2 : tie.Need-returns-2
-returns-2 c = ?
+unfolding singleCame
+returns-2 c = simp (sym (c .before .before .single-fits .ensures) ∙ c .before .if1 .left) (c .ignored .ensures _)
 
 pub single-came-spec : {M : Type 1} → statement M
 single-came-spec =

@@ -1,3 +1,4 @@
+use Rattle.rules.specs.Arrivals.{taking}
 use borrow.Author.Needs.{needs}
 use Rattle.berth.proofs.arrivals.taking.Statement.{statement}
 use Rattle.berth.proofs.arrivals.taking.Tie as tie
@@ -11,7 +12,8 @@ first-requires c κs = search needs
 
 -- src/arrivals.rt:106:1
 returns : tie.Need-returns
-returns c = ?
+unfolding taking
+returns c = simp (c .first .ensures)
 
 pub taking-spec : {M : Type 1} → statement M
 taking-spec = tie.close (tie.spec first-requires returns)

@@ -1,3 +1,5 @@
+use borrow.Author.Tests.{eq-eqb, ne-eqb}
+use Rattle.rules.specs.Frames.{announced}
 use borrow.Author.Needs.{needs}
 use Rattle.berth.proofs.frames.announced.Statement.{statement}
 use Rattle.berth.proofs.frames.announced.Tie as tie
@@ -16,11 +18,13 @@ escape-length-requires c κs = search needs
 
 -- src/frames.rt:68:9
 returns : tie.Need-returns
-returns c = ?
+unfolding announced
+returns c = simp (← c .before .before .short-length .ensures, eq-eqb _ _ (c .before .if1 .taken), ← c .escape-length .ensures)
 
 -- src/frames.rt:62:1
 returns-2 : tie.Need-returns-2
-returns-2 c = ?
+unfolding announced
+returns-2 c = simp (← c .before .short-length .ensures, ne-eqb _ _ (c .if1 .left))
 
 pub announced-spec : {M : Type 1} → statement M
 announced-spec =

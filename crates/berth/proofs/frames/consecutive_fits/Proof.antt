@@ -1,3 +1,5 @@
+use borrow.Author.Tests.{eq-eqb, lt-leb, ne-eqb, le-leb}
+use Rattle.rules.specs.Frames.{consecutiveFits}
 use borrow.Author.Needs.{needs}
 use Rattle.berth.proofs.frames.consecutive_fits.Statement.{statement}
 use Rattle.berth.proofs.frames.consecutive_fits.Tie as tie
@@ -6,11 +8,13 @@ use Rattle.berth.proofs.frames.consecutive_fits.Lts as lts
 
 -- src/frames.rt:90:9
 returns : tie.Need-returns
-returns c = ?
+unfolding consecutiveFits
+returns c = simp (eq-eqb _ _ (c .if1 .taken))
 
 -- src/frames.rt:93:9
 returns-2 : tie.Need-returns-2
-returns-2 c = ?
+unfolding consecutiveFits
+returns-2 c = simp (ne-eqb _ _ (c .before .if1 .left), lt-leb _ _ (c .if2 .taken))
 
 -- src/frames.rt:95:20
 add-result : tie.Need-add-result
@@ -18,7 +22,8 @@ add-result c = search needs
 
 -- src/frames.rt:86:1
 returns-3 : tie.Need-returns-3
-returns-3 c = ?
+unfolding consecutiveFits
+returns-3 c = simp (ne-eqb _ _ (c .before .if1 .left), le-leb _ _ (c .if2 .left))
 
 pub consecutive-fits-spec : {M : Type 1} → statement M
 consecutive-fits-spec = tie.close (tie.spec returns returns-2 add-result returns-3)

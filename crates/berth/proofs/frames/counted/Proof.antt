@@ -1,3 +1,5 @@
+use borrow.Author.Tests.{eq-eqb, ne-eqb}
+use Rattle.rules.specs.Frames.{counted}
 use Rattle.berth.proofs.frames.counted.Statement.{statement}
 use Rattle.berth.proofs.frames.counted.Tie as tie
 use Rattle.berth.proofs.frames.counted.Reads as reads
@@ -5,7 +7,8 @@ use Rattle.berth.proofs.frames.counted.Lts as lts
 
 -- src/frames.rt:124:9
 returns : tie.Need-returns
-returns c = ?
+unfolding counted
+returns c = simp (eq-eqb _ _ (c .if1 .taken))
 
 -- src/frames.rt:126:5
 add-result : tie.Need-add-result
@@ -13,7 +16,8 @@ add-result c = ?
 
 -- src/frames.rt:119:1
 returns-2 : tie.Need-returns-2
-returns-2 c = ?
+unfolding counted
+returns-2 c = simp (ne-eqb _ _ (c .if1 .left))
 
 pub counted-spec : {M : Type 1} → statement M
 counted-spec = tie.close (tie.spec returns add-result returns-2)

@@ -1,3 +1,5 @@
+use borrow.Author.Tests.{eq-eqb, ne-eqb}
+use Rattle.rules.specs.Frames.{fillsBlock}
 use Rattle.berth.proofs.frames.fills_block.Statement.{statement}
 use Rattle.berth.proofs.frames.fills_block.Tie as tie
 use Rattle.berth.proofs.frames.fills_block.Reads as reads
@@ -5,7 +7,8 @@ use Rattle.berth.proofs.frames.fills_block.Lts as lts
 
 -- src/frames.rt:134:9
 returns : tie.Need-returns
-returns c = ?
+unfolding fillsBlock
+returns c = simp (eq-eqb _ _ (c .if1 .taken))
 
 -- src/frames.rt:136:5
 add-result : tie.Need-add-result
@@ -13,7 +16,8 @@ add-result c = ?
 
 -- src/frames.rt:129:1
 returns-2 : tie.Need-returns-2
-returns-2 c = ?
+unfolding fillsBlock
+returns-2 c = simp (ne-eqb _ _ (c .if1 .left))
 
 pub fills-block-spec : {M : Type 1} → statement M
 fills-block-spec = tie.close (tie.spec returns add-result returns-2)

@@ -1,3 +1,5 @@
+use borrow.Author.Tests.{lt-leb, le-leb}
+use Rattle.rules.specs.Frames.{flowFits}
 use Rattle.berth.proofs.frames.flow_fits.Statement.{statement}
 use Rattle.berth.proofs.frames.flow_fits.Tie as tie
 use Rattle.berth.proofs.frames.flow_fits.Reads as reads
@@ -5,11 +7,13 @@ use Rattle.berth.proofs.frames.flow_fits.Lts as lts
 
 -- src/frames.rt:102:9
 returns : tie.Need-returns
-returns c = ?
+unfolding flowFits
+returns c = simp (lt-leb _ _ (c .if1 .taken))
 
 -- src/frames.rt:98:1
 returns-2 : tie.Need-returns-2
-returns-2 c = ?
+unfolding flowFits
+returns-2 c = simp (le-leb _ _ (c .if1 .left))
 
 pub flow-fits-spec : {M : Type 1} → statement M
 flow-fits-spec = tie.close (tie.spec returns returns-2)

@@ -1,3 +1,5 @@
+use borrow.Author.Tests.{le-ltb, le-leb, lt-ltb, lt-leb}
+use Rattle.rules.specs.Frames.{framesNeeded, needed}
 use borrow.Author.Needs.{needs}
 use Rattle.berth.proofs.frames.frames_needed.Statement.{statement}
 use Rattle.berth.proofs.frames.frames_needed.Tie as tie
@@ -14,7 +16,8 @@ cast-if2 c = search needs
 
 -- src/frames.rt:172:9
 returns-2 : tie.Need-returns-2
-returns-2 c = ?
+unfolding framesNeeded needed
+returns-2 c = simp (le-leb _ _ (c .before .if1 .left), le-ltb _ _ (c .before .if1 .left), le-leb _ _ (c .if2 .taken), le-ltb _ _ (c .if2 .taken))
 
 -- src/frames.rt:174:9
 cast-if3 : tie.Need-cast-if3
@@ -22,7 +25,8 @@ cast-if3 c = search needs
 
 -- src/frames.rt:175:9
 returns-3 : tie.Need-returns-3
-returns-3 c = ?
+unfolding framesNeeded needed
+returns-3 c = simp (le-leb _ _ (c .before .before .if1 .left), le-ltb _ _ (c .before .before .if1 .left), lt-ltb _ _ (c .before .if2 .left), lt-leb _ _ (c .before .if2 .left), lt-ltb _ _ (c .if3 .taken), lt-leb _ _ (c .if3 .taken))
 
 -- src/frames.rt:178:16
 cast-result : tie.Need-cast-result
@@ -58,7 +62,8 @@ add-result-2 c = search needs
 
 -- src/frames.rt:165:1
 returns-4 : tie.Need-returns-4
-returns-4 c = ?
+unfolding framesNeeded needed
+returns-4 c = simp (le-leb _ _ (c .before .before .if1 .left), le-ltb _ _ (c .before .before .if1 .left), lt-ltb _ _ (c .before .if2 .left), lt-leb _ _ (c .before .if2 .left), le-leb _ _ (c .if3 .left), le-ltb _ _ (c .if3 .left))
 
 pub frames-needed-spec : {M : Type 1} → statement M
 frames-needed-spec =

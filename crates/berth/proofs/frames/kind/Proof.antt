@@ -1,3 +1,5 @@
+use mathlib.Core.Path.{refl}
+use Rattle.rules.specs.Frames.{kind}
 use borrow.Author.Needs.{needs}
 use Rattle.berth.proofs.frames.kind.Statement.{statement}
 use Rattle.berth.proofs.frames.kind.Tie as tie
@@ -10,7 +12,8 @@ shared-slice-read-result c = search needs
 
 -- src/frames.rt:17:1
 returns : tie.Need-returns
-returns c = ?
+unfolding kind
+returns c = refl
 
 pub kind-spec : {M : Type 1} → statement M
 kind-spec = tie.close (tie.spec shared-slice-read-result returns)
