@@ -1,2 +1,3 @@
 -- Facts that several proofs of this crate cite.
 pub mod Chains
+pub mod Fits

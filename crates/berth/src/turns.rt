@@ -66,12 +66,9 @@ fn flow_frame(settings: Settings, rx: Rx, frame: &mut [u8])
             frames::lay_out(frame, &head, &piece);
         }
         Rx::OwesGo(_, _) => {
-            let head = [
-                rules::FLOW_KIND * 16 + rules::GO_STATUS,
-                settings.block,
-                settings.stmin,
-            ];
-            frames::lay_out(frame, &head, &head[..0]);
+            let head = [rules::FLOW_KIND * 16 + rules::GO_STATUS];
+            let piece = [settings.block, settings.stmin];
+            frames::lay_out(frame, &head, &piece);
         }
         Rx::Awaits(_, _) => {}
     }

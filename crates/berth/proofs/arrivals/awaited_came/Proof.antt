@@ -1,3 +1,11 @@
+use denote.Ref.{now}
+use mathlib.Core.Path.{ap}
+use borrow.Author.Tests.{le-leb, lt-leb, eq-eqb, ne-eqb}
+use Rattle.berth.proofs.Fits.{consecutive-within}
+use Rattle.rules.specs.Frames.{consecutiveFits}
+use Rattle.rules.specs.Arrivals.{completed, took, wrongSn}
+use mathlib.Core.Path.{sym, _∙_}
+use Rattle.rules.specs.Arrivals.{awaitedCame}
 use borrow.Author.Needs.{needs}
 use Rattle.berth.proofs.arrivals.awaited_came.Statement.{statement}
 use Rattle.berth.proofs.arrivals.awaited_came.Tie as tie
@@ -29,7 +37,12 @@ pieced-requires c κs = search needs
 
 -- src/arrivals.rt:201:17
 returns : tie.Need-returns
-returns c = ?
+unfolding awaitedCame completed
+returns c = let d = now (c .before .before .before .before .before .before .before .before .args .frame) in
+    let r = c .before .before .before .before .before .before .missing .ensures in
+    let fits = sym (c .before .before .before .before .before .consecutive-fits .ensures) ∙ c .before .before .before .before .if1 .taken in
+    simp (← r, fits, ← c .before .before .before .low .ensures .0, eq-eqb _ _ (c .before .before .if2 .taken), le-leb _ _ (c .before .if3 .taken))
+    (c .pieced .ensures d (rw r at (consecutive-within (c .before .before .before .before .before .before .missing .result) d fits)))
 
 -- src/arrivals.rt:203:30
 after-took-requires : tie.Need-after-took-requires
@@ -41,7 +54,12 @@ pieced-requires-2 c κs = search needs
 
 -- src/arrivals.rt:203:13
 returns-2 : tie.Need-returns-2
-returns-2 c = ?
+unfolding awaitedCame took
+returns-2 c = let d = now (c .before .before .before .before .before .before .before .before .before .args .frame) in
+    let r = c .before .before .before .before .before .before .before .missing .ensures in
+    let fits = sym (c .before .before .before .before .before .before .consecutive-fits .ensures) ∙ c .before .before .before .before .before .if1 .taken in
+    simp (← r, fits, ← c .before .before .before .before .low .ensures .0, eq-eqb _ _ (c .before .before .before .if2 .taken), lt-leb _ _ (c .before .before .if3 .left), ← c .before .after-took .ensures)
+    (c .pieced2 .ensures d (rw r at (consecutive-within (c .before .before .before .before .before .before .before .missing .result) d fits)))
 
 -- src/arrivals.rt:205:9
 unstored-requires : tie.Need-unstored-requires
@@ -49,7 +67,9 @@ unstored-requires c κs = search needs
 
 -- src/arrivals.rt:205:9
 returns-3 : tie.Need-returns-3
-returns-3 c = ?
+unfolding awaitedCame wrongSn
+returns-3 c = simp (← c .before .before .before .before .before .missing .ensures, sym (c .before .before .before .before .consecutive-fits .ensures) ∙ c .before .before .before .if1 .taken, ← c .before .before .low .ensures .0, ne-eqb _ _ (c .before .if2 .left))
+    (c .unstored .ensures _)
 
 -- src/arrivals.rt:207:5
 ignored-requires : tie.Need-ignored-requires
@@ -57,7 +77,8 @@ ignored-requires c κs = search needs
 
 -- src/arrivals.rt:192:1
 returns-4 : tie.Need-returns-4
-returns-4 c = ?
+unfolding awaitedCame
+returns-4 c = simp (← c .before .before .before .missing .ensures, sym (c .before .before .consecutive-fits .ensures) ∙ c .before .if1 .left) (c .ignored .ensures _)
 
 pub awaited-came-spec : {M : Type 1} → statement M
 awaited-came-spec =

@@ -1,3 +1,6 @@
+use native.Mathlib.Omega.{arith}
+use Rattle.rules.specs.Arrivals.{begun}
+use Rattle.berth.specs.Reading.{heardOf}
 use borrow.Author.Needs.{needs}
 use Rattle.berth.proofs.arrivals.begun.Statement.{statement}
 use Rattle.berth.proofs.arrivals.begun.Tie as tie
@@ -16,7 +19,8 @@ old-code-requires c κs = search needs
 
 -- src/arrivals.rt:117:1
 returns : tie.Need-returns
-returns c = ?
+unfolding begun heardOf
+returns c = λ d e. record { same = simp (c .old-code .ensures, c .before .taking .ensures); within = omega arith }
 
 pub begun-spec : {M : Type 1} → statement M
 begun-spec = tie.close (tie.spec taking-requires old-code-requires returns)

@@ -1,3 +1,5 @@
+use borrow.Author.Tests.{eq-eqb, ne-eqb}
+use Rattle.rules.specs.Arrivals.{byKind}
 use borrow.Author.Needs.{needs}
 use Rattle.berth.proofs.arrivals.by_kind.Statement.{statement}
 use Rattle.berth.proofs.arrivals.by_kind.Tie as tie
@@ -26,7 +28,8 @@ heard-by-requires c κs = search needs
 
 -- src/arrivals.rt:347:9
 returns : tie.Need-returns
-returns c = ?
+unfolding byKind
+returns c = simp (← c .before .before .before .kind .ensures, eq-eqb _ _ (c .before .before .if1 .taken)) (c .heard-by .ensures _ _ (c .before .single-came .ensures))
 
 -- src/arrivals.rt:350:32
 first-came-requires : tie.Need-first-came-requires
@@ -38,7 +41,8 @@ heard-by-requires-2 c κs = search needs
 
 -- src/arrivals.rt:350:9
 returns-2 : tie.Need-returns-2
-returns-2 c = ?
+unfolding byKind
+returns-2 c = simp (← c .before .before .before .before .kind .ensures, ne-eqb _ _ (c .before .before .before .if1 .left), eq-eqb _ _ (c .before .before .if2 .taken)) (c .heard-by2 .ensures _ _ (c .before .first-came .ensures))
 
 -- src/arrivals.rt:353:32
 consecutive-came-requires : tie.Need-consecutive-came-requires
@@ -50,7 +54,8 @@ heard-by-requires-3 c κs = search needs
 
 -- src/arrivals.rt:353:9
 returns-3 : tie.Need-returns-3
-returns-3 c = ?
+unfolding byKind
+returns-3 c = simp (← c .before .before .before .before .before .kind .ensures, ne-eqb _ _ (c .before .before .before .before .if1 .left), ne-eqb _ _ (c .before .before .before .if2 .left), eq-eqb _ _ (c .before .before .if3 .taken)) (c .heard-by3 .ensures _ _ (c .before .consecutive-came .ensures))
 
 -- src/arrivals.rt:356:31
 flow-came-requires : tie.Need-flow-came-requires
@@ -62,7 +67,8 @@ told-by-requires c κs = search needs
 
 -- src/arrivals.rt:356:9
 returns-4 : tie.Need-returns-4
-returns-4 c = ?
+unfolding byKind
+returns-4 c = simp (← c .before .before .before .before .before .before .kind .ensures, ne-eqb _ _ (c .before .before .before .before .before .if1 .left), ne-eqb _ _ (c .before .before .before .before .if2 .left), ne-eqb _ _ (c .before .before .before .if3 .left), eq-eqb _ _ (c .before .before .if4 .taken), ← c .before .flow-came .ensures) (c .told-by .ensures _)
 
 -- src/arrivals.rt:358:21
 ignored-requires : tie.Need-ignored-requires
@@ -74,7 +80,8 @@ heard-by-requires-4 c κs = search needs
 
 -- src/arrivals.rt:338:1
 returns-5 : tie.Need-returns-5
-returns-5 c = ?
+unfolding byKind
+returns-5 c = simp (← c .before .before .before .before .before .before .kind .ensures, ne-eqb _ _ (c .before .before .before .before .before .if1 .left), ne-eqb _ _ (c .before .before .before .before .if2 .left), ne-eqb _ _ (c .before .before .before .if3 .left), ne-eqb _ _ (c .before .before .if4 .left)) (c .heard-by4 .ensures _ _ (c .before .ignored .ensures _))
 
 pub by-kind-spec : {M : Type 1} → statement M
 by-kind-spec =

@@ -37,19 +37,22 @@ enum-known-rx c = search needs
 
 -- src/arrivals.rt:218:29
 awaited-came-requires : tie.Need-awaited-came-requires
-awaited-came-requires c κs = ?
+awaited-came-requires c κs = (search needs, (rw (c .before .rx .given .1) at (c .before .before .before .before .pre .1)) .1)
 
 -- src/arrivals.rt:210:1
 returns : tie.Need-returns
-returns c = ?
+unfolding consecutiveCame
+returns c = rw (c .before .enum-told .given .1) (rw (← c .before .enum-told .given .1) (c .ignored .ensures _))
 
 -- src/arrivals.rt:210:1
 returns-2 : tie.Need-returns-2
-returns-2 c = ?
+unfolding consecutiveCame
+returns-2 c = rw (c .before .enum-told2 .given .1) (rw (← c .before .enum-told2 .given .1) (c .ignored2 .ensures _))
 
 -- src/arrivals.rt:210:1
 returns-3 : tie.Need-returns-3
-returns-3 c = ?
+unfolding consecutiveCame
+returns-3 c = rw (c .before .enum-told3 .given .1) (rw (← c .before .enum-told3 .given .1) (c .ignored3 .ensures _))
 
 -- src/arrivals.rt:210:1
 returns-4 : tie.Need-returns-4

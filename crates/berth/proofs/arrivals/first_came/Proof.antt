@@ -1,3 +1,6 @@
+use borrow.Author.Tests.{le-ltb}
+use Rattle.berth.proofs.Fits.{first-whole}
+use borrow.Author.Tests.{lt-ltb}
 use mathlib.Core.Path.{sym, _∙_}
 use Rattle.rules.specs.Arrivals.{firstCame}
 use borrow.Author.Needs.{needs}
@@ -17,7 +20,7 @@ first-fits-requires c κs = search needs
 
 -- src/arrivals.rt:136:13
 announced-requires : tie.Need-announced-requires
-announced-requires c κs = ?
+announced-requires c κs = first-whole _ (sym (c .before .first-fits .ensures) ∙ c .if1 .taken)
 
 -- src/arrivals.rt:138:13
 turned-away-requires : tie.Need-turned-away-requires
@@ -25,7 +28,8 @@ turned-away-requires c κs = search needs
 
 -- src/arrivals.rt:138:13
 returns : tie.Need-returns
-returns c = ?
+unfolding firstCame
+returns c = simp (sym (c .before .before .before .before .before .first-fits .ensures) ∙ c .before .before .before .before .if1 .taken, ← c .before .before .before .announced .ensures, lt-ltb _ _ (c .before .if2 .taken)) (c .turned-away .ensures _)
 
 -- src/arrivals.rt:140:9
 begun-requires : tie.Need-begun-requires
@@ -33,7 +37,9 @@ begun-requires c κs = search needs
 
 -- src/arrivals.rt:140:9
 returns-2 : tie.Need-returns-2
-returns-2 c = ?
+unfolding firstCame
+returns-2 c = let fits = sym (c .before .before .before .before .before .first-fits .ensures) ∙ c .before .before .before .before .if1 .taken in
+    simp (fits, ← c .before .before .before .announced .ensures, le-ltb _ _ (c .before .if2 .left)) (c .begun .ensures _ (first-whole _ fits))
 
 -- src/arrivals.rt:142:5
 ignored-requires : tie.Need-ignored-requires

@@ -1,3 +1,4 @@
+use Rattle.berth.proofs.Fits.{flow-within}
 use mathlib.Core.Path.{sym, _∙_}
 use Rattle.rules.specs.Arrivals.{flowCame}
 use borrow.Author.Needs.{needs}
@@ -43,7 +44,7 @@ flow-fits-requires c κs = search needs
 
 -- src/arrivals.rt:288:17
 by-status-requires : tie.Need-by-status-requires
-by-status-requires c κs = ?
+by-status-requires c κs = flow-within _ (sym (c .before .flow-fits .ensures) ∙ c .if1 .taken)
 
 -- src/arrivals.rt:288:17
 returns : tie.Need-returns

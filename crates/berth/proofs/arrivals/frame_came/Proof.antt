@@ -1,3 +1,4 @@
+use borrow.Author.Tests.{eq-eqb}
 use borrow.Author.Tests.{ne-eqb}
 use Rattle.rules.specs.Arrivals.{frameCame}
 use borrow.Author.Needs.{needs}
@@ -19,7 +20,8 @@ heard-by-requires c κs = search needs
 
 -- src/arrivals.rt:368:9
 returns : tie.Need-returns
-returns c = ?
+unfolding frameCame
+returns c = simp (eq-eqb _ _ (c .before .before .if1 .taken)) (c .heard-by .ensures _ _ (c .before .ignored .ensures _))
 
 -- src/arrivals.rt:370:5
 by-kind-requires : tie.Need-by-kind-requires

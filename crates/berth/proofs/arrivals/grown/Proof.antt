@@ -1,3 +1,6 @@
+use Rattle.rules.specs.Arrivals.{missing}
+use native.Mathlib.Omega.{arith}
+use Rattle.berth.proofs.Fits.{share-most}
 use Rattle.rules.specs.Arrivals.{grown}
 use borrow.Author.Needs.{needs}
 use Rattle.berth.proofs.arrivals.grown.Statement.{statement}
@@ -18,7 +21,8 @@ share-requires c κs = search needs
 
 -- src/arrivals.rt:158:14
 add-t5 : tie.Need-add-t5
-add-t5 c = ?
+unfolding missing
+add-t5 c = omega (arith, c .before .share .ensures, c .before .before .missing .ensures, share-most (c .before .before .missing .result))
 
 -- src/arrivals.rt:159:13
 next-requires : tie.Need-next-requires

@@ -1,3 +1,6 @@
+use mathlib.Core.Path.{ap}
+use Rattle.rules.specs.Arrivals.{heardBy}
+use Rattle.berth.specs.Reading.{heardOf, cameOf}
 use Rattle.berth.proofs.arrivals.heard_by.Statement.{statement}
 use Rattle.berth.proofs.arrivals.heard_by.Tie as tie
 use Rattle.berth.proofs.arrivals.heard_by.Reads as reads
@@ -5,7 +8,8 @@ use Rattle.berth.proofs.arrivals.heard_by.Lts as lts
 
 -- src/arrivals.rt:296:1
 returns : tie.Need-returns
-returns c = ?
+unfolding heardBy cameOf heardOf
+returns c = λ d h e. record { same = ap (heardBy (c .args .berth)) (e .same); within = e .within }
 
 pub heard-by-spec : {M : Type 1} → statement M
 heard-by-spec = tie.close (tie.spec returns)

@@ -1,3 +1,9 @@
+use native.Mathlib.Omega.{arith}
+use mathlib.Core.Path.{ap}
+use Rattle.rules.specs.Arrivals.{piece}
+use Rattle.rules.specs.Frames.{share}
+use Rattle.rules.specs.Numbers.{consecutiveMost}
+use Rattle.berth.specs.Reading.{heardOf}
 use borrow.Author.Needs.{needs}
 use Rattle.berth.proofs.arrivals.pieced.Statement.{statement}
 use Rattle.berth.proofs.arrivals.pieced.Tie as tie
@@ -16,7 +22,8 @@ share-requires c κs = search needs
 
 -- src/arrivals.rt:165:1
 returns : tie.Need-returns
-returns c = ?
+unfolding piece heardOf
+returns c = λ d h. record { same = simp (c .share .ensures, c .before .missing .ensures); within = omega (arith, c .share .ensures, ap (share consecutiveMost) (c .before .missing .ensures)) }
 
 pub pieced-spec : {M : Type 1} → statement M
 pieced-spec = tie.close (tie.spec missing-requires share-requires returns)

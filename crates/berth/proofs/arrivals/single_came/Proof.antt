@@ -1,3 +1,6 @@
+use native.Mathlib.Omega.{arith}
+use Rattle.berth.proofs.Fits.{single-within}
+use Rattle.berth.specs.Reading.{heardOf}
 use mathlib.Core.Path.{sym, _∙_}
 use Rattle.rules.specs.Arrivals.{singleCame}
 use borrow.Author.Needs.{needs}
@@ -29,7 +32,10 @@ old-code-requires c κs = search needs
 
 -- src/arrivals.rt:87:9
 returns : tie.Need-returns
-returns c = ?
+unfolding singleCame heardOf
+returns c = let fits = sym (c .before .before .before .before .single-fits .ensures) ∙ c .before .before .before .if1 .taken in
+    let l = c .before .wide .ensures .0 ∙ c .before .before .low .ensures .0 in
+    record { same = simp (fits, c .old-code .ensures, l); within = omega (arith, l, single-within _ fits) }
 
 -- src/arrivals.rt:97:5
 ignored-requires : tie.Need-ignored-requires

@@ -1,3 +1,7 @@
+use native.Mathlib.Omega.{arith}
+use mathlib.Core.Path.{refl}
+use Rattle.rules.specs.Arrivals.{toldBy}
+use Rattle.berth.specs.Reading.{toldOf, cameOf}
 use Rattle.berth.proofs.arrivals.told_by.Statement.{statement}
 use Rattle.berth.proofs.arrivals.told_by.Tie as tie
 use Rattle.berth.proofs.arrivals.told_by.Reads as reads
@@ -5,7 +9,8 @@ use Rattle.berth.proofs.arrivals.told_by.Lts as lts
 
 -- src/arrivals.rt:317:1
 returns : tie.Need-returns
-returns c = ?
+unfolding toldBy cameOf toldOf
+returns c = λ d. record { same = refl; within = omega arith }
 
 pub told-by-spec : {M : Type 1} → statement M
 told-by-spec = tie.close (tie.spec returns)

@@ -1,3 +1,4 @@
+use Rattle.rules.specs.Arrivals.{turnedAway}
 use borrow.Author.Needs.{needs}
 use Rattle.berth.proofs.arrivals.turned_away.Statement.{statement}
 use Rattle.berth.proofs.arrivals.turned_away.Tie as tie
@@ -16,7 +17,8 @@ unstored-requires c κs = search needs
 
 -- src/arrivals.rt:100:1
 returns : tie.Need-returns
-returns c = ?
+unfolding turnedAway
+returns c = λ d. rw (← c .before .old-code .ensures) (c .unstored .ensures d)
 
 pub turned-away-spec : {M : Type 1} → statement M
 turned-away-spec = tie.close (tie.spec old-code-requires unstored-requires returns)

@@ -1,3 +1,6 @@
+use native.Mathlib.Omega.{arith}
+use mathlib.Core.Path.{refl}
+use Rattle.berth.specs.Reading.{heardOf}
 use Rattle.berth.proofs.arrivals.unstored.Statement.{statement}
 use Rattle.berth.proofs.arrivals.unstored.Tie as tie
 use Rattle.berth.proofs.arrivals.unstored.Reads as reads
@@ -5,7 +8,8 @@ use Rattle.berth.proofs.arrivals.unstored.Lts as lts
 
 -- src/arrivals.rt:50:1
 returns : tie.Need-returns
-returns c = ?
+unfolding heardOf
+returns c = λ d. record { same = refl; within = omega arith }
 
 pub unstored-spec : {M : Type 1} → statement M
 unstored-spec = tie.close (tie.spec returns)

@@ -1,3 +1,4 @@
+use Rattle.berth.proofs.Fits.{counts}
 use borrow.Author.Tests.{eq-eqb, ne-eqb}
 use Rattle.rules.specs.Frames.{counted}
 use Rattle.berth.proofs.frames.counted.Statement.{statement}
@@ -12,7 +13,7 @@ returns c = simp (eq-eqb _ _ (c .if1 .taken))
 
 -- src/frames.rt:126:5
 add-result : tie.Need-add-result
-add-result c = ?
+add-result c = record { fits = counts (c .before .pre) (c .before .fits .block .fits) }
 
 -- src/frames.rt:119:1
 returns-2 : tie.Need-returns-2

@@ -1,3 +1,4 @@
+use Rattle.rules.specs.Frames.{escapeLength}
 use borrow.Author.Needs.{needs}
 use Rattle.berth.proofs.frames.escape_length.Statement.{statement}
 use Rattle.berth.proofs.frames.escape_length.Tie as tie
@@ -63,7 +64,8 @@ add-result-3 c = search needs
 
 -- src/frames.rt:55:1
 returns : tie.Need-returns
-returns c = ?
+unfolding escapeLength
+returns c = simp (c .before .before .before .before .before .before .wide .ensures .0, c .before .before .before .before .wide2 .ensures .0, c .before .before .wide3 .ensures .0, c .wide4 .ensures .0)
 
 pub escape-length-spec : {M : Type 1} → statement M
 escape-length-spec =

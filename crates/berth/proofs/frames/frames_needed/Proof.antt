@@ -1,3 +1,4 @@
+use native.Mathlib.Omega.{arith}
 use borrow.Author.Tests.{le-ltb, le-leb, lt-ltb, lt-leb}
 use Rattle.rules.specs.Frames.{framesNeeded, needed}
 use borrow.Author.Needs.{needs}
@@ -8,7 +9,8 @@ use Rattle.berth.proofs.frames.frames_needed.Lts as lts
 
 -- src/frames.rt:169:9
 returns : tie.Need-returns
-returns c = ?
+unfolding framesNeeded needed
+returns c = simp (lt-leb _ _ (c .if1 .taken), le-ltb 7 (c .before .args .n) (omega arith))
 
 -- src/frames.rt:171:13
 cast-if2 : tie.Need-cast-if2

@@ -1,3 +1,4 @@
+use Rattle.rules.specs.Frames.{shortLength}
 use borrow.Author.Needs.{needs}
 use Rattle.berth.proofs.frames.short_length.Statement.{statement}
 use Rattle.berth.proofs.frames.short_length.Tie as tie
@@ -32,7 +33,8 @@ add-result c = search needs
 
 -- src/frames.rt:48:1
 returns : tie.Need-returns
-returns c = ?
+unfolding shortLength
+returns c = simp (c .before .before .before .low .ensures .0, c .before .before .wide .ensures .0, c .wide2 .ensures .0)
 
 pub short-length-spec : {M : Type 1} → statement M
 short-length-spec =

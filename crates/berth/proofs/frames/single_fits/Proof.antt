@@ -1,3 +1,5 @@
+use borrow.Author.Tests.{lt-leb, le-leb, eq-eqb, ne-eqb}
+use Rattle.rules.specs.Frames.{singleFits}
 use borrow.Author.Needs.{needs}
 use Rattle.berth.proofs.frames.single_fits.Statement.{statement}
 use Rattle.berth.proofs.frames.single_fits.Tie as tie
@@ -16,15 +18,18 @@ wide-requires c κs = search needs
 
 -- src/frames.rt:37:9
 returns : tie.Need-returns
-returns c = ?
+unfolding singleFits
+returns c = simp (← c .before .before .low .ensures .0, ← c .before .wide .ensures .0, lt-leb _ _ (c .if1 .taken))
 
 -- src/frames.rt:40:9
 returns-2 : tie.Need-returns-2
-returns-2 c = ?
+unfolding singleFits
+returns-2 c = simp (← c .before .before .before .low .ensures .0, ← c .before .before .wide .ensures .0, le-leb _ _ (c .before .if1 .left), lt-leb _ _ (c .if2 .taken))
 
 -- src/frames.rt:43:9
 returns-3 : tie.Need-returns-3
-returns-3 c = ?
+unfolding singleFits
+returns-3 c = simp (← c .before .before .before .before .low .ensures .0, ← c .before .before .before .wide .ensures .0, le-leb _ _ (c .before .before .if1 .left), le-leb _ _ (c .before .if2 .left), eq-eqb _ _ (c .if3 .taken))
 
 -- src/frames.rt:45:20
 cast-result : tie.Need-cast-result
@@ -36,7 +41,8 @@ add-result c = search needs
 
 -- src/frames.rt:31:1
 returns-4 : tie.Need-returns-4
-returns-4 c = ?
+unfolding singleFits
+returns-4 c = simp (← c .before .before .before .before .low .ensures .0, ← c .before .before .before .wide .ensures .0, le-leb _ _ (c .before .before .if1 .left), le-leb _ _ (c .before .if2 .left), ne-eqb _ _ (c .if3 .left))
 
 pub single-fits-spec : {M : Type 1} → statement M
 single-fits-spec =

@@ -1,0 +1,109 @@
+use borrow.Author.Needs.{needs}
+use Rattle.berth.proofs.turns.flow_frame.Statement.{statement}
+use Rattle.berth.proofs.turns.flow_frame.Tie as tie
+use Rattle.berth.proofs.turns.flow_frame.Reads as reads
+use Rattle.berth.proofs.turns.flow_frame.Lts as lts
+use Rattle.berth.proofs.frames.lay_out.Reads as lay-out-reads
+
+enum-told : tie.Need-enum-told
+enum-told c = search needs
+
+-- src/turns.rt:64:25
+enum-told-2 : tie.Need-enum-told-2
+enum-told-2 c = search needs
+
+-- src/turns.rt:64:25
+mul-t8 : tie.Need-mul-t8
+mul-t8 c = search needs
+
+-- src/turns.rt:64:25
+add-t9 : tie.Need-add-t9
+add-t9 c = search needs
+
+-- src/turns.rt:66:36
+slice-aggregate-lay-out : tie.Need-slice-aggregate-lay-out
+slice-aggregate-lay-out c = search needs
+
+-- src/turns.rt:66:43
+slice-aggregate-lay-out-2 : tie.Need-slice-aggregate-lay-out-2
+slice-aggregate-lay-out-2 c = search needs
+
+-- src/turns.rt:66:13
+lay-out-requires : tie.Need-lay-out-requires
+lay-out-requires c κs = search needs
+
+-- src/turns.rt:69:25
+enum-told-3 : tie.Need-enum-told-3
+enum-told-3 c = search needs
+
+-- src/turns.rt:69:25
+mul-t17 : tie.Need-mul-t17
+mul-t17 c = search needs
+
+-- src/turns.rt:69:25
+add-t18 : tie.Need-add-t18
+add-t18 c = search needs
+
+-- src/turns.rt:71:36
+slice-aggregate-lay-out-3 : tie.Need-slice-aggregate-lay-out-3
+slice-aggregate-lay-out-3 c = search needs
+
+-- src/turns.rt:71:43
+slice-aggregate-lay-out-4 : tie.Need-slice-aggregate-lay-out-4
+slice-aggregate-lay-out-4 c = search needs
+
+-- src/turns.rt:71:13
+lay-out-requires-2 : tie.Need-lay-out-requires-2
+lay-out-requires-2 c κs = search needs
+
+enum-told-4 : tie.Need-enum-told-4
+enum-told-4 c = search needs
+
+-- src/turns.rt:57:1
+returns : tie.Need-returns
+returns c = ?
+
+-- src/turns.rt:57:1
+same-length : tie.Need-same-length
+same-length c = search needs
+
+-- src/turns.rt:57:1
+returns-2 : tie.Need-returns-2
+returns-2 c = ?
+
+-- src/turns.rt:57:1
+same-length-2 : tie.Need-same-length-2
+same-length-2 c = search needs
+
+-- src/turns.rt:57:1
+returns-3 : tie.Need-returns-3
+returns-3 c = ?
+
+-- src/turns.rt:57:1
+returns-4 : tie.Need-returns-4
+returns-4 c = ?
+
+pub flow-frame-spec : {M : Type 1} → statement M
+flow-frame-spec =
+    tie.close
+    (tie.spec
+    enum-told
+    enum-told-2
+    mul-t8
+    add-t9
+    slice-aggregate-lay-out
+    slice-aggregate-lay-out-2
+    lay-out-requires
+    enum-told-3
+    mul-t17
+    add-t18
+    slice-aggregate-lay-out-3
+    slice-aggregate-lay-out-4
+    lay-out-requires-2
+    enum-told-4
+    returns
+    same-length
+    returns-2
+    same-length-2
+    returns-3
+    returns-4)
