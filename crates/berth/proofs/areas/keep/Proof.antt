@@ -1,3 +1,9 @@
+use native.Mathlib.Omega.{arith}
+use lib.ListN.{length, take, drop, length-take, length-drop}
+use denote.Ref.{now}
+use mathlib.Core.Path.{_≡_}
+use Rattle.berth.proofs.Puts.{put-down}
+use Prim.Native.Nat.{_+_, _-_}
 use borrow.Author.Needs.{needs}
 use Rattle.berth.proofs.areas.keep.Statement.{statement}
 use Rattle.berth.proofs.areas.keep.Tie as tie
@@ -43,7 +49,10 @@ same-length c = search needs
 
 -- src/areas.rt:16:1
 returns : tie.Need-returns
-returns c = ?
+returns c = let a = c .before .before .before .before .before .before .before .args in
+    let n : a .from + a .count - a .from ≡ a .count = omega arith in
+    let part : length (take (a .count) (drop (a .from) (now (a .frame)))) ≡ a .count = simp (length-take, length-drop) (omega (arith, c .before .before .before .before .before .before .before .pre)) in
+    rw (c .before .before .copy .ensures .1, n) (put-down (now (a .area)) (a .place) (length (now (a .area)) - a .place) (take (a .count) (drop (a .from) (now (a .frame)))) (omega (arith, c .before .before .before .before .before .before .before .pre)) (omega (arith, c .before .before .before .before .before .before .before .pre)))
 
 pub keep-spec : {M : Type 1} → statement M
 keep-spec =

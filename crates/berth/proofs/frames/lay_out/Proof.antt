@@ -1,3 +1,4 @@
+use Rattle.berth.proofs.Puts.{laid-out}
 use borrow.Author.Needs.{needs}
 use Rattle.berth.proofs.frames.lay_out.Statement.{statement}
 use Rattle.berth.proofs.frames.lay_out.Tie as tie
@@ -39,7 +40,7 @@ same-length c = search needs
 
 -- src/frames.rt:108:1
 returns : tie.Need-returns
-returns c = ?
+returns c = laid-out _ _ _ _ _ _ (c .before .before .before .before .before .before .before .before .before .before .before .before .before .before .before .before .pre .0) (c .before .before .before .before .before .before .before .before .before .before .before .before .before .before .before .before .pre .1) (c .before .before .before .before .before .before .before .before .before .before .copy .ensures .1) (c .before .before .before .before .before .before .copy2 .ensures .1) (c .before .before .copy3 .ensures .1)
 
 pub lay-out-spec : {M : Type 1} → statement M
 lay-out-spec =

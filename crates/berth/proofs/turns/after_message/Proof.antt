@@ -33,7 +33,7 @@ enum-known-tx-2 c = search needs
 
 -- src/turns.rt:219:34
 after-consecutive-requires : tie.Need-after-consecutive-requires
-after-consecutive-requires c κs = ?
+after-consecutive-requires c κs = (rw (c .before .tx2 .given .1) at (c .before .before .before .pre)) .0
 
 -- src/turns.rt:207:1
 returns : tie.Need-returns

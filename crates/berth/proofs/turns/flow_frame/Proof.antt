@@ -1,3 +1,7 @@
+use mathlib.Core.Path.{sym, _∙_}
+use mathlib.Core.Bool.{true, false, true≢false}
+use Rattle.rules.specs.Turns.{flowDue, flowFrame}
+use Rattle.rules.specs.Frames.{overflowFrame, goFrame}
 use borrow.Author.Needs.{needs}
 use Rattle.berth.proofs.turns.flow_frame.Statement.{statement}
 use Rattle.berth.proofs.turns.flow_frame.Tie as tie
@@ -61,7 +65,8 @@ enum-told-4 c = search needs
 
 -- src/turns.rt:57:1
 returns : tie.Need-returns
-returns c = ?
+unfolding flowDue
+returns c = absurd (true≢false (sym (c .before .before .before .pre .0) ∙ rw (c .enum-told .given .1)))
 
 -- src/turns.rt:57:1
 same-length : tie.Need-same-length
@@ -69,7 +74,8 @@ same-length c = search needs
 
 -- src/turns.rt:57:1
 returns-2 : tie.Need-returns-2
-returns-2 c = ?
+unfolding flowFrame overflowFrame
+returns-2 c = rw (c .before .before .before .before .before .before .enum-told2 .given .1) (c .before .before .lay-out .ensures)
 
 -- src/turns.rt:57:1
 same-length-2 : tie.Need-same-length-2
@@ -77,11 +83,13 @@ same-length-2 c = search needs
 
 -- src/turns.rt:57:1
 returns-3 : tie.Need-returns-3
-returns-3 c = ?
+unfolding flowFrame goFrame
+returns-3 c = rw (c .before .before .before .before .before .before .enum-told3 .given .1) (c .before .before .lay-out2 .ensures)
 
 -- src/turns.rt:57:1
 returns-4 : tie.Need-returns-4
-returns-4 c = ?
+unfolding flowDue
+returns-4 c = absurd (true≢false (sym (c .before .before .before .pre .0) ∙ rw (c .enum-told4 .given .1)))
 
 pub flow-frame-spec : {M : Type 1} → statement M
 flow-frame-spec =

@@ -29,7 +29,7 @@ enum-known-tx c = search needs
 
 -- src/turns.rt:155:16
 to-go-requires : tie.Need-to-go-requires
-to-go-requires c κs = ?
+to-go-requires c κs = (rw (c .before .tx .given .1) at (c .before .before .before .pre)) .0 .position-most
 
 -- src/turns.rt:156:17
 returns : tie.Need-returns

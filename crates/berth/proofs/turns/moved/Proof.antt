@@ -1,3 +1,7 @@
+use Rattle.rules.specs.Turns.{moved}
+use native.Mathlib.Omega.{arith}
+use Rattle.berth.proofs.Fits.{share-most}
+use Rattle.rules.specs.Turns.{toGo}
 use borrow.Author.Needs.{needs}
 use Rattle.berth.proofs.turns.moved.Statement.{statement}
 use Rattle.berth.proofs.turns.moved.Tie as tie
@@ -17,7 +21,8 @@ share-requires c κs = search needs
 
 -- src/turns.rt:183:19
 add-t6 : tie.Need-add-t6
-add-t6 c = ?
+unfolding toGo
+add-t6 c = omega (arith, c .before .share .ensures, c .before .before .to-go .ensures, share-most (c .before .before .to-go .result))
 
 -- src/turns.rt:184:13
 next-requires : tie.Need-next-requires
@@ -25,7 +30,8 @@ next-requires c κs = search needs
 
 -- src/turns.rt:177:1
 returns : tie.Need-returns
-returns c = ?
+unfolding moved
+returns c = simp (c .before .before .share .ensures, c .before .before .before .to-go .ensures, c .next .ensures)
 
 pub moved-spec : {M : Type 1} → statement M
 moved-spec = tie.close (tie.spec to-go-requires share-requires add-t6 next-requires returns)

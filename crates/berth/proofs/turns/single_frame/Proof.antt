@@ -1,3 +1,8 @@
+use native.Mathlib.Omega.{arith}
+use lib.ListN.{length, take, length-take}
+use denote.Ref.{now}
+use mathlib.Core.Path.{_≡_}
+use Rattle.rules.specs.Frames.{singleFrame}
 use borrow.Author.Needs.{needs}
 use Rattle.berth.proofs.turns.single_frame.Statement.{statement}
 use Rattle.berth.proofs.turns.single_frame.Tie as tie
@@ -23,11 +28,11 @@ slice-aggregate-lay-out c = search needs
 
 -- src/turns.rt:108:35
 slice-aggregate-lay-out-2 : tie.Need-slice-aggregate-lay-out-2
-slice-aggregate-lay-out-2 c = ?
+slice-aggregate-lay-out-2 c = simp length-take (omega (arith, c .before .before .before .before .before .pre))
 
 -- src/turns.rt:108:5
 lay-out-requires : tie.Need-lay-out-requires
-lay-out-requires c κs = ?
+lay-out-requires c κs = (c .before .before .before .before .before .pre .2, simp length-take (omega (arith, c .before .before .before .before .before .pre)))
 
 -- src/turns.rt:102:1
 same-length : tie.Need-same-length
@@ -35,7 +40,8 @@ same-length c = search needs
 
 -- src/turns.rt:102:1
 returns : tie.Need-returns
-returns c = ?
+unfolding singleFrame
+returns c = let a = c .before .before .before .before .before .before .before .before .args in let n : length (take (a .n) (now (a .area))) ≡ a .n = simp length-take (omega (arith, c .before .before .before .before .before .before .before .before .pre)) in rw n (c .before .before .lay-out .ensures)
 
 pub single-frame-spec : {M : Type 1} → statement M
 single-frame-spec =
