@@ -1,3 +1,4 @@
+use denote.Ref.{now}
 use Rattle.berth.proofs.Puts.{laid-out}
 use borrow.Author.Needs.{needs}
 use Rattle.berth.proofs.frames.lay_out.Statement.{statement}
@@ -40,7 +41,12 @@ same-length c = search needs
 
 -- src/frames.rt:108:1
 returns : tie.Need-returns
-returns c = laid-out _ _ _ _ _ _ (c .before .before .before .before .before .before .before .before .before .before .before .before .before .before .before .before .pre .0) (c .before .before .before .before .before .before .before .before .before .before .before .before .before .before .before .before .pre .1) (c .before .before .before .before .before .before .before .before .before .before .copy .ensures .1) (c .before .before .before .before .before .before .copy2 .ensures .1) (c .before .before .copy3 .ensures .1)
+returns c = let start = c .before .before .before .before .before .before .before .before .before .before .before .before .before .before .before .before in
+    let filled = c .before .before .before .before .before .before .before .before .before .before .copy in
+    let headed = c .before .before .before .before .before .before .copy2 in
+    let laid = c .before .before .copy3 in
+    laid-out (now (start .args .frame)) (filled .last .1 .0) (headed .last .1 .0) (laid .last .1 .0) (now (start .args .head)) (now (start .args .piece))
+    (start .pre .0) (start .pre .1) (filled .ensures .1) (headed .ensures .1) (laid .ensures .1)
 
 pub lay-out-spec : {M : Type 1} → statement M
 lay-out-spec =

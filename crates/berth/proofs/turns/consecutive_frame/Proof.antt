@@ -1,3 +1,11 @@
+use native.Mathlib.Omega.{arith}
+use mathlib.Core.Path.{ap, _∙_, _≡_}
+use lib.ListN.{length-take, length-drop}
+use Rattle.rules.specs.Frames.{consecutiveFrame, share}
+use Rattle.rules.specs.Turns.{toGo}
+use Rattle.rules.specs.Numbers.{consecutiveMost}
+use Rattle.berth.proofs.Fits.{share-most}
+use Prim.Native.Nat.{_+_, _-_}
 use borrow.Author.Needs.{needs}
 use Rattle.berth.proofs.turns.consecutive_frame.Statement.{statement}
 use Rattle.berth.proofs.turns.consecutive_frame.Tie as tie
@@ -49,11 +57,12 @@ part-lay-out-start c = search needs
 
 -- src/turns.rt:128:35
 part-lay-out-end : tie.Need-part-lay-out-end
-part-lay-out-end c = ?
+unfolding toGo
+part-lay-out-end c = omega (arith, c .before .before .share .ensures, c .before .before .before .to-go .ensures, share-most (c .before .before .before .to-go .result), c .before .before .before .before .before .before .before .pre)
 
 -- src/turns.rt:128:5
 lay-out-requires : tie.Need-lay-out-requires
-lay-out-requires c κs = ?
+lay-out-requires c κs = (c .before .before .before .before .before .before .before .before .pre .3, simp (length-take, length-drop) (omega (arith, c .before .before .before .share .ensures, share-most (c .before .before .before .before .to-go .result))))
 
 -- src/turns.rt:120:1
 same-length : tie.Need-same-length
@@ -61,7 +70,10 @@ same-length c = search needs
 
 -- src/turns.rt:120:1
 returns : tie.Need-returns
-returns c = ?
+unfolding consecutiveFrame
+returns c = let o = c .before .before .before .before .before .before .before .before .before .before .before .args .o in
+    let n : o .position + c .before .before .before .before .before .before .share .result - o .position ≡ share consecutiveMost (toGo o) = omega (arith, c .before .before .before .before .before .before .share .ensures ∙ ap (share consecutiveMost) (c .before .before .before .before .before .before .before .to-go .ensures)) in
+    rw (← n) (c .before .before .lay-out .ensures)
 
 pub consecutive-frame-spec : {M : Type 1} → statement M
 consecutive-frame-spec =

@@ -1,3 +1,6 @@
+use native.Mathlib.Omega.{arith}
+use lib.ListN.{length-take}
+use Rattle.rules.specs.Frames.{firstFrame}
 use borrow.Author.Needs.{needs}
 use Rattle.berth.proofs.turns.first_frame.Statement.{statement}
 use Rattle.berth.proofs.turns.first_frame.Tie as tie
@@ -31,11 +34,11 @@ slice-aggregate-lay-out c = search needs
 
 -- src/turns.rt:117:35
 slice-aggregate-lay-out-2 : tie.Need-slice-aggregate-lay-out-2
-slice-aggregate-lay-out-2 c = ?
+slice-aggregate-lay-out-2 c = simp length-take (omega (arith, c .before .before .before .before .before .pre))
 
 -- src/turns.rt:117:5
 lay-out-requires : tie.Need-lay-out-requires
-lay-out-requires c κs = ?
+lay-out-requires c κs = (c .before .before .before .before .before .pre .2, simp length-take (omega (arith, c .before .before .before .before .before .pre)))
 
 -- src/turns.rt:111:1
 same-length : tie.Need-same-length
@@ -43,7 +46,8 @@ same-length c = search needs
 
 -- src/turns.rt:111:1
 returns : tie.Need-returns
-returns c = ?
+unfolding firstFrame
+returns c = c .before .before .lay-out .ensures
 
 pub first-frame-spec : {M : Type 1} → statement M
 first-frame-spec =

@@ -1,3 +1,6 @@
+use mathlib.Core.Path.{sym, _∙_}
+use Rattle.rules.specs.Turns.{due, handOver}
+use Rattle.berth.specs.Reading.{handedOf}
 use borrow.Author.Needs.{needs}
 use Rattle.berth.proofs.turns.hand_over.Statement.{statement}
 use Rattle.berth.proofs.turns.hand_over.Tie as tie
@@ -16,7 +19,7 @@ flow-due-requires c κs = search needs
 
 -- src/turns.rt:233:9
 flow-frame-requires : tie.Need-flow-frame-requires
-flow-frame-requires c κs = ?
+flow-frame-requires c κs = (sym (c .before .before .flow-due .ensures) ∙ c .before .if1 .taken, c .before .before .before .before .before .pre .5)
 
 -- src/turns.rt:235:17
 after-flow-requires : tie.Need-after-flow-requires
@@ -28,11 +31,15 @@ same-length c = search needs
 
 -- src/turns.rt:239:9
 returns : tie.Need-returns
-returns c = ?
+unfolding handOver handedOf
+returns c = simp (sym (c .before .before .before .before .before .before .flow-due .ensures) ∙ c .before .before .before .before .before .if1 .taken, c .after-flow .ensures, c .before .before .before .flow-frame .ensures)
 
 -- src/turns.rt:244:5
 message-frame-requires : tie.Need-message-frame-requires
-message-frame-requires c κs = ?
+unfolding due
+message-frame-requires c κs = let pre = c .before .before .before .before .before .pre in
+    let flow = sym (c .before .before .flow-due .ensures) ∙ c .before .if1 .left in
+    ((rw flow at (pre .0)), pre .1 .send, pre .3, pre .2, pre .4, pre .5)
 
 -- src/turns.rt:248:13
 after-message-requires : tie.Need-after-message-requires
@@ -48,7 +55,8 @@ same-length-2 c = search needs
 
 -- src/turns.rt:226:1
 returns-2 : tie.Need-returns-2
-returns-2 c = ?
+unfolding handOver handedOf
+returns-2 c = simp (sym (c .before .before .before .before .before .before .before .flow-due .ensures) ∙ c .before .before .before .before .before .before .if1 .left, c .message-code .ensures, c .before .after-message .ensures, c .before .before .before .before .message-frame .ensures)
 
 pub hand-over-spec : {M : Type 1} → statement M
 hand-over-spec =
