@@ -16,9 +16,9 @@ module _ (s : List ℕ) (at k : ℕ) (v : List ℕ) (fits : length v ≤ k) (ins
       let part = drop at s in
       let room : length v ≤ length (take k part) = simp (length-take, length-drop) (omega arith) in
       let behind : drop (length v) (take k part) ++ drop k part ≡ drop (at + length v) s
-            = sym (drop-append-le (length v) (take k part) (drop k part) room) ∙ ap (drop (length v)) (take-append-drop k part) ∙ drop-drop (length v) at s in
+      = sym (drop-append-le (length v) (take k part) (drop k part) room) ∙ ap (drop (length v)) (take-append-drop k part) ∙ drop-drop (length v) at s in
       let all : (take (length v) v ++ drop (length v) (take k part)) ++ drop k part ≡ v ++ drop (at + length v) s
-            = append-assoc (take (length v) v) (drop (length v) (take k part)) (drop k part) ∙ rw (take-length, behind) in
+      = append-assoc (take (length v) v) (drop (length v) (take k part)) (drop k part) ∙ rw (take-length, behind) in
       ap (λ z. take at s ++ z) all ∙ sym (append-assoc (take at s) v (drop (at + length v) s)) ∙ sym (sets-eq v s at (omega arith))
 
 -- some of many equal bytes

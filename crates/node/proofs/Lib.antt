@@ -1,0 +1,3 @@
+-- Facts that several proofs of this crate cite, and what the promises determine.
+pub mod Lists
+pub mod InRange
