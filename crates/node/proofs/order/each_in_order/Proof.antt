@@ -1,3 +1,10 @@
+use Rattle.rules.specs.declared.Berth.{Berth}
+use lib.ListN.{length-map}
+use native.Mathlib.Omega.{arith}
+use mathlib.Core.Path.{sym, _∙_}
+use lib.ListN.{drop-of-length-le}
+use Rattle.node.proofs.Lists.{each-passes, each-fails}
+use Rattle.rules.specs.Ranges.{fresh}
 use borrow.Author.Needs.{needs}
 use mathlib.Core.Path.{refl, _≡_}
 use Prim.Native.Nat.{_≤_, _-_}
@@ -19,7 +26,7 @@ abbrev μ-loop : tie.MeasureT-loop
 
 -- src/order.rt:15:5
 loop-holds : tie.Need-loop-holds Inv-loop μ-loop
-loop-holds c = (search needs, search needs, refl)
+loop-holds c = (search needs, sym (length-map (c .before .args .t1 .berths) _) ∙ c .before .good .0 .1 .1 .1 .1 .0 .1 .0 .1, refl)
 
 -- src/order.rt:16:19
 mul-one : tie.Need-mul-one Inv-loop μ-loop
@@ -43,15 +50,23 @@ loop-less c = search needs
 
 -- src/order.rt:15:5
 loop-again : tie.Need-loop-again Inv-loop μ-loop
-loop-again c = ?
+loop-again c = let s = c .before .before .before .before in
+    let node = s .before .before .args .t1 in
+    (search needs, search needs, each-passes (berthInOrder (node .settings)) (node .berths) (s .loop .i) fresh (omega arith) (sym (c .before .berth-in-order .ensures) ∙ c .if1 .taken) ∙ s .loop .inv .2)
 
 -- src/order.rt:20:13
 returns : tie.Need-returns Inv-loop μ-loop
-returns c = ?
+returns c = let s = c .before .before .before .before in
+    let node = s .before .before .args .t1 in
+    sym (each-fails (berthInOrder (node .settings)) (node .berths) (s .loop .i) fresh (omega arith) (sym (c .before .berth-in-order .ensures) ∙ c .if1 .left)) ∙ s .loop .inv .2
 
 -- src/order.rt:10:1
 returns-2 : tie.Need-returns-2 Inv-loop μ-loop
-returns-2 c = ?
+unfolding each
+returns-2 c = let s = c .before in
+    let berths = s .before .before .args .t1 .berths in
+    let past : length berths ≤ s .loop .i = omega arith in
+    rw (← s .loop .inv .2, drop-of-length-le berths past)
 
 pub each-in-order-spec : {M : Type 1} → statement M
 each-in-order-spec =

@@ -1,3 +1,18 @@
+use lib.ListN.{length-map}
+use mathlib.Core.Path.{sym, _∙_}
+use Rattle.rules.specs.declared.Berth.{Berth}
+use Rattle.node.proofs.Distances.{passed-all, stopped-at, at-most-ten}
+use Rattle.rules.specs.Stores.{passedOver}
+use Rattle.rules.proofs.Cases.{split}
+use native.Mathlib.Nat.{le-antisymm}
+use borrow.Author.Needs.{needs}
+use native.Mathlib.Omega.{arith}
+use Prim.Native.Nat.{ℕ, _≤_, _<_, _-_}
+use Rattle.node.proofs.Distances.{probed}
+use Rattle.rules.specs.Numbers.{berthCount}
+use lib.ListN.{length}
+use mathlib.Core.Path.{_≡_}
+use mathlib.Core.Bool.{false}
 use Rattle.node.proofs.round.passed_over.Statement.{statement}
 use Rattle.node.proofs.round.passed_over.Tie as tie
 use Rattle.node.proofs.round.passed_over.Reads as reads
@@ -5,58 +20,75 @@ use Rattle.node.proofs.round.passed_over.Lts as lts
 use Rattle.berth.proofs.turns.due.Reads as due-reads
 
 abbrev Inv-loop : tie.InvT-loop
-Inv-loop node passed₀ passed = ?
+Inv-loop node passed₀ passed = (passed ≤ berthCount) × (length (node .berths) ≡ berthCount) × ((j : ℕ) → j < passed → probed (node .served) (node .berths) j ≡ false)
 
 abbrev μ-loop : tie.MeasureT-loop
-μ-loop node passed₀ passed = ?
+μ-loop node passed₀ passed = berthCount - passed
 
 -- src/round.rt:14:5
 loop-holds : tie.Need-loop-holds Inv-loop μ-loop
-loop-holds c = ?
+loop-holds c = (search needs, sym (length-map (c .args .t1 .berths) _) ∙ c .good .0 .1 .1 .1 .1 .0 .1 .0 .1, λ j l. absurd (omega arith))
 
 -- src/round.rt:15:20
 add-at : tie.Need-add-at Inv-loop μ-loop
-add-at c = ?
+add-at c = search needs
 
 -- src/round.rt:15:20
 add-at-2 : tie.Need-add-at-2 Inv-loop μ-loop
-add-at-2 c = ?
+add-at-2 c = search needs
 
 -- src/round.rt:15:18
 cast-at : tie.Need-cast-at Inv-loop μ-loop
-cast-at c = ?
+cast-at c = search needs
 
 -- src/round.rt:16:19
 mul-one : tie.Need-mul-one Inv-loop μ-loop
-mul-one c = ?
+mul-one c = search needs
 
 -- src/round.rt:16:19
 element-copy-out-one : tie.Need-element-copy-out-one Inv-loop μ-loop
-element-copy-out-one c = ?
+element-copy-out-one c = search needs
 
 -- src/round.rt:17:12
 due-requires : tie.Need-due-requires Inv-loop μ-loop
-due-requires c κs = ?
+due-requires c κs = search needs
 
 -- src/round.rt:18:13
 returns : tie.Need-returns Inv-loop μ-loop
-returns c = ?
+unfolding passedOver
+returns c = let s = c .before .before .before .before in
+    let node = s .before .args .t1 in
+    let p = s .loop .passed in
+    le-antisymm
+    (passed-all (node .served) (node .berths) (s .before .pre) (s .loop .inv .1) p (s .loop .inv .0) (s .loop .inv .2))
+    (stopped-at (node .served) (node .berths) (s .before .pre) (s .loop .inv .1) p (c .before .before .before .loop-test .taken) (sym (c .before .due .ensures) ∙ c .if1 .taken))
 
 -- src/round.rt:20:9
 add-passed : tie.Need-add-passed Inv-loop μ-loop
-add-passed c = ?
+add-passed c = search needs
 
 -- src/round.rt:14:5
 loop-less : tie.Need-loop-less Inv-loop μ-loop
-loop-less c = ?
+loop-less c = search needs
 
 -- src/round.rt:14:5
 loop-again : tie.Need-loop-again Inv-loop μ-loop
-loop-again c = ?
+loop-again c = let s = c .before .before .before .before in
+    let off = sym (c .before .due .ensures) ∙ c .if1 .left in
+    ( search needs
+    , search needs
+    , λ j l. split (s .loop .passed) j (λ le. let z : j ≡ s .loop .passed = omega arith in rw z off) (λ lt. s .loop .inv .2 j lt))
 
 -- src/round.rt:9:1
 returns-2 : tie.Need-returns-2 Inv-loop μ-loop
-returns-2 c = ?
+unfolding passedOver
+returns-2 c = let s = c .before in
+    let node = s .before .args .t1 in
+    let p = s .loop .passed in
+    let most = at-most-ten (node .served) 0 (node .berths) in
+    le-antisymm
+    (passed-all (node .served) (node .berths) (s .before .pre) (s .loop .inv .1) p (s .loop .inv .0) (s .loop .inv .2))
+    (omega (arith, c .loop-test .left))
 
 pub passed-over-spec : {M : Type 1} → statement M
 passed-over-spec =
