@@ -3,3 +3,4 @@ pub mod Lists
 pub mod InRange
 pub mod Distances
 pub mod Outcomes
+pub mod Parts

@@ -5,7 +5,7 @@ use mathlib.Core.Bool.{Bool, true, false}
 use mathlib.Core.List.{List, [], _∷_}
 use Prim.Native.Nat.{ℕ, zero, suc, _<_}
 use native.Mathlib.Omega.{arith}
-use Rattle.rules.specs.Tests.{Need, need, firstUnmet}
+use Rattle.rules.specs.Tests.{pick, Need, need, firstUnmet}
 use Rattle.rules.specs.Stores.{Held}
 use Rattle.rules.specs.Answers.{Answer, refused, paperOf}
 use Rattle.rules.specs.Refusals.{Call, refusal}
@@ -25,6 +25,10 @@ unmet n ns e = rw e
 pub all-met : firstUnmet [] ≡ 0
 unfolding firstUnmet
 all-met = refl
+
+pub last-one : {b x : Bool} (n : ℕ) → x ≡ b → firstUnmet (need n x ∷ []) ≡ pick b 0 n
+unfolding firstUnmet
+last-one n e = rw e
 
 -- ---- outcomes
 
