@@ -8,7 +8,7 @@ use native.Mathlib.Nat.{mul-le-mul-right}
 use lib.ListN.{length, take, drop, length-take, length-drop}
 use lib.Dec.{leb, ltb}
 use mir.Facts.{eqb-yes, leb-yes}
-use borrow.Author.Tests.{le-leb, lt-ltb}
+use borrow.Author.Tests.{le-leb, lt-ltb, eq-eqb, ne-eqb}
 use Rattle.rules.specs.Numbers.{berthCount, fromBerth, frameLength, outsideArea}
 use Rattle.rules.specs.Tests.{pick, firstUnmet, need}
 use Rattle.rules.specs.Ranges.{berthAt, inOrder}
@@ -16,7 +16,7 @@ use Rattle.rules.specs.Arrivals.{frameCame}
 use Rattle.rules.specs.Stores.{rightStore, inside, cameAt}
 use Rattle.rules.specs.Refusals.{frame, senderOf, needs, refusal}
 use Rattle.rules.specs.declared.Node.{Node}
-use Rattle.rules.proofs.Cases.{yes-of}
+use Rattle.rules.proofs.Cases.{yes-of, split}
 use Rattle.berth.specs.Reading.{cameOf, Comes}
 use Rattle.berth.specs.declared.arrivals.Came.{Came}
 use Rattle.node.specs.Promises.{lent}
@@ -25,6 +25,18 @@ use Rattle.node.proofs.Outcomes.{meets, last-one}
 pub right-length : (n : Node) (store : List ℕ) → rightStore n store ≡ true → length store ≡ berthCount * n .settings .area
 unfolding rightStore
 right-length n store e = eqb-yes (yes-of e)
+
+-- the code's test of a store's length, against the length that it computed
+pub store-right : (n : Node) (store : List ℕ) (l : ℕ) → l ≡ berthCount * n .settings .area → length store ≡ l → rightStore n store ≡ true
+unfolding rightStore
+store-right n store l e h = eq-eqb _ _ (h ∙ e)
+
+pub store-wrong : (n : Node) (store : List ℕ) (l : ℕ) → l ≡ berthCount * n .settings .area → (length store ≡ l → ⊥) → rightStore n store ≡ false
+unfolding rightStore
+store-wrong n store l e h = ne-eqb _ _ (λ z. h (z ∙ sym e))
+
+pub positive : (n : ℕ) → (n ≡ 0 → ⊥) → 0 < n
+positive n h = split n 0 (λ z. absurd (h (omega arith))) (λ l. l)
 
 pub area-within : (k a : ℕ) → k < berthCount → k * a + a ≤ berthCount * a
 area-within k a h = omega (arith, mul-le-mul-right {m = k} {n = 9} a (omega arith))
