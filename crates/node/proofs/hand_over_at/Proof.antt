@@ -1,3 +1,22 @@
+use native.Mathlib.Omega.{arith}
+use borrow.Author.Tests.{lt-ltb, le-leb}
+use lib.ListN.{length, drop, length-take, length-drop}
+use denote.Ref.{now}
+use mathlib.Core.Path.{_∙_, _≡_}
+use Rattle.rules.specs.Numbers.{berthCount, frameLength}
+use Rattle.rules.specs.Ranges.{berthAt}
+use Rattle.rules.specs.Stores.{servedNode, reached, handedAt, areaOf, passedOver}
+use Rattle.rules.specs.Answers.{turnSays}
+use Rattle.rules.specs.Refusals.{turn, refusal, needs as needsOf}
+use Rattle.rules.specs.Calls.{done, reply, written}
+use Rattle.node.proofs.Parts.{right-length, area-within}
+use Rattle.node.proofs.InRange.{in-order}
+use Rattle.node.proofs.Distances.{due-there}
+use Rattle.node.proofs.Outcomes.{meets, all-met, does}
+use Rattle.node.specs.Promises.{lent}
+use Rattle.berth.specs.Reading.{handedOf}
+use Prim.Native.Nat.{_+_, _-_, _*_, _%_}
+use lib.Seq.{take-at}
 use borrow.Author.Needs.{needs}
 use Rattle.node.proofs.hand_over_at.Statement.{statement}
 use Rattle.node.proofs.hand_over_at.Tie as tie
@@ -7,11 +26,11 @@ use Rattle.berth.proofs.turns.hand_over.Reads as hand-over-reads
 
 -- src/lib.rt:253:14
 add-k : tie.Need-add-k
-add-k c = ?
+add-k c = let order = in-order (c .before .before .before .args .t1) (c .before .before .before .pre .0) in omega arith
 
 -- src/lib.rt:253:14
 add-k-2 : tie.Need-add-k-2
-add-k-2 c = ?
+add-k-2 c = let order = in-order (c .before .before .before .args .t1) (c .before .before .before .pre .0) in omega arith
 
 -- src/lib.rt:254:14
 cast-at : tie.Need-cast-at
@@ -23,11 +42,19 @@ cast-a c = search needs
 
 -- src/lib.rt:256:14
 mul-lo : tie.Need-mul-lo
-mul-lo c = ?
+mul-lo c = let a = c .before .before .before .before .args in
+    let order = in-order (a .t1) (c .before .before .before .before .pre .0) in
+    let k = (a .t1 .served + 1 + a .passed) % berthCount in
+    let within = area-within k (a .t1 .settings .area) (omega arith) in
+    omega (arith, order .settings .area-most)
 
 -- src/lib.rt:257:14
 add-hi : tie.Need-add-hi
-add-hi c = ?
+add-hi c = let a = c .before .before .before .before .args in
+    let order = in-order (a .t1) (c .before .before .before .before .pre .0) in
+    let k = (a .t1 .served + 1 + a .passed) % berthCount in
+    let within = area-within k (a .t1 .settings .area) (omega arith) in
+    omega (arith, order .settings .area-most)
 
 -- src/lib.rt:258:15
 mul-one : tie.Need-mul-one
@@ -47,7 +74,11 @@ part-hand-over-start c = search needs
 
 -- src/lib.rt:259:57
 part-hand-over-end : tie.Need-part-hand-over-end
-part-hand-over-end c = ?
+part-hand-over-end c = let a = c .before .before .before .before .before .args in
+    let order = in-order (a .t1) (c .before .before .before .before .before .pre .0) in
+    let k = (a .t1 .served + 1 + a .passed) % berthCount in
+    let within = area-within k (a .t1 .settings .area) (omega arith) in
+    omega (arith, right-length (a .t1) (now (a .outgoing)) (c .before .before .before .before .before .pre .1))
 
 -- src/lib.rt:259:76
 slice-relend-prefix-hand-over : tie.Need-slice-relend-prefix-hand-over
@@ -55,11 +86,22 @@ slice-relend-prefix-hand-over c = search needs
 
 -- src/lib.rt:259:76
 slice-aggregate-hand-over : tie.Need-slice-aggregate-hand-over
-slice-aggregate-hand-over c = ?
+slice-aggregate-hand-over c = simp length-take (omega (arith, c .before .before .before .before .before .before .before .pre))
 
 -- src/lib.rt:259:9
 hand-over-requires : tie.Need-hand-over-requires
-hand-over-requires c κs = ?
+unfolding berthAt passedOver
+hand-over-requires c κs = let a = c .before .before .before .before .before .before .before .args in
+    let order = in-order (a .t1) (c .before .before .before .before .before .before .before .pre .0) in
+    let k = (a .t1 .served + 1 + a .passed) % berthCount in
+    let within = area-within k (a .t1 .settings .area) (omega arith) in
+    let right = right-length (a .t1) (now (a .outgoing)) (c .before .before .before .before .before .before .before .pre .1) in
+    ( due-there (a .t1 .served) (a .t1 .berths) (order .served) (order .ten) (a .passed) (c .before .before .before .before .before .before .before .pre .4) (c .before .before .before .before .before .before .before .pre .3)
+    , order .berth k (omega arith)
+    , order .settings .area-least
+    , order .settings .area-most
+    , simp (length-take, length-drop) (omega arith)
+    , simp length-take (omega (arith, c .before .before .before .before .before .before .before .pre)))
 
 -- src/lib.rt:262:5
 mul-after : tie.Need-mul-after
@@ -83,7 +125,21 @@ same-length c = search needs
 
 -- src/lib.rt:248:1
 returns : tie.Need-returns
-returns c = ?
+unfolding refusal needsOf turnSays done reply written servedNode reached handedAt areaOf berthAt handedOf
+returns c = let a = c .before .before .before .before .before .before .before .before .before .before .before .args in
+    let order = in-order (a .t1) (c .before .before .before .before .before .before .before .before .before .before .before .pre .0) in
+    let k = (a .t1 .served + 1 + a .passed) % berthCount in
+    let within = area-within k (a .t1 .settings .area) (omega arith) in
+    let pre = c .before .before .before .before .before .before .before .before .before .before .before .pre in
+    let area = a .t1 .settings .area in
+    let lo = k * area in
+    let part : lo + area - lo ≡ area = omega arith in
+    let handed = c .before .before .before .hand-over in
+    let eight : length (handed .last .1 .1 .1 .0) ≡ frameLength = handed .kept .1 .1 .1 .0 ∙ simp length-take (omega (arith, pre)) in
+    let said = rw part at (handed .ensures) in
+    λ incoming. does (lent (a .t1) incoming (now (a .outgoing))) (turn (now (a .buffer)))
+    (meets _ _ (pre .0) (meets _ _ (pre .1) (meets _ _ (le-leb _ _ (pre .2)) all-met)))
+    (simp (← pre .3, lt-ltb _ _ (pre .4), ← said, take-at (handed .last .1 .1 .1 .0) (drop frameLength (now (a .buffer))) frameLength eight))
 
 pub hand-over-at-spec : {M : Type 1} → statement M
 hand-over-at-spec =
