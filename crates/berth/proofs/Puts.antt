@@ -23,7 +23,7 @@ module _ (s : List ℕ) (at k : ℕ) (v : List ℕ) (inside : at + k ≤ length 
       let room : k ≤ length part = simp length-drop (omega arith) in
       let behind = rejoined part (length v) k fits room ∙ drop-drop (length v) at s in
       let all : (take (length v) v ++ drop (length v) (take k part)) ++ drop k part ≡ v ++ drop (at + length v) s
-            = append-assoc (take (length v) v) (drop (length v) (take k part)) (drop k part) ∙ rw (take-length, behind) in
+      = append-assoc (take (length v) v) (drop (length v) (take k part)) (drop k part) ∙ rw (take-length, behind) in
       ap (λ z. take at s ++ z) all ∙ sym (append-assoc (take at s) v (drop (at + length v) s)) ∙ sym (sets-eq v s at (omega arith))
 
   -- bytes put down at a place of a part are bytes put down in the list
@@ -37,7 +37,7 @@ module _ (s : List ℕ) (at k : ℕ) (v : List ℕ) (inside : at + k ≤ length 
       let front : take place (take k part) ≡ take place part = take-take place k part (omega arith) in
       let rest = drop (at + place + length v) s in
       let inner : ((take place (take k part) ++ v) ++ drop (place + length v) (take k part)) ++ drop k part ≡ take place part ++ (v ++ rest)
-            = simp append-assoc (rw (front, behind)) in
+      = simp append-assoc (rw (front, behind)) in
       let outer : (take (at + place) s ++ v) ++ rest ≡ take at s ++ (take place part ++ (v ++ rest)) = rw take-add (simp append-assoc) in
       ap (λ z. take at s ++ (z ++ drop k part)) (sets-eq v (take k part) place long)
       ∙ ap (λ z. take at s ++ z) inner

@@ -30,9 +30,9 @@ module _ (served : ℕ) where
   no-nearer p k [] h f = h
   no-nearer p k (b ∷ bs) h f =
       let first : p ≤ pick (due b) (distance served k) berthCount
-            = here (due b) p (distance served k) h (λ e. let z : k + 0 ≡ k = omega arith in rw z at (f 0 (omega arith) e)) in
+      = here (due b) p (distance served k) h (λ e. let z : k + 0 ≡ k = omega arith in rw z at (f 0 (omega arith) e)) in
       let rest : p ≤ leastDistance served (suc k) bs
-            = no-nearer p (suc k) bs h (λ i l e. let z : k + suc i ≡ suc k + i = omega arith in rw z at (f (suc i) (omega arith) e)) in
+      = no-nearer p (suc k) bs h (λ i l e. let z : k + suc i ≡ suc k + i = omega arith in rw z at (f (suc i) (omega arith) e)) in
       omega arith
 
   no-farther : (k : ℕ) (bs : List Berth) (i : ℕ) → i < length bs → due (getD bs i fresh) ≡ true
@@ -85,8 +85,10 @@ module _ (served : ℕ) (bs : List Berth) (served-most : served < berthCount) (t
           off : (b : Bool) → probed served bs j ≡ b → b ≡ false
           off true q = let m = stopped-at j (omega arith) q in absurd (omega arith)
           off false q = refl
+
       through : probed served bs p ≡ false → (j : ℕ) → j < suc p → probed served bs j ≡ false
       through q j l = split p j (λ le. let z : j ≡ p = omega arith in rw z q) (λ lt. before j lt)
+
       go : (b : Bool) → probed served bs p ≡ b → b ≡ true
       go true q = refl
       go false q = let m = passed-all (suc p) (omega arith) (through q) in absurd (omega arith)

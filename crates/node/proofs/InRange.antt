@@ -46,9 +46,9 @@ taking-range : (s : Settings) (p : Taking) → T (takingInRange s p) → TakingR
 unfolding takingInRange
 taking-range s p t =
     let h =
-          all-yes
-          (leb leastLong (p .total) ∷ leb (p .total) (s .area) ∷ leb firstBytes (p .got) ∷ ltb (p .got) (p .total)
-          ∷ ltb (p .sn .0) snCount ∷ inBlock (s .block) (p .taken) ∷ []) t in
+    all-yes
+    (leb leastLong (p .total) ∷ leb (p .total) (s .area) ∷ leb firstBytes (p .got) ∷ ltb (p .got) (p .total)
+    ∷ ltb (p .sn .0) snCount ∷ inBlock (s .block) (p .taken) ∷ []) t in
     record {
       total-least = leb-yes (h .0);
       total-most = leb-yes (h .1 .0);
@@ -74,9 +74,9 @@ sending-range : (s : Settings) (o : Sending) → T (sendingInRange s o) → Send
 unfolding sendingInRange
 sending-range s o t =
     let h =
-          all-yes
-          (leb leastLong (o .length) ∷ leb (o .length) (s .area) ∷ leb firstBytes (o .position) ∷ ltb (o .position) (o .length)
-          ∷ ltb (o .sn .0) snCount ∷ inBlock (o .block) (o .sent) ∷ leb (o .gap) longestGap ∷ leb (o .left) longestGap ∷ []) t in
+    all-yes
+    (leb leastLong (o .length) ∷ leb (o .length) (s .area) ∷ leb firstBytes (o .position) ∷ ltb (o .position) (o .length)
+    ∷ ltb (o .sn .0) snCount ∷ inBlock (o .block) (o .sent) ∷ leb (o .gap) longestGap ∷ leb (o .left) longestGap ∷ []) t in
     record {
       length-least = leb-yes (h .0);
       length-most = leb-yes (h .1 .0);
@@ -99,10 +99,11 @@ tx-range s (Tx.AwaitsFlow o u) t =
     let h = all-yes (sendingInRange s o ∷ eqb (o .sent) 0 ∷ eqb (o .left) 0 ∷ ltb u timeout ∷ []) t in
     (sending-range s o (h .0), eqb-yes (h .1 .0), eqb-yes (h .1 .1 .0), ltb-yes (h .1 .1 .1 .0))
 tx-range s (Tx.Consecutive o u) t =
-    let h = all-yes (sendingInRange s o ∷ (eqb (o .left) 0 || eqb u 0) ∷ ltb u timeout ∷ []) t in
-    ( sending-range s o (h .0)
-    , ⊎-elim (λ e. inl (eqb-yes e)) (λ e. inr (eqb-yes e)) (or-cases (eqb (o .left) 0) (eqb u 0) (h .1 .0))
-    , ltb-yes (h .1 .1 .0))
+    let h = all-yes (sendingInRange s o ∷ (eqb (o .left) 0 || eqb u 0) ∷ ltb u timeout ∷ []) t in (
+      sending-range s o (h .0),
+      ⊎-elim (λ e. inl (eqb-yes e)) (λ e. inr (eqb-yes e)) (or-cases (eqb (o .left) 0) (eqb u 0) (h .1 .0)),
+      ltb-yes (h .1 .1 .0),
+    )
 
 berth-range : (s : Settings) (b : Berth) → T (berthInOrder s b) → BerthRange s b
 unfolding berthInOrder
@@ -115,9 +116,9 @@ unfolding inOrder berthAt
 in-order n e =
     let s = n .settings in
     let h =
-          all-yes
-          (settingsAllowed (s .area) (s .block) (s .stmin) ∷ ltb (n .served) berthCount ∷ eqb (length (n .berths)) berthCount
-          ∷ each (berthInOrder s) (n .berths) ∷ []) (yes-of e) in
+    all-yes
+    (settingsAllowed (s .area) (s .block) (s .stmin) ∷ ltb (n .served) berthCount ∷ eqb (length (n .berths)) berthCount
+    ∷ each (berthInOrder s) (n .berths) ∷ []) (yes-of e) in
     let ten : length (n .berths) ≡ berthCount = eqb-yes (h .1 .1 .0) in
     record {
       settings = settings-range (s .area) (s .block) (s .stmin) (h .0);

@@ -4,3 +4,4 @@ pub mod InRange
 pub mod Distances
 pub mod Outcomes
 pub mod Parts
+pub mod Shows

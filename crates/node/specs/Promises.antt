@@ -1,17 +1,17 @@
 -- The promise of each call, one predicate each over what the call is given, its answer, and the node, stores and buffer after it:
 -- what the code leaves is the outcome of the rules at that call. Answers are compared as paper 01 numbers them.
-use Prim.Native.Nat.{ℕ}
+use Prim.Native.Nat.{ℕ, _+_, _*_}
 use mathlib.Core.Path.{_≡_}
 use mathlib.Core.Bool.{Bool}
 use mathlib.Core.List.{List, []}
 use lib.ListN.{replicate}
 use Rattle.rules.specs.Numbers.{berthCount}
-use Rattle.rules.specs.Tests.{unless}
+use Rattle.rules.specs.Tests.{pick, unless}
 use Rattle.rules.specs.Frames.{framesNeeded}
 use Rattle.rules.specs.Stores.{Held}
 use Rattle.rules.specs.Answers.{Answer, shown, setUpSays, frameSays, tickSays, sendSays, turnSays, paperOf}
 use Rattle.rules.specs.Refusals.{frame, tick, send, turn, show}
-use Rattle.rules.specs.Calls.{Outcome, outcome, setUpOutcome}
+use Rattle.rules.specs.Calls.{Outcome, outcome, setUpOutcome, showable}
 use Rattle.rules.specs.declared.Node.{Node}
 use Rattle.rules.specs.declared.Codes.{Codes}
 use Rattle.rules.specs.declared.SetUpAnswer.{SetUpAnswer}
@@ -65,10 +65,18 @@ TurnPromise n outgoing buffer a n′ buffer′ =
     (incoming : List ℕ) →
     Agrees (left (turnSays a buffer′) (lent n′ incoming outgoing) buffer′) (outcome (lent n incoming outgoing) (turn buffer))
 
--- show is lent everything to look at, so it changes nothing
-abbrev pub ShowPromise : Node → List ℕ → List ℕ → ℕ → Bool → List ℕ → Type 0
-ShowPromise n incoming outgoing k choice part =
-    Agrees (left (shown part) (lent n incoming outgoing) []) (outcome (lent n incoming outgoing) (show k choice))
+-- where a part starts: a block of memory, and the place in it. Berth k's area in the chosen store, or the front of the incoming
+-- store where nothing can be shown
+abbrev pub startsAt : Held → ℕ → Bool → ℕ × ℕ → ℕ × ℕ → ℕ × ℕ
+startsAt h k choice incoming outgoing =
+    pick (showable h k)
+    (pick choice outgoing incoming .0, k * h .node .settings .area + pick choice outgoing incoming .1)
+    incoming
+
+-- show is lent everything to look at only, so nothing else changes
+pub record ShowPromise (n : Node) (incoming outgoing : List ℕ) (k : ℕ) (choice : Bool) (part : List ℕ) (in-at out-at part-at : ℕ × ℕ) : Type 0 where
+  pub agrees : Agrees (left (shown part) (lent n incoming outgoing) []) (outcome (lent n incoming outgoing) (show k choice))
+  pub starts : part-at ≡ startsAt (lent n incoming outgoing) k choice in-at out-at
 
 abbrev pub NeededPromise : ℕ → ℕ → Type 0
 NeededPromise n r = r ≡ framesNeeded n

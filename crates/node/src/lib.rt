@@ -299,7 +299,7 @@ pub fn show<'a>(
     berth: u32,
     choice: bool,
 ) -> &'a [u8]
-    ensures { λ r. ⌜ ShowPromise node (now (incoming .entry)) (now (outgoing .entry)) berth choice (now r) ⌝ }
+    ensures { λ r. ⌜ ShowPromise node (now (incoming .entry)) (now (outgoing .entry)) berth choice (now r) (incoming .entry .ptr) (outgoing .entry .ptr) (r .ptr) ⌝ }
 {
     if order::in_order(node) {
         if incoming.len() != order::store_length(node) {

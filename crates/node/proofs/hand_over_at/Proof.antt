@@ -95,13 +95,14 @@ hand-over-requires c κs = let a = c .before .before .before .before .before .be
     let order = in-order (a .t1) (c .before .before .before .before .before .before .before .pre .0) in
     let k = (a .t1 .served + 1 + a .passed) % berthCount in
     let within = area-within k (a .t1 .settings .area) (omega arith) in
-    let right = right-length (a .t1) (now (a .outgoing)) (c .before .before .before .before .before .before .before .pre .1) in
-    ( due-there (a .t1 .served) (a .t1 .berths) (order .served) (order .ten) (a .passed) (c .before .before .before .before .before .before .before .pre .4) (c .before .before .before .before .before .before .before .pre .3)
-    , order .berth k (omega arith)
-    , order .settings .area-least
-    , order .settings .area-most
-    , simp (length-take, length-drop) (omega arith)
-    , simp length-take (omega (arith, c .before .before .before .before .before .before .before .pre)))
+    let right = right-length (a .t1) (now (a .outgoing)) (c .before .before .before .before .before .before .before .pre .1) in (
+      due-there (a .t1 .served) (a .t1 .berths) (order .served) (order .ten) (a .passed) (c .before .before .before .before .before .before .before .pre .4) (c .before .before .before .before .before .before .before .pre .3),
+      order .berth k (omega arith),
+      order .settings .area-least,
+      order .settings .area-most,
+      simp (length-take, length-drop) (omega arith),
+      simp length-take (omega (arith, c .before .before .before .before .before .before .before .pre)),
+    )
 
 -- src/lib.rt:262:5
 mul-after : tie.Need-mul-after

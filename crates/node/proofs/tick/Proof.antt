@@ -29,10 +29,10 @@ returns c = search needs
 returns-2 : tie.Need-returns-2
 unfolding refusal needsOf tickSays
 returns-2 c = record {
-      agrees = λ incoming outgoing. refuses (lent (c .before .before .args .node) incoming outgoing) tick outOfOrder (omega arith) refl refl
+  agrees = λ incoming outgoing. refuses (lent (c .before .before .args .node) incoming outgoing) tick outOfOrder (omega arith) refl refl
       (unmet _ _ (sym (c .before .in-order .ensures) ∙ c .if1 .left));
-      beside = refl;
-    }
+  beside = refl;
+}
 
 pub tick-spec : {M : Type 1} → statement M
 tick-spec = tie.close (tie.spec in-order-requires ticked-requires returns returns-2)

@@ -83,11 +83,12 @@ loop-less c = search needs
 loop-again : tie.Need-loop-again Inv-loop μ-loop
 loop-again c = let s = c .before .before .before .before in
     let node = s .before .args .t1 in
-    let i = s .loop .i in
-    ( search needs
-    , search needs
-    , rw (s .loop .inv .2, c .ticked .ensures, filled-more ticked (node .berths) (node .berths) i fresh (omega arith) (omega arith))
-    , rw (s .loop .inv .3, c .before .codes-of .ensures) (filled-more codesOf (node .berths) noCodes i fresh (omega arith) (omega arith)))
+    let i = s .loop .i in (
+      search needs,
+      search needs,
+      rw (s .loop .inv .2, c .ticked .ensures, filled-more ticked (node .berths) (node .berths) i fresh (omega arith) (omega arith)),
+      rw (s .loop .inv .3, c .before .codes-of .ensures) (filled-more codesOf (node .berths) noCodes i fresh (omega arith) (omega arith)),
+    )
 
 -- src/lib.rt:147:1
 returns : tie.Need-returns Inv-loop μ-loop
@@ -97,8 +98,8 @@ returns c = let s = c .before in
     let i = s .loop .i in
     record {
       agrees = λ incoming outgoing. does (lent node incoming outgoing) tick
-      (meets _ _ (s .before .pre) all-met)
-      (rw (s .loop .inv .2, s .loop .inv .3, filled-all ticked (node .berths) (node .berths) i (omega arith) (omega arith), filled-all codesOf (node .berths) noCodes i (omega arith) (omega arith)));
+          (meets _ _ (s .before .pre) all-met)
+          (rw (s .loop .inv .2, s .loop .inv .3, filled-all ticked (node .berths) (node .berths) i (omega arith) (omega arith), filled-all codesOf (node .berths) noCodes i (omega arith) (omega arith)));
       beside = tt;
     }
 

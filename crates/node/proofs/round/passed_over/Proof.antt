@@ -74,10 +74,11 @@ loop-less c = search needs
 -- src/round.rt:14:5
 loop-again : tie.Need-loop-again Inv-loop μ-loop
 loop-again c = let s = c .before .before .before .before in
-    let off = sym (c .before .due .ensures) ∙ c .if1 .left in
-    ( search needs
-    , search needs
-    , λ j l. split (s .loop .passed) j (λ le. let z : j ≡ s .loop .passed = omega arith in rw z off) (λ lt. s .loop .inv .2 j lt))
+    let off = sym (c .before .due .ensures) ∙ c .if1 .left in (
+      search needs,
+      search needs,
+      λ j l. split (s .loop .passed) j (λ le. let z : j ≡ s .loop .passed = omega arith in rw z off) (λ lt. s .loop .inv .2 j lt),
+    )
 
 -- src/round.rt:9:1
 returns-2 : tie.Need-returns-2 Inv-loop μ-loop
