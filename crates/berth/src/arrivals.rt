@@ -166,6 +166,7 @@ fn pieced(p: Taking, rx: Rx, last: u32, word: Word) -> Heard
     requires { ⌜ p .got < p .total ⌝ }
     ensures { λ r. ⌜ ((d : List ℕ) → share consecutiveMost (missing p) + 1 ≤ length d → Hears r d (record { rx = rx; last = last; old = 0; word = word; place = p .got; bytes = piece p d })) ⌝ }
 {
+    let count = frames::share(missing(p));
     Heard {
         rx: rx,
         last: last,
@@ -173,7 +174,7 @@ fn pieced(p: Taking, rx: Rx, last: u32, word: Word) -> Heard
         word: word,
         place: p.got,
         from: 1,
-        count: frames::share(missing(p)),
+        count: count,
     }
 }
 
@@ -225,13 +226,15 @@ fn granted(o: Sending, frame: &[u8]) -> Sending
     ensures { λ r. ⌜ r ≡ granted o (now (frame .entry)) ⌝ }
 {
     let sn = o.sn;
+    let block = frame[1];
+    let gap = frames::gap_of(frame[2]);
     Sending {
         length: o.length,
         position: o.position,
         sn: sn,
-        block: frame[1],
+        block: block,
         sent: 0,
-        gap: frames::gap_of(frame[2]),
+        gap: gap,
         left: 0,
     }
 }
