@@ -7,3 +7,4 @@ pub mod Parts
 pub mod Shows
 pub mod Papers
 pub mod Determined
+pub mod PoorNodes
