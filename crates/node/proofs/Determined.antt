@@ -1,12 +1,10 @@
 -- A promise determines everything: what a call leaves is the outcome of the rules, so two that meet a promise are equal.
+use Prim.Native.Nat.{ℕ, zero, suc}
 use mathlib.Core.Path.{_≡_, refl, sym, ap, _∙_}
 use mathlib.Core.Bool.{Bool}
 use mathlib.Core.List.{List, []}
-use Prim.Native.Nat.{ℕ, zero, suc}
-use native.Mathlib.Omega.{arith}
 use Rattle.rules.specs.Tests.{unless}
-use Rattle.rules.specs.Stores.{Held}
-use Rattle.rules.specs.Answers.{Answer, shown, setUpSays, frameSays, tickSays, sendSays, turnSays}
+use Rattle.rules.specs.Answers.{shown, setUpSays, frameSays, tickSays, sendSays, turnSays}
 use Rattle.rules.specs.Refusals.{frame, tick, send, turn, show}
 use Rattle.rules.specs.Calls.{Outcome, outcome, setUpOutcome}
 use Rattle.rules.specs.declared.Node.{Node}
@@ -16,7 +14,7 @@ use Rattle.rules.specs.declared.Codes.{Codes}
 use Rattle.rules.specs.declared.TickAnswer.{TickAnswer}
 use Rattle.rules.specs.declared.SendAnswer.{SendAnswer}
 use Rattle.rules.specs.declared.TurnAnswer.{TurnAnswer}
-use Rattle.node.specs.Promises.{lent, left, Agrees, noCodes, startsAt, SetUpPromise, FramePromise, TickPromise, SendPromise, TurnPromise, ShowPromise, NeededPromise}
+use Rattle.node.specs.Promises.{lent, left, Agrees, noCodes, SetUpPromise, FramePromise, TickPromise, SendPromise, TurnPromise, ShowPromise, NeededPromise}
 use Rattle.node.proofs.Papers.{paper-tells}
 
 -- outcomes that agree are equal

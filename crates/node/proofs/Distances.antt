@@ -1,11 +1,10 @@
 -- The count of probes is the least cyclic distance: a due berth that is nearer than p would have been met by a probe before p, and
 -- the berth at which the search stops is due, so its distance is an upper bound.
+use Prim.Native.Nat.{ℕ, zero, suc, _+_, _-_, _%_, _<_, _≤_}
+use native.Mathlib.Omega.{arith}
 use mathlib.Core.Path.{_≡_, refl, sym, ap, _∙_}
 use mathlib.Core.Bool.{Bool, true, false, true≢false}
 use mathlib.Core.List.{List, [], _∷_}
-use Prim.Native.Nat.{ℕ, zero, suc, _+_, _-_, _%_, _<_, _≤_, min}
-use native.Mathlib.Omega.{arith}
-use native.Mathlib.Nat.{le-antisymm}
 use lib.ListN.{length, getD}
 use Rattle.rules.specs.Numbers.{berthCount}
 use Rattle.rules.specs.Tests.{pick}

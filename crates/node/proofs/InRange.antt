@@ -1,14 +1,13 @@
 -- A node whose test holds is in order: each test of the list is turned into its fact.
-use Prim.Native.Nat.{ℕ, _≤_, _<_}
+use Prim.Native.Nat.{ℕ}
 use mathlib.Core.Path.{_≡_}
-use mathlib.Core.Bool.{Bool, true, _&&_, _||_}
-use mathlib.Core.List.{List, [], _∷_}
+use mathlib.Core.Bool.{true, _&&_, _||_}
+use mathlib.Core.List.{[], _∷_}
 use mathlib.Core.Logic.{_⊎_, inl, inr, ⊎-elim}
-use native.Mathlib.Omega.{arith}
 use lib.ListN.{length, getD}
 use lib.Dec.{T, ltb, leb, eqb}
 use mir.Facts.{leb-yes, ltb-yes, eqb-yes}
-use Rattle.rules.specs.Tests.{pick, all, each}
+use Rattle.rules.specs.Tests.{pick, each}
 use Rattle.rules.specs.Numbers.{berthCount, leastArea, largestArea, largestBlock, mostMillis, leastFraction, mostFraction, timeout, snCount, longestGap, singleMost, firstBytes, leastLong}
 use Rattle.rules.specs.Ranges.{stminAllowed, StminRange, settingsAllowed, SettingsRange, inBlock, BlockRange, takingInRange, TakingRange, rxInRange, RxRange, sendingInRange, SendingRange, txInRange, TxRange, berthInOrder, BerthRange, fresh, berthAt, inOrder, InOrder}
 use Rattle.rules.specs.declared.Settings.{Settings}

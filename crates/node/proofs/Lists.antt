@@ -1,15 +1,13 @@
 -- Lists in loops: a test of every element, from a place on; a list that is filled with the images of another; and bytes put down in
 -- a part that was lent.
-use mathlib.Core.Path.{_≡_, refl, sym, ap, _∙_}
-use mathlib.Core.Bool.{Bool, true, false}
-use mathlib.Core.List.{List, [], _∷_, _++_, map, append-nil}
 use Prim.Native.Nat.{ℕ, zero, suc, _+_, _-_, _<_, _≤_}
-use native.Mathlib.Omega.{arith}
 use native.Mathlib.Numerals.{add-one}
 use native.Mathlib.Nat.{le-of-suc-le-suc, not-suc-le-zero}
-use lib.ListN.{length, getD, drop, take, set, length-take, length-drop, drop-of-length-le}
-use lib.Seq.{drop-cons, take-all, sets}
-use borrow.Rule.Slice.PartMut.{putMid, midOf, set-mid-at}
+use mathlib.Core.Path.{_≡_, refl, ap}
+use mathlib.Core.Bool.{Bool, true, false}
+use mathlib.Core.List.{List, [], _∷_, _++_, map, append-nil}
+use lib.ListN.{length, getD, drop, take, set, drop-of-length-le}
+use lib.Seq.{drop-cons, take-all}
 use Rattle.rules.specs.Tests.{each}
 
 module _ {X : Type 0} (f : X → Bool) (l : List X) (i : ℕ) (d : X) (h : i < length l) where

@@ -1,10 +1,10 @@
 -- A call is refused with the number of its first need that is not met, and done where all are met; either way what the code leaves
 -- agrees with the outcome of the rules.
+use Prim.Native.Nat.{ℕ, zero, suc, _<_}
+use native.Mathlib.Omega.{arith}
 use mathlib.Core.Path.{_≡_, refl, ap, _∙_}
 use mathlib.Core.Bool.{Bool, true, false}
 use mathlib.Core.List.{List, [], _∷_}
-use Prim.Native.Nat.{ℕ, zero, suc, _<_}
-use native.Mathlib.Omega.{arith}
 use Rattle.rules.specs.Tests.{pick, Need, need, firstUnmet}
 use Rattle.rules.specs.Stores.{Held}
 use Rattle.rules.specs.Answers.{Answer, refused, paperOf}

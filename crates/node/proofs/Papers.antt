@@ -1,11 +1,11 @@
 -- The paper's number and values of an answer say which answer it is: each is read back.
+use Prim.Native.Nat.{ℕ}
 use mathlib.Core.Path.{_≡_, refl, sym, ap, _∙_}
 use mathlib.Core.List.{List, [], _∷_}
-use Prim.Native.Nat.{ℕ}
 use lib.ListN.{getD, drop}
 use lib.Dec.{eqb}
 use Rattle.rules.specs.Tests.{pick}
-use Rattle.rules.specs.Answers.{Answer, refused, ready, heard, codes, sent, handed, none, shown, Paper, wordPaper, codesPaper, paperOf}
+use Rattle.rules.specs.Answers.{Answer, refused, ready, heard, codes, sent, handed, none, shown, wordPaper, codesPaper, paperOf}
 use Rattle.rules.specs.declared.Word.{Word}
 use Rattle.rules.specs.declared.Codes.{Codes}
 

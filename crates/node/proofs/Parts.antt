@@ -1,16 +1,16 @@
 -- A berth's area lies within a store of ten areas; a frame that refusals 1 to 4 let pass is refused or not by its last need alone.
-use mathlib.Core.Path.{_≡_, sym, ap, _∙_}
-use mathlib.Core.Bool.{Bool, true, false, _&&_}
-use mathlib.Core.List.{List, []}
 use Prim.Native.Nat.{ℕ, _+_, _*_, _≤_, _<_}
 use native.Mathlib.Omega.{arith}
 use native.Mathlib.Nat.{mul-le-mul-right}
+use mathlib.Core.Path.{_≡_, sym, _∙_}
+use mathlib.Core.Bool.{Bool, true, false, _&&_}
+use mathlib.Core.List.{List}
 use lib.ListN.{length, take, drop, length-take, length-drop}
 use lib.Dec.{leb, ltb}
 use mir.Facts.{eqb-yes, leb-yes}
 use borrow.Author.Tests.{le-leb, lt-ltb, eq-eqb, ne-eqb}
 use Rattle.rules.specs.Numbers.{berthCount, fromBerth, frameLength, outsideArea}
-use Rattle.rules.specs.Tests.{pick, firstUnmet, need}
+use Rattle.rules.specs.Tests.{pick}
 use Rattle.rules.specs.Ranges.{berthAt, inOrder}
 use Rattle.rules.specs.Arrivals.{frameCame}
 use Rattle.rules.specs.Stores.{rightStore, inside, cameAt}

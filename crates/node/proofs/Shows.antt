@@ -1,13 +1,13 @@
 -- What can be shown lies within its berth's area, so the part of the store is the part of the area.
-use mathlib.Core.Path.{_≡_, refl, sym, ap, _∙_}
-use mathlib.Core.Bool.{Bool, true, false}
-use mathlib.Core.List.{List, []}
 use Prim.Native.Nat.{ℕ, _+_, _-_, _*_, _≤_}
 use native.Mathlib.Omega.{arith}
-use lib.ListN.{length, take, drop}
+use mathlib.Core.Path.{_≡_}
+use mathlib.Core.Bool.{Bool, true, false}
+use mathlib.Core.List.{List, []}
+use lib.ListN.{take, drop}
 use lib.Seq.{take-take}
-use Rattle.rules.specs.Tests.{pick, firstUnmet}
-use Rattle.rules.specs.Ranges.{RxRange, TxRange, SettingsRange, BerthRange, berthAt, InOrder}
+use Rattle.rules.specs.Tests.{pick}
+use Rattle.rules.specs.Ranges.{RxRange, TxRange, berthAt}
 use Rattle.rules.specs.Turns.{lengthSending}
 use Rattle.rules.specs.Stores.{areaOf}
 use Rattle.rules.specs.Refusals.{show, needs, refusal}

@@ -1,46 +1,38 @@
+use Prim.Native.Nat.{_+_, _-_, _*_, _%_}
 use native.Mathlib.Omega.{arith}
-use borrow.Author.Tests.{lt-ltb, le-leb}
-use lib.ListN.{length, drop, length-take, length-drop}
-use denote.Ref.{now}
 use mathlib.Core.Path.{_∙_, _≡_}
+use lib.ListN.{length, drop, length-take, length-drop}
+use lib.Seq.{take-at}
+use denote.Ref.{now}
+use borrow.Author.Tests.{lt-ltb, le-leb}
+use borrow.Author.Needs.{needs}
 use Rattle.rules.specs.Numbers.{berthCount, frameLength}
 use Rattle.rules.specs.Ranges.{berthAt}
 use Rattle.rules.specs.Stores.{servedNode, reached, handedAt, areaOf, passedOver}
 use Rattle.rules.specs.Answers.{turnSays}
 use Rattle.rules.specs.Refusals.{turn, refusal, needs as needsOf}
 use Rattle.rules.specs.Calls.{done, reply, written}
+use Rattle.berth.specs.Reading.{handedOf}
 use Rattle.node.proofs.Parts.{right-length, area-within}
 use Rattle.node.proofs.InRange.{in-order}
 use Rattle.node.proofs.Distances.{due-there}
 use Rattle.node.proofs.Outcomes.{meets, all-met, does}
 use Rattle.node.specs.Promises.{lent}
-use Rattle.berth.specs.Reading.{handedOf}
-use Prim.Native.Nat.{_+_, _-_, _*_, _%_}
-use lib.Seq.{take-at}
-use borrow.Author.Needs.{needs}
 use Rattle.node.proofs.hand_over_at.Statement.{statement}
 use Rattle.node.proofs.hand_over_at.Tie as tie
-use Rattle.node.proofs.hand_over_at.Reads as reads
-use Rattle.node.proofs.hand_over_at.Lts as lts
-use Rattle.berth.proofs.turns.hand_over.Reads as hand-over-reads
 
--- src/lib.rt:253:14
 add-k : tie.Need-add-k
 add-k c = let order = in-order (c .before .before .before .args .t1) (c .before .before .before .pre .0) in omega arith
 
--- src/lib.rt:253:14
 add-k-2 : tie.Need-add-k-2
 add-k-2 c = let order = in-order (c .before .before .before .args .t1) (c .before .before .before .pre .0) in omega arith
 
--- src/lib.rt:254:14
 cast-at : tie.Need-cast-at
 cast-at c = search needs
 
--- src/lib.rt:255:13
 cast-a : tie.Need-cast-a
 cast-a c = search needs
 
--- src/lib.rt:256:14
 mul-lo : tie.Need-mul-lo
 mul-lo c = let a = c .before .before .before .before .args in
     let order = in-order (a .t1) (c .before .before .before .before .pre .0) in
@@ -48,7 +40,6 @@ mul-lo c = let a = c .before .before .before .before .args in
     let within = area-within k (a .t1 .settings .area) (omega arith) in
     omega (arith, order .settings .area-most)
 
--- src/lib.rt:257:14
 add-hi : tie.Need-add-hi
 add-hi c = let a = c .before .before .before .before .args in
     let order = in-order (a .t1) (c .before .before .before .before .pre .0) in
@@ -56,23 +47,18 @@ add-hi c = let a = c .before .before .before .before .args in
     let within = area-within k (a .t1 .settings .area) (omega arith) in
     omega (arith, order .settings .area-most)
 
--- src/lib.rt:258:15
 mul-one : tie.Need-mul-one
 mul-one c = search needs
 
--- src/lib.rt:258:15
 element-copy-out-one : tie.Need-element-copy-out-one
 element-copy-out-one c = search needs
 
--- src/lib.rt:259:57
 sub-hand-over : tie.Need-sub-hand-over
 sub-hand-over c = search needs
 
--- src/lib.rt:259:57
 part-hand-over-start : tie.Need-part-hand-over-start
 part-hand-over-start c = search needs
 
--- src/lib.rt:259:57
 part-hand-over-end : tie.Need-part-hand-over-end
 part-hand-over-end c = let a = c .before .before .before .before .before .args in
     let order = in-order (a .t1) (c .before .before .before .before .before .pre .0) in
@@ -80,15 +66,12 @@ part-hand-over-end c = let a = c .before .before .before .before .before .args i
     let within = area-within k (a .t1 .settings .area) (omega arith) in
     omega (arith, right-length (a .t1) (now (a .outgoing)) (c .before .before .before .before .before .pre .1))
 
--- src/lib.rt:259:76
 slice-relend-prefix-hand-over : tie.Need-slice-relend-prefix-hand-over
 slice-relend-prefix-hand-over c = search needs
 
--- src/lib.rt:259:76
 slice-aggregate-hand-over : tie.Need-slice-aggregate-hand-over
 slice-aggregate-hand-over c = simp length-take (omega (arith, c .before .before .before .before .before .before .before .pre))
 
--- src/lib.rt:259:9
 hand-over-requires : tie.Need-hand-over-requires
 unfolding berthAt passedOver
 hand-over-requires c κs = let a = c .before .before .before .before .before .before .before .args in
@@ -104,27 +87,21 @@ hand-over-requires c κs = let a = c .before .before .before .before .before .be
       simp length-take (omega (arith, c .before .before .before .before .before .before .before .pre)),
     )
 
--- src/lib.rt:262:5
 mul-after : tie.Need-mul-after
 mul-after c = search needs
 
--- src/lib.rt:262:5
 element-set-from-after : tie.Need-element-set-from-after
 element-set-from-after c = search needs
 
--- src/lib.rt:266:43
 cast-t31 : tie.Need-cast-t31
 cast-t31 c = search needs
 
--- src/lib.rt:266:25
 add-t32 : tie.Need-add-t32
 add-t32 c = search needs
 
--- src/lib.rt:248:1
 same-length : tie.Need-same-length
 same-length c = search needs
 
--- src/lib.rt:248:1
 returns : tie.Need-returns
 unfolding refusal needsOf turnSays done reply written servedNode reached handedAt areaOf berthAt handedOf
 returns c = let a = c .before .before .before .before .before .before .before .before .before .before .before .args in

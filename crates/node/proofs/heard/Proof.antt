@@ -1,62 +1,47 @@
-use Rattle.node.proofs.Parts.{inside-fits}
+use Prim.Native.Nat.{_+_, _-_, _*_, _<_}
 use native.Mathlib.Omega.{arith}
 use mathlib.Core.Path.{sym, ap, _∙_, _≡_}
+use mathlib.Core.Bool.{true, false}
 use lib.ListN.{take, drop, length-take, length-drop}
 use denote.Ref.{now}
-use mathlib.Core.Bool.{true, false}
-use Prim.Native.Nat.{_+_, _-_, _*_, _<_}
+use borrow.Author.Needs.{needs}
 use Rattle.rules.specs.Numbers.{berthCount, fromBerth, outsideArea}
 use Rattle.rules.specs.Ranges.{berthAt}
 use Rattle.rules.specs.Stores.{inside, cameAt, withBerth, stored}
 use Rattle.rules.specs.Calls.{done, afterFrame, reply, written}
 use Rattle.rules.specs.Answers.{frameSays}
 use Rattle.rules.specs.Refusals.{frame}
-use Rattle.node.proofs.InRange.{in-order}
-use Rattle.node.proofs.Parts.{right-length, area-within, counted, last-need}
-use Rattle.node.proofs.Outcomes.{does, refuses}
-use Rattle.node.specs.Promises.{lent}
 use Rattle.berth.specs.Reading.{cameOf}
 use Rattle.berth.proofs.Puts.{put-in-part}
-use borrow.Author.Needs.{needs}
+use Rattle.node.proofs.Parts.{inside-fits, right-length, area-within, counted, last-need}
+use Rattle.node.proofs.InRange.{in-order}
+use Rattle.node.proofs.Outcomes.{does, refuses}
+use Rattle.node.specs.Promises.{lent}
 use Rattle.node.proofs.heard.Statement.{statement}
 use Rattle.node.proofs.heard.Tie as tie
-use Rattle.node.proofs.heard.Reads as reads
-use Rattle.node.proofs.heard.Lts as lts
-use Rattle.berth.proofs.areas.inside.Reads as inside-reads
-use Rattle.berth.proofs.areas.keep.Reads as keep-reads
-use Rattle.berth.proofs.arrivals.frame_came.Reads as frame-came-reads
-use Rattle.node.proofs.frame_refused.Reads as frame-refused-reads
 
--- src/lib.rt:98:13
 sub-k : tie.Need-sub-k
 sub-k c = search needs
 
--- src/lib.rt:99:14
 cast-at : tie.Need-cast-at
 cast-at c = search needs
 
--- src/lib.rt:100:15
 mul-one : tie.Need-mul-one
 mul-one c = search needs
 
--- src/lib.rt:100:15
 element-copy-out-one : tie.Need-element-copy-out-one
 element-copy-out-one c = search needs
 
--- src/lib.rt:101:9
 frame-came-requires : tie.Need-frame-came-requires
 unfolding berthAt
 frame-came-requires c κs = let a = c .before .before .before .before .args in in-order (a .t1) (c .before .before .before .before .pre .0) .berth (a .identifier - fromBerth) (omega (arith, c .before .before .before .before .pre))
 
--- src/lib.rt:102:8
 inside-requires : tie.Need-inside-requires
 inside-requires c κs = search needs
 
--- src/lib.rt:103:17
 cast-a : tie.Need-cast-a
 cast-a c = search needs
 
--- src/lib.rt:104:18
 mul-lo : tie.Need-mul-lo
 mul-lo c = let a = c .before .before .before .before .before .before .before .before .args in
     let k : a .identifier - fromBerth < berthCount = omega (arith, c .before .before .before .before .before .before .before .before .pre) in
@@ -64,7 +49,6 @@ mul-lo c = let a = c .before .before .before .before .before .before .before .be
     let end = area-within (a .identifier - fromBerth) (a .t1 .settings .area) k in
     omega arith
 
--- src/lib.rt:105:18
 add-hi : tie.Need-add-hi
 add-hi c = let a = c .before .before .before .before .before .before .before .before .args in
     let k : a .identifier - fromBerth < berthCount = omega (arith, c .before .before .before .before .before .before .before .before .pre) in
@@ -72,15 +56,12 @@ add-hi c = let a = c .before .before .before .before .before .before .before .be
     let end = area-within (a .identifier - fromBerth) (a .t1 .settings .area) k in
     omega arith
 
--- src/lib.rt:107:13
 sub-keep : tie.Need-sub-keep
 sub-keep c = search needs
 
--- src/lib.rt:107:13
 part-keep-start : tie.Need-part-keep-start
 part-keep-start c = search needs
 
--- src/lib.rt:107:13
 part-keep-end : tie.Need-part-keep-end
 part-keep-end c = let a = c .before .before .before .before .before .before .before .before .args in
     let k : a .identifier - fromBerth < berthCount = omega (arith, c .before .before .before .before .before .before .before .before .pre) in
@@ -88,7 +69,6 @@ part-keep-end c = let a = c .before .before .before .before .before .before .bef
     let end = area-within (a .identifier - fromBerth) (a .t1 .settings .area) k in
     omega (arith, right-length (a .t1) (now (a .incoming)) (c .before .before .before .before .before .before .before .before .pre .1))
 
--- src/lib.rt:106:9
 keep-requires : tie.Need-keep-requires
 keep-requires c κs = let a = c .before .before .before .before .before .before .before .before .before .args in
     let k : a .identifier - fromBerth < berthCount = omega (arith, c .before .before .before .before .before .before .before .before .before .pre) in
@@ -99,23 +79,18 @@ keep-requires c κs = let a = c .before .before .before .before .before .before 
     let fits = inside-fits (a .t1 .settings .area) (came .place) (came .count) (sym (c .before .before .before .inside .ensures) ∙ c .before .before .if1 .taken) in
     (simp (length-take, length-drop) (omega (arith, fits)), c .before .before .before .before .frame-came .ensures .within)
 
--- src/lib.rt:116:9
 mul-after : tie.Need-mul-after
 mul-after c = search needs
 
--- src/lib.rt:116:9
 element-set-from-after : tie.Need-element-set-from-after
 element-set-from-after c = search needs
 
--- src/lib.rt:118:40
 cast-t30 : tie.Need-cast-t30
 cast-t30 c = search needs
 
--- src/lib.rt:117:9
 same-length : tie.Need-same-length
 same-length c = search needs
 
--- src/lib.rt:117:9
 returns : tie.Need-returns
 unfolding done afterFrame reply written withBerth stored cameAt cameOf frameSays berthAt
 returns c = let a = c .before .before .before .before .before .before .before .before .before .before .before .before .before .args in
@@ -139,11 +114,9 @@ returns c = let a = c .before .before .before .before .before .before .before .b
     (last-need node incoming (a .identifier) d (came .result) (came .ensures) (pre .0) (pre .1) (pre .2) (pre .3) (pre .4) true there outgoing)
     (rw (← came .ensures .same, c .before .before .before .keep .ensures, part, kept))
 
--- src/lib.rt:122:5
 frame-refused-requires : tie.Need-frame-refused-requires
 frame-refused-requires c κs = search needs
 
--- src/lib.rt:93:1
 returns-2 : tie.Need-returns-2
 unfolding frameSays berthAt
 returns-2 c = let a = c .before .before .before .before .before .before .before .before .args in

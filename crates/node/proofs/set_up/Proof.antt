@@ -1,42 +1,33 @@
-use mathlib.Core.Logic.{⊎-elim}
 use native.Mathlib.Omega.{arith}
+use mathlib.Core.Logic.{⊎-elim}
 use mathlib.Core.Path.{sym, refl, _∙_}
-use Rattle.node.proofs.Outcomes.{unmet, meets, all-met, agrees}
-use Rattle.node.proofs.InRange.{settings-range}
+use borrow.Author.Needs.{needs}
 use Rattle.rules.proofs.Cases.{yes-of}
 use Rattle.rules.specs.Refusals.{setUpRefusal}
 use Rattle.rules.specs.Answers.{setUpSays}
 use Rattle.rules.specs.Stores.{setUpNode}
 use Rattle.rules.specs.Calls.{setUpOutcome, refusedOutcome}
-use borrow.Author.Needs.{needs}
+use Rattle.node.proofs.Outcomes.{unmet, meets, all-met, agrees}
+use Rattle.node.proofs.InRange.{settings-range}
 use Rattle.node.proofs.set_up.Statement.{statement}
 use Rattle.node.proofs.set_up.Tie as tie
-use Rattle.node.proofs.set_up.Reads as reads
-use Rattle.node.proofs.set_up.Lts as lts
-use Rattle.berth.proofs.ranges.settings_allowed.Reads as settings-allowed-reads
 
--- src/lib.rt:55:8
 settings-allowed-requires : tie.Need-settings-allowed-requires
 settings-allowed-requires c κs = search needs
 
--- src/lib.rt:58:20
 cast-t10 : tie.Need-cast-t10
 cast-t10 c = let range = settings-range (c .before .before .args .area) (c .before .before .args .block) (c .before .before .args .stmin) (yes-of (sym (c .before .settings-allowed .ensures) ∙ c .if1 .taken)) in record { fits = omega (arith, range .block-most) }
 
--- src/lib.rt:59:20
 cast-t11 : tie.Need-cast-t11
 cast-t11 c = let range = settings-range (c .before .before .args .area) (c .before .before .args .block) (c .before .before .args .stmin) (yes-of (sym (c .before .settings-allowed .ensures) ∙ c .if1 .taken)) in record { fits = ⊎-elim (λ h. omega arith) (λ h. omega arith) (range .stmin-allowed) }
 
--- src/lib.rt:69:21
 sub-t10 : tie.Need-sub-t10
 sub-t10 c = search needs
 
--- src/lib.rt:72:9
 returns : tie.Need-returns
 unfolding setUpOutcome setUpRefusal setUpSays setUpNode
 returns c = λ incoming outgoing. rw (meets _ _ (sym (c .before .settings-allowed .ensures) ∙ c .if1 .taken) all-met) (agrees refl)
 
--- src/lib.rt:52:1
 returns-2 : tie.Need-returns-2
 unfolding setUpOutcome setUpRefusal setUpSays refusedOutcome
 returns-2 c = λ incoming outgoing. rw (unmet _ _ (sym (c .before .settings-allowed .ensures) ∙ c .if1 .left)) (agrees refl)

@@ -1,23 +1,18 @@
 use native.Mathlib.Omega.{arith}
 use mathlib.Core.Path.{sym, refl, _∙_, _≡_}
-use borrow.Author.Tests.{le-ltb, lt-ltb}
+use mathlib.Core.Bool.{true, false}
 use lib.ListN.{getD}
 use denote.Ref.{now}
-use mathlib.Core.Bool.{true, false}
+use borrow.Author.Tests.{le-ltb, lt-ltb}
+use borrow.Author.Needs.{needs}
 use Rattle.rules.specs.Ranges.{InOrder, berthAt, fresh}
 use Rattle.rules.specs.Calls.{showable}
 use Rattle.node.proofs.Parts.{store-right, store-wrong, right-length, area-within}
 use Rattle.node.proofs.InRange.{in-order}
 use Rattle.node.proofs.Shows.{shows, shows-none, last-fits, sending-fits}
 use Rattle.node.specs.Promises.{lent}
-use borrow.Author.Needs.{needs}
 use Rattle.node.proofs.show.Statement.{statement}
 use Rattle.node.proofs.show.Tie as tie
-use Rattle.node.proofs.show.Reads as reads
-use Rattle.node.proofs.show.Lts as lts
-use Rattle.berth.proofs.turns.length_sending.Reads as length-sending-reads
-use Rattle.node.proofs.order.in_order.Reads as in-order-reads
-use Rattle.node.proofs.order.store_length.Reads as store-length-reads
 
 -- where all four tests held
 able : (c : tie.Else4) → let a = c .before .before .before .before .before .before .before .before .before .args in showable (lent (a .t1) (now (a .incoming)) (now (a .outgoing))) (a .berth) ≡ true
@@ -32,80 +27,63 @@ able c =
 order : (c : tie.Else4) → InOrder (c .before .before .before .before .before .before .before .before .before .args .t1)
 order c = in-order (c .before .before .before .before .before .before .before .before .before .args .t1) (sym (c .before .before .before .before .before .before .in-order .ensures) ∙ c .before .before .before .before .before .if1 .taken)
 
--- src/lib.rt:304:8
 in-order-requires : tie.Need-in-order-requires
 in-order-requires c κs = search needs
 
--- src/lib.rt:305:30
 store-length-requires : tie.Need-store-length-requires
 store-length-requires c κs = search needs
 
--- src/lib.rt:306:13
 slice-aggregate-result : tie.Need-slice-aggregate-result
 slice-aggregate-result c = search needs
 
--- src/lib.rt:306:13
 returns : tie.Need-returns
 unfolding showable
 returns c = let a = c .before .before .before .before .before .before .before .args in
     shows-none (a .t1) (now (a .incoming)) (now (a .outgoing)) (a .berth) (a .incoming .ptr) (a .outgoing .ptr) (a .choice) (simp (sym (c .before .before .before .before .in-order .ensures) ∙ c .before .before .before .if1 .taken, store-wrong (a .t1) (now (a .incoming)) _ (c .before .before .store-length .ensures) (c .before .if2 .taken)))
 
--- src/lib.rt:308:30
 store-length-requires-2 : tie.Need-store-length-requires-2
 store-length-requires-2 c κs = search needs
 
--- src/lib.rt:309:13
 slice-aggregate-result-2 : tie.Need-slice-aggregate-result-2
 slice-aggregate-result-2 c = search needs
 
--- src/lib.rt:309:13
 returns-2 : tie.Need-returns-2
 unfolding showable
 returns-2 c = let a = c .before .before .before .before .before .before .before .before .before .args in
     shows-none (a .t1) (now (a .incoming)) (now (a .outgoing)) (a .berth) (a .incoming .ptr) (a .outgoing .ptr) (a .choice) (simp (sym (c .before .before .before .before .before .before .in-order .ensures) ∙ c .before .before .before .before .before .if1 .taken, store-right (a .t1) (now (a .incoming)) _ (c .before .before .before .before .store-length .ensures) (c .before .before .before .if2 .left), store-wrong (a .t1) (now (a .outgoing)) _ (c .before .before .store-length2 .ensures) (c .before .if3 .taken)))
 
--- src/lib.rt:311:12
 cast-if4 : tie.Need-cast-if4
 cast-if4 c = search needs
 
--- src/lib.rt:312:13
 slice-aggregate-result-3 : tie.Need-slice-aggregate-result-3
 slice-aggregate-result-3 c = search needs
 
--- src/lib.rt:312:13
 returns-3 : tie.Need-returns-3
 unfolding showable
 returns-3 c = let a = c .before .before .before .before .before .before .before .before .before .before .args in
     shows-none (a .t1) (now (a .incoming)) (now (a .outgoing)) (a .berth) (a .incoming .ptr) (a .outgoing .ptr) (a .choice) (simp (sym (c .before .before .before .before .before .before .before .in-order .ensures) ∙ c .before .before .before .before .before .before .if1 .taken, store-right (a .t1) (now (a .incoming)) _ (c .before .before .before .before .before .store-length .ensures) (c .before .before .before .before .if2 .left), store-right (a .t1) (now (a .outgoing)) _ (c .before .before .before .store-length2 .ensures) (c .before .before .if3 .left), le-ltb _ _ (c .before .if4 .taken)))
 
--- src/lib.rt:315:23
 cast-lo : tie.Need-cast-lo
 cast-lo c = search needs
 
--- src/lib.rt:315:18
 mul-lo : tie.Need-mul-lo
 mul-lo c = let a = c .before .before .before .before .before .before .before .before .before .args in
     let o = order (c) in
     let within = area-within (a .berth) (a .t1 .settings .area) (c .if4 .left) in
     omega (arith, o .settings .area-most)
 
--- src/lib.rt:316:19
 mul-one : tie.Need-mul-one
 mul-one c = search needs
 
--- src/lib.rt:316:19
 element-copy-out-one : tie.Need-element-copy-out-one
 element-copy-out-one c = search needs
 
--- src/lib.rt:319:27
 length-sending-requires : tie.Need-length-sending-requires
 length-sending-requires c κs = search needs
 
--- src/lib.rt:319:27
 cast-hi : tie.Need-cast-hi
 cast-hi c = search needs
 
--- src/lib.rt:319:22
 add-hi : tie.Need-add-hi
 unfolding berthAt
 add-hi c = let a = c .before .before .before .before .before .before .before .before .before .before .before .before .args in
@@ -114,15 +92,12 @@ add-hi c = let a = c .before .before .before .before .before .before .before .be
     let fits = sending-fits (a .t1 .settings) (getD (a .t1 .berths) (a .berth) fresh .tx) (o .settings .area-least) (o .berth (a .berth) (c .before .before .before .if4 .left) .send) in
     omega (arith, o .settings .area-most, c .length-sending .ensures)
 
--- src/lib.rt:320:20
 sub-result : tie.Need-sub-result
 sub-result c = search needs
 
--- src/lib.rt:320:20
 part-result-start : tie.Need-part-result-start
 part-result-start c = search needs
 
--- src/lib.rt:320:20
 part-result-end : tie.Need-part-result-end
 unfolding berthAt
 part-result-end c = let a = c .before .before .before .before .before .before .before .before .before .before .before .before .args in
@@ -131,7 +106,6 @@ part-result-end c = let a = c .before .before .before .before .before .before .b
     let fits = sending-fits (a .t1 .settings) (getD (a .t1 .berths) (a .berth) fresh .tx) (o .settings .area-least) (o .berth (a .berth) (c .before .before .before .if4 .left) .send) in
     omega (arith, c .length-sending .ensures, right-length (a .t1) (now (a .outgoing)) (store-right (a .t1) (now (a .outgoing)) _ (c .before .before .before .before .before .store-length2 .ensures) (c .before .before .before .before .if3 .left)))
 
--- src/lib.rt:320:13
 returns-4 : tie.Need-returns-4
 unfolding berthAt
 returns-4 c = let a = c .before .before .before .before .before .before .before .before .before .before .before .before .before .args in
@@ -140,11 +114,9 @@ returns-4 c = let a = c .before .before .before .before .before .before .before 
     let fits = sending-fits (a .t1 .settings) (getD (a .t1 .berths) (a .berth) fresh .tx) (o .settings .area-least) (o .berth (a .berth) (c .before .before .before .before .if4 .left) .send) in
     rw (c .before .before .if5 .taken) (shows (a .t1) (now (a .incoming)) (now (a .outgoing)) (a .berth) (a .incoming .ptr) (a .outgoing .ptr) true (c .before .length-sending .result) (able (c .before .before .before .before)) (c .before .length-sending .ensures) (omega (arith, c .before .length-sending .ensures)))
 
--- src/lib.rt:322:23
 cast-hi-2 : tie.Need-cast-hi-2
 cast-hi-2 c = search needs
 
--- src/lib.rt:322:18
 add-hi-2 : tie.Need-add-hi-2
 unfolding berthAt
 add-hi-2 c = let a = c .before .before .before .before .before .before .before .before .before .before .before .before .args in
@@ -153,15 +125,12 @@ add-hi-2 c = let a = c .before .before .before .before .before .before .before .
     let fits = last-fits (a .t1 .settings) (getD (a .t1 .berths) (a .berth) fresh .last) (getD (a .t1 .berths) (a .berth) fresh .rx) (o .berth (a .berth) (c .before .before .before .if4 .left) .receive) in
     omega (arith, o .settings .area-most)
 
--- src/lib.rt:323:16
 sub-result-2 : tie.Need-sub-result-2
 sub-result-2 c = search needs
 
--- src/lib.rt:323:16
 part-result-start-2 : tie.Need-part-result-start-2
 part-result-start-2 c = search needs
 
--- src/lib.rt:323:16
 part-result-end-2 : tie.Need-part-result-end-2
 unfolding berthAt
 part-result-end-2 c = let a = c .before .before .before .before .before .before .before .before .before .before .before .before .args in
@@ -170,7 +139,6 @@ part-result-end-2 c = let a = c .before .before .before .before .before .before 
     let fits = last-fits (a .t1 .settings) (getD (a .t1 .berths) (a .berth) fresh .last) (getD (a .t1 .berths) (a .berth) fresh .rx) (o .berth (a .berth) (c .before .before .before .if4 .left) .receive) in
     omega (arith, right-length (a .t1) (now (a .incoming)) (store-right (a .t1) (now (a .incoming)) _ (c .before .before .before .before .before .before .before .store-length .ensures) (c .before .before .before .before .before .before .if2 .left)))
 
--- src/lib.rt:323:9
 returns-5 : tie.Need-returns-5
 unfolding berthAt
 returns-5 c = let a = c .before .before .before .before .before .before .before .before .before .before .before .before .before .args in
@@ -179,11 +147,9 @@ returns-5 c = let a = c .before .before .before .before .before .before .before 
     let fits = last-fits (a .t1 .settings) (getD (a .t1 .berths) (a .berth) fresh .last) (getD (a .t1 .berths) (a .berth) fresh .rx) (o .berth (a .berth) (c .before .before .before .before .if4 .left) .receive) in
     rw (c .before .before .if5 .left) (shows (a .t1) (now (a .incoming)) (now (a .outgoing)) (a .berth) (a .incoming .ptr) (a .outgoing .ptr) false (getD (a .t1 .berths) (a .berth) fresh .last) (able (c .before .before .before .before)) refl fits)
 
--- src/lib.rt:325:5
 slice-aggregate-result-4 : tie.Need-slice-aggregate-result-4
 slice-aggregate-result-4 c = search needs
 
--- src/lib.rt:295:1
 returns-6 : tie.Need-returns-6
 unfolding showable
 returns-6 c = let a = c .before .before .before .before .before .args in

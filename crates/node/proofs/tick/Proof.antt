@@ -1,31 +1,23 @@
 use native.Mathlib.Omega.{arith}
 use mathlib.Core.Path.{sym, refl, _∙_}
-use Rattle.node.proofs.Outcomes.{unmet, refuses}
+use borrow.Author.Needs.{needs}
 use Rattle.rules.specs.Refusals.{refusal, needs as needsOf, tick}
 use Rattle.rules.specs.Answers.{tickSays}
 use Rattle.rules.specs.Numbers.{outOfOrder}
+use Rattle.node.proofs.Outcomes.{unmet, refuses}
 use Rattle.node.specs.Promises.{lent}
-use borrow.Author.Needs.{needs}
 use Rattle.node.proofs.tick.Statement.{statement}
 use Rattle.node.proofs.tick.Tie as tie
-use Rattle.node.proofs.tick.Reads as reads
-use Rattle.node.proofs.tick.Lts as lts
-use Rattle.node.proofs.order.in_order.Reads as in-order-reads
-use Rattle.node.proofs.ticked.Reads as ticked-reads
 
--- src/lib.rt:176:8
 in-order-requires : tie.Need-in-order-requires
 in-order-requires c κs = search needs
 
--- src/lib.rt:177:9
 ticked-requires : tie.Need-ticked-requires
 ticked-requires c κs = sym (c .before .in-order .ensures) ∙ c .if1 .taken
 
--- src/lib.rt:177:9
 returns : tie.Need-returns
 returns c = search needs
 
--- src/lib.rt:173:1
 returns-2 : tie.Need-returns-2
 unfolding refusal needsOf tickSays
 returns-2 c = record {

@@ -1,30 +1,20 @@
-use Rattle.rules.specs.Answers.{tickSays}
-use mathlib.Core.Path.{sym, _∙_}
-use lib.ListN.{length-map}
+use Prim.Native.Nat.{_≤_, _-_}
 use native.Mathlib.Omega.{arith}
-use Rattle.rules.specs.declared.Berth.{Berth}
+use mathlib.Core.Path.{sym, _∙_, refl, _≡_}
+use lib.ListN.{length-map, length}
+use borrow.Author.Needs.{needs}
+use Rattle.rules.specs.Answers.{tickSays}
 use Rattle.rules.specs.Ranges.{fresh}
-use Rattle.node.proofs.Lists.{filled-more, filled-all}
-use Rattle.node.proofs.Outcomes.{meets, all-met, does}
 use Rattle.rules.specs.Refusals.{refusal, needs as needsOf, tick}
 use Rattle.rules.specs.Stores.{tickedNode}
-use Rattle.rules.specs.Calls.{done, reply, written}
-use Rattle.node.specs.Promises.{lent}
-use borrow.Author.Needs.{needs}
-use mathlib.Core.Path.{refl, _≡_}
-use Prim.Native.Nat.{ℕ, _≤_, _<_, _-_}
-use Rattle.node.proofs.Lists.{filled}
+use Rattle.rules.specs.Calls.{done, reply, written, codesOf}
 use Rattle.rules.specs.Numbers.{berthCount}
-use lib.ListN.{length}
-use Rattle.node.specs.Promises.{noCodes}
 use Rattle.rules.specs.Ticks.{ticked}
-use Rattle.rules.specs.Calls.{codesOf}
+use Rattle.node.proofs.Lists.{filled-more, filled-all, filled}
+use Rattle.node.proofs.Outcomes.{meets, all-met, does}
+use Rattle.node.specs.Promises.{lent, noCodes}
 use Rattle.node.proofs.ticked.Statement.{statement}
 use Rattle.node.proofs.ticked.Tie as tie
-use Rattle.node.proofs.ticked.Reads as reads
-use Rattle.node.proofs.ticked.Lts as lts
-use Rattle.berth.proofs.ticks.codes_of.Reads as codes-of-reads
-use Rattle.berth.proofs.ticks.ticked.Reads as ticked-reads
 
 abbrev Inv-loop : tie.InvT-loop
 Inv-loop node n₀ codes₀ i₀ n codes i =
@@ -35,51 +25,39 @@ Inv-loop node n₀ codes₀ i₀ n codes i =
 abbrev μ-loop : tie.MeasureT-loop
 μ-loop node n₀ codes₀ i₀ n codes i = berthCount - i
 
--- src/lib.rt:157:5
 loop-holds : tie.Need-loop-holds Inv-loop μ-loop
 loop-holds c = (search needs, sym (length-map (c .args .t1 .berths) _) ∙ c .good .0 .1 .1 .1 .1 .0 .1 .0 .1, refl, refl)
 
--- src/lib.rt:158:19
 mul-one : tie.Need-mul-one Inv-loop μ-loop
 mul-one c = search needs
 
--- src/lib.rt:158:19
 element-copy-out-one : tie.Need-element-copy-out-one Inv-loop μ-loop
 element-copy-out-one c = search needs
 
--- src/lib.rt:159:20
 codes-of-requires : tie.Need-codes-of-requires Inv-loop μ-loop
 codes-of-requires c κs = search needs
 
--- src/lib.rt:159:9
 mul-codes : tie.Need-mul-codes Inv-loop μ-loop
 mul-codes c = search needs
 
--- src/lib.rt:159:9
 array-set-from-codes : tie.Need-array-set-from-codes Inv-loop μ-loop
 array-set-from-codes c = search needs
 
--- src/lib.rt:160:23
 ticked-requires : tie.Need-ticked-requires Inv-loop μ-loop
 ticked-requires c κs = search needs
 
--- src/lib.rt:160:9
 mul-t11 : tie.Need-mul-t11 Inv-loop μ-loop
 mul-t11 c = search needs
 
--- src/lib.rt:160:9
 element-set-from-n : tie.Need-element-set-from-n Inv-loop μ-loop
 element-set-from-n c = search needs
 
--- src/lib.rt:161:9
 add-i : tie.Need-add-i Inv-loop μ-loop
 add-i c = search needs
 
--- src/lib.rt:157:5
 loop-less : tie.Need-loop-less Inv-loop μ-loop
 loop-less c = search needs
 
--- src/lib.rt:157:5
 loop-again : tie.Need-loop-again Inv-loop μ-loop
 loop-again c = let s = c .before .before .before .before in
     let node = s .before .args .t1 in
@@ -90,7 +68,6 @@ loop-again c = let s = c .before .before .before .before in
       rw (s .loop .inv .3, c .before .codes-of .ensures) (filled-more codesOf (node .berths) noCodes i fresh (omega arith) (omega arith)),
     )
 
--- src/lib.rt:147:1
 returns : tie.Need-returns Inv-loop μ-loop
 unfolding refusal needsOf tickedNode tickSays done reply written
 returns c = let s = c .before in

@@ -1,8 +1,10 @@
 use native.Mathlib.Omega.{arith}
-use mathlib.Core.Path.{sym, refl, _∙_, _≡_, ap}
-use borrow.Author.Tests.{le-ltb, le-leb, lt-leb}
-use denote.Ref.{now}
+use mathlib.Core.Path.{sym, refl, _∙_, _≡_}
 use mathlib.Core.Bool.{false, true}
+use lib.Dec.{ltb}
+use denote.Ref.{now}
+use borrow.Author.Tests.{le-ltb, le-leb, lt-leb}
+use borrow.Author.Needs.{needs}
 use Rattle.rules.specs.Numbers.{berthCount, outOfOrder, wrongStore, shortBuffer}
 use Rattle.rules.specs.Ranges.{inOrder}
 use Rattle.rules.specs.Stores.{rightStore, passedOver}
@@ -14,36 +16,23 @@ use Rattle.node.proofs.Parts.{store-right, store-wrong}
 use Rattle.node.proofs.InRange.{in-order}
 use Rattle.node.proofs.Outcomes.{meets, unmet, all-met, refused-as, does}
 use Rattle.node.specs.Promises.{lent}
-use lib.Dec.{ltb}
-use borrow.Author.Needs.{needs}
 use Rattle.node.proofs.turn.Statement.{statement}
 use Rattle.node.proofs.turn.Tie as tie
-use Rattle.node.proofs.turn.Reads as reads
-use Rattle.node.proofs.turn.Lts as lts
-use Rattle.node.proofs.hand_over_at.Reads as hand-over-at-reads
-use Rattle.node.proofs.order.in_order.Reads as in-order-reads
-use Rattle.node.proofs.order.store_length.Reads as store-length-reads
-use Rattle.node.proofs.round.passed_over.Reads as passed-over-reads
-use Rattle.node.proofs.turn_answered.Reads as turn-answered-reads
 
 known : (c : tie.Else2) → (inOrder (c .before .before .before .before .before .before .args .node) ≡ true) × (rightStore (c .before .before .before .before .before .before .args .node) (now (c .before .before .before .before .before .before .args .outgoing)) ≡ true)
 known c =
     let a = c .before .before .before .before .before .before .args in
     (sym (c .before .before .before .in-order .ensures) ∙ c .before .before .if1 .taken, store-right (a .node) (now (a .outgoing)) _ (c .before .store-length .ensures) (c .if2 .left))
 
--- src/lib.rt:277:8
 in-order-requires : tie.Need-in-order-requires
 in-order-requires c κs = search needs
 
--- src/lib.rt:278:30
 store-length-requires : tie.Need-store-length-requires
 store-length-requires c κs = search needs
 
--- src/lib.rt:279:13
 turn-answered-requires : tie.Need-turn-answered-requires
 turn-answered-requires c κs = search needs
 
--- src/lib.rt:279:13
 returns : tie.Need-returns
 unfolding refusal needsOf turnSays
 returns c = let a = c .before .before .before .before .before .before .before .args in
@@ -51,11 +40,9 @@ returns c = let a = c .before .before .before .before .before .before .before .a
     λ incoming. refused-as (λ answer. turnSays answer buffer) (TurnAnswer.Refused wrongStore) (λ m. lent m incoming (now (a .outgoing))) (turn buffer) (a .node) wrongStore (omega arith) refl (c .turn-answered .ensures)
     (meets _ _ (sym (c .before .before .before .before .in-order .ensures) ∙ c .before .before .before .if1 .taken) (unmet _ _ (store-wrong (a .node) (now (a .outgoing)) _ (c .before .before .store-length .ensures) (c .before .if2 .taken))))
 
--- src/lib.rt:282:13
 turn-answered-requires-2 : tie.Need-turn-answered-requires-2
 turn-answered-requires-2 c κs = search needs
 
--- src/lib.rt:282:13
 returns-2 : tie.Need-returns-2
 unfolding refusal needsOf turnSays
 returns-2 c = let a = c .before .before .before .before .before .before .before .before .args in
@@ -63,15 +50,12 @@ returns-2 c = let a = c .before .before .before .before .before .before .before 
     λ incoming. refused-as (λ answer. turnSays answer buffer) (TurnAnswer.Refused shortBuffer) (λ m. lent m incoming (now (a .outgoing))) (turn buffer) (a .node) shortBuffer (omega arith) refl (c .turn-answered2 .ensures)
     (let k = known (c .before .before) in meets _ _ (k .0) (meets _ _ (k .1) (unmet _ _ (lt-leb _ _ (c .before .if3 .taken)))))
 
--- src/lib.rt:284:13
 passed-over-requires : tie.Need-passed-over-requires
 passed-over-requires c κs = in-order (c .before .before .before .before .before .before .before .args .node) (known (c .before) .0) .served
 
--- src/lib.rt:286:13
 turn-answered-requires-3 : tie.Need-turn-answered-requires-3
 turn-answered-requires-3 c κs = search needs
 
--- src/lib.rt:286:13
 returns-3 : tie.Need-returns-3
 unfolding refusal needsOf turnSays done reply written
 returns-3 c = let a = c .before .before .before .before .before .before .before .before .before .before .args in
@@ -81,23 +65,18 @@ returns-3 c = let a = c .before .before .before .before .before .before .before 
     (meets _ _ (k .0) (meets _ _ (k .1) (meets _ _ (le-leb _ _ (c .before .before .before .if3 .left)) all-met)))
     (rw (c .turn-answered3 .ensures .0, c .turn-answered3 .ensures .1) (simp none))
 
--- src/lib.rt:288:9
 hand-over-at-requires : tie.Need-hand-over-at-requires
 hand-over-at-requires c κs = let k = known (c .before .before .before .before) in (k .0, k .1, c .before .before .before .if3 .left, c .before .before .passed-over .ensures, c .before .if4 .left)
 
--- src/lib.rt:288:9
 same-length : tie.Need-same-length
 same-length c = search needs
 
--- src/lib.rt:288:9
 returns-4 : tie.Need-returns-4
 returns-4 c = search needs
 
--- src/lib.rt:290:5
 turn-answered-requires-4 : tie.Need-turn-answered-requires-4
 turn-answered-requires-4 c κs = search needs
 
--- src/lib.rt:274:1
 returns-5 : tie.Need-returns-5
 unfolding refusal needsOf turnSays
 returns-5 c = let a = c .before .before .before .before .before .args in

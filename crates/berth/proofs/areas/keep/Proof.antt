@@ -1,53 +1,40 @@
+use Prim.Native.Nat.{_+_, _-_}
 use native.Mathlib.Omega.{arith}
+use mathlib.Core.Path.{_≡_}
 use lib.ListN.{length, take, drop, length-take, length-drop}
 use denote.Ref.{now}
-use mathlib.Core.Path.{_≡_}
-use Rattle.berth.proofs.Puts.{put-down}
-use Prim.Native.Nat.{_+_, _-_}
 use borrow.Author.Needs.{needs}
+use Rattle.berth.proofs.Puts.{put-down}
 use Rattle.berth.proofs.areas.keep.Statement.{statement}
 use Rattle.berth.proofs.areas.keep.Tie as tie
-use Rattle.berth.proofs.areas.keep.Reads as reads
-use Rattle.berth.proofs.areas.keep.Lts as lts
-use Rattle.bytes.proofs.copy.Reads as copy-reads
 
--- src/areas.rt:22:14
 add-hi : tie.Need-add-hi
 add-hi c = search needs
 
--- src/areas.rt:23:17
 sub-copy : tie.Need-sub-copy
 sub-copy c = search needs
 
--- src/areas.rt:23:17
 part-copy-start : tie.Need-part-copy-start
 part-copy-start c = search needs
 
--- src/areas.rt:23:17
 part-copy-end : tie.Need-part-copy-end
 part-copy-end c = search needs
 
--- src/areas.rt:23:33
 sub-copy-2 : tie.Need-sub-copy-2
 sub-copy-2 c = search needs
 
--- src/areas.rt:23:33
 part-copy-start-2 : tie.Need-part-copy-start-2
 part-copy-start-2 c = search needs
 
--- src/areas.rt:23:33
 part-copy-end-2 : tie.Need-part-copy-end-2
 part-copy-end-2 c = search needs
 
--- src/areas.rt:23:5
 copy-requires : tie.Need-copy-requires
 copy-requires c κs = search needs
 
--- src/areas.rt:16:1
 same-length : tie.Need-same-length
 same-length c = search needs
 
--- src/areas.rt:16:1
 returns : tie.Need-returns
 returns c = let a = c .before .before .before .before .before .before .before .args in
     let n : a .from + a .count - a .from ≡ a .count = omega arith in

@@ -1,84 +1,58 @@
 use borrow.Author.Tests.{eq-eqb, ne-eqb}
-use Rattle.rules.specs.Arrivals.{byKind}
 use borrow.Author.Needs.{needs}
+use Rattle.rules.specs.Arrivals.{byKind}
 use Rattle.berth.proofs.arrivals.by_kind.Statement.{statement}
 use Rattle.berth.proofs.arrivals.by_kind.Tie as tie
-use Rattle.berth.proofs.arrivals.by_kind.Reads as reads
-use Rattle.berth.proofs.arrivals.by_kind.Lts as lts
-use Rattle.berth.proofs.arrivals.consecutive_came.Reads as consecutive-came-reads
-use Rattle.berth.proofs.arrivals.first_came.Reads as first-came-reads
-use Rattle.berth.proofs.arrivals.flow_came.Reads as flow-came-reads
-use Rattle.berth.proofs.arrivals.heard_by.Reads as heard-by-reads
-use Rattle.berth.proofs.arrivals.ignored.Reads as ignored-reads
-use Rattle.berth.proofs.arrivals.single_came.Reads as single-came-reads
-use Rattle.berth.proofs.arrivals.told_by.Reads as told-by-reads
-use Rattle.berth.proofs.frames.kind.Reads as kind-reads
 
--- src/arrivals.rt:345:9
 kind-requires : tie.Need-kind-requires
 kind-requires c κs = search needs
 
--- src/arrivals.rt:347:32
 single-came-requires : tie.Need-single-came-requires
 single-came-requires c κs = search needs
 
--- src/arrivals.rt:347:9
 heard-by-requires : tie.Need-heard-by-requires
 heard-by-requires c κs = search needs
 
--- src/arrivals.rt:347:9
 returns : tie.Need-returns
 unfolding byKind
 returns c = simp (← c .before .before .before .kind .ensures, eq-eqb _ _ (c .before .before .if1 .taken)) (c .heard-by .ensures _ _ (c .before .single-came .ensures))
 
--- src/arrivals.rt:350:32
 first-came-requires : tie.Need-first-came-requires
 first-came-requires c κs = search needs
 
--- src/arrivals.rt:350:9
 heard-by-requires-2 : tie.Need-heard-by-requires-2
 heard-by-requires-2 c κs = search needs
 
--- src/arrivals.rt:350:9
 returns-2 : tie.Need-returns-2
 unfolding byKind
 returns-2 c = simp (← c .before .before .before .before .kind .ensures, ne-eqb _ _ (c .before .before .before .if1 .left), eq-eqb _ _ (c .before .before .if2 .taken)) (c .heard-by2 .ensures _ _ (c .before .first-came .ensures))
 
--- src/arrivals.rt:353:32
 consecutive-came-requires : tie.Need-consecutive-came-requires
 consecutive-came-requires c κs = search needs
 
--- src/arrivals.rt:353:9
 heard-by-requires-3 : tie.Need-heard-by-requires-3
 heard-by-requires-3 c κs = search needs
 
--- src/arrivals.rt:353:9
 returns-3 : tie.Need-returns-3
 unfolding byKind
 returns-3 c = simp (← c .before .before .before .before .before .kind .ensures, ne-eqb _ _ (c .before .before .before .before .if1 .left), ne-eqb _ _ (c .before .before .before .if2 .left), eq-eqb _ _ (c .before .before .if3 .taken)) (c .heard-by3 .ensures _ _ (c .before .consecutive-came .ensures))
 
--- src/arrivals.rt:356:31
 flow-came-requires : tie.Need-flow-came-requires
 flow-came-requires c κs = search needs
 
--- src/arrivals.rt:356:9
 told-by-requires : tie.Need-told-by-requires
 told-by-requires c κs = search needs
 
--- src/arrivals.rt:356:9
 returns-4 : tie.Need-returns-4
 unfolding byKind
 returns-4 c = simp (← c .before .before .before .before .before .before .kind .ensures, ne-eqb _ _ (c .before .before .before .before .before .if1 .left), ne-eqb _ _ (c .before .before .before .before .if2 .left), ne-eqb _ _ (c .before .before .before .if3 .left), eq-eqb _ _ (c .before .before .if4 .taken), ← c .before .flow-came .ensures) (c .told-by .ensures _)
 
--- src/arrivals.rt:358:21
 ignored-requires : tie.Need-ignored-requires
 ignored-requires c κs = search needs
 
--- src/arrivals.rt:358:5
 heard-by-requires-4 : tie.Need-heard-by-requires-4
 heard-by-requires-4 c κs = search needs
 
--- src/arrivals.rt:338:1
 returns-5 : tie.Need-returns-5
 unfolding byKind
 returns-5 c = simp (← c .before .before .before .before .before .before .kind .ensures, ne-eqb _ _ (c .before .before .before .before .before .if1 .left), ne-eqb _ _ (c .before .before .before .before .if2 .left), ne-eqb _ _ (c .before .before .before .if3 .left), ne-eqb _ _ (c .before .before .if4 .left)) (c .heard-by4 .ensures _ _ (c .before .ignored .ensures _))

@@ -1,60 +1,44 @@
-use Rattle.rules.specs.Arrivals.{consecutiveCame}
 use borrow.Author.Needs.{needs}
+use Rattle.rules.specs.Arrivals.{consecutiveCame}
 use Rattle.berth.proofs.arrivals.consecutive_came.Statement.{statement}
 use Rattle.berth.proofs.arrivals.consecutive_came.Tie as tie
-use Rattle.berth.proofs.arrivals.consecutive_came.Reads as reads
-use Rattle.berth.proofs.arrivals.consecutive_came.Lts as lts
-use Rattle.berth.proofs.arrivals.awaited_came.Reads as awaited-came-reads
-use Rattle.berth.proofs.arrivals.ignored.Reads as ignored-reads
 
--- src/arrivals.rt:215:21
 enum-told : tie.Need-enum-told
 enum-told c = search needs
 
--- src/arrivals.rt:215:21
 ignored-requires : tie.Need-ignored-requires
 ignored-requires c κs = search needs
 
--- src/arrivals.rt:216:32
 enum-told-2 : tie.Need-enum-told-2
 enum-told-2 c = search needs
 
--- src/arrivals.rt:216:32
 ignored-requires-2 : tie.Need-ignored-requires-2
 ignored-requires-2 c κs = search needs
 
--- src/arrivals.rt:217:29
 enum-told-3 : tie.Need-enum-told-3
 enum-told-3 c = search needs
 
--- src/arrivals.rt:217:29
 ignored-requires-3 : tie.Need-ignored-requires-3
 ignored-requires-3 c κs = search needs
 
--- src/arrivals.rt:218:20
 enum-known-rx : tie.Need-enum-known-rx
 enum-known-rx c = search needs
 
--- src/arrivals.rt:218:29
 awaited-came-requires : tie.Need-awaited-came-requires
 awaited-came-requires c κs = (search needs, (rw (c .before .rx .given .1) at (c .before .before .before .before .pre .1)) .1)
 
--- src/arrivals.rt:210:1
 returns : tie.Need-returns
 unfolding consecutiveCame
 returns c = rw (c .before .enum-told .given .1) (rw (← c .before .enum-told .given .1) (c .ignored .ensures _))
 
--- src/arrivals.rt:210:1
 returns-2 : tie.Need-returns-2
 unfolding consecutiveCame
 returns-2 c = rw (c .before .enum-told2 .given .1) (rw (← c .before .enum-told2 .given .1) (c .ignored2 .ensures _))
 
--- src/arrivals.rt:210:1
 returns-3 : tie.Need-returns-3
 unfolding consecutiveCame
 returns-3 c = rw (c .before .enum-told3 .given .1) (rw (← c .before .enum-told3 .given .1) (c .ignored3 .ensures _))
 
--- src/arrivals.rt:210:1
 returns-4 : tie.Need-returns-4
 unfolding consecutiveCame
 returns-4 c = simp (c .before .before .rx .given .1) (c .awaited-came .ensures)

@@ -1,12 +1,9 @@
 use mathlib.Core.Path.{refl}
-use Rattle.berth.specs.Reading.{toldOf}
 use Rattle.rules.specs.Arrivals.{flowIgnored}
+use Rattle.berth.specs.Reading.{toldOf}
 use Rattle.berth.proofs.arrivals.flow_ignored.Statement.{statement}
 use Rattle.berth.proofs.arrivals.flow_ignored.Tie as tie
-use Rattle.berth.proofs.arrivals.flow_ignored.Reads as reads
-use Rattle.berth.proofs.arrivals.flow_ignored.Lts as lts
 
--- src/arrivals.rt:269:1
 returns : tie.Need-returns
 unfolding toldOf flowIgnored
 returns c = refl

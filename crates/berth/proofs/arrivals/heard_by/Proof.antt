@@ -3,10 +3,7 @@ use Rattle.rules.specs.Arrivals.{heardBy}
 use Rattle.berth.specs.Reading.{heardOf, cameOf}
 use Rattle.berth.proofs.arrivals.heard_by.Statement.{statement}
 use Rattle.berth.proofs.arrivals.heard_by.Tie as tie
-use Rattle.berth.proofs.arrivals.heard_by.Reads as reads
-use Rattle.berth.proofs.arrivals.heard_by.Lts as lts
 
--- src/arrivals.rt:296:1
 returns : tie.Need-returns
 unfolding heardBy cameOf heardOf
 returns c = λ d h e. record { same = ap (heardBy (c .args .berth)) (e .same); within = e .within }

@@ -1,42 +1,32 @@
-use Rattle.rules.specs.Arrivals.{oldCode}
 use borrow.Author.Needs.{needs}
+use Rattle.rules.specs.Arrivals.{oldCode}
 use Rattle.berth.proofs.arrivals.old_code.Statement.{statement}
 use Rattle.berth.proofs.arrivals.old_code.Tie as tie
-use Rattle.berth.proofs.arrivals.old_code.Reads as reads
-use Rattle.berth.proofs.arrivals.old_code.Lts as lts
 
--- src/arrivals.rt:74:21
 enum-told : tie.Need-enum-told
 enum-told c = search needs
 
--- src/arrivals.rt:75:32
 enum-told-2 : tie.Need-enum-told-2
 enum-told-2 c = search needs
 
--- src/arrivals.rt:76:29
 enum-told-3 : tie.Need-enum-told-3
 enum-told-3 c = search needs
 
--- src/arrivals.rt:77:29
 enum-told-4 : tie.Need-enum-told-4
 enum-told-4 c = search needs
 
--- src/arrivals.rt:70:1
 returns : tie.Need-returns
 unfolding oldCode
 returns c = simp (c .enum-told .given .1)
 
--- src/arrivals.rt:70:1
 returns-2 : tie.Need-returns-2
 unfolding oldCode
 returns-2 c = simp (c .enum-told2 .given .1)
 
--- src/arrivals.rt:70:1
 returns-3 : tie.Need-returns-3
 unfolding oldCode
 returns-3 c = simp (c .enum-told3 .given .1)
 
--- src/arrivals.rt:70:1
 returns-4 : tie.Need-returns-4
 unfolding oldCode
 returns-4 c = simp (c .enum-told4 .given .1)

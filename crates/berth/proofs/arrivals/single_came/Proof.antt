@@ -1,47 +1,33 @@
 use native.Mathlib.Omega.{arith}
+use mathlib.Core.Path.{sym, _∙_}
+use borrow.Author.Needs.{needs}
+use Rattle.rules.specs.Arrivals.{singleCame}
 use Rattle.berth.proofs.Fits.{single-within}
 use Rattle.berth.specs.Reading.{heardOf}
-use mathlib.Core.Path.{sym, _∙_}
-use Rattle.rules.specs.Arrivals.{singleCame}
-use borrow.Author.Needs.{needs}
 use Rattle.berth.proofs.arrivals.single_came.Statement.{statement}
 use Rattle.berth.proofs.arrivals.single_came.Tie as tie
-use Rattle.berth.proofs.arrivals.single_came.Reads as reads
-use Rattle.berth.proofs.arrivals.single_came.Lts as lts
-use Rattle.berth.proofs.arrivals.ignored.Reads as ignored-reads
-use Rattle.berth.proofs.arrivals.old_code.Reads as old-code-reads
-use Rattle.berth.proofs.frames.low.Reads as low-reads
-use Rattle.berth.proofs.frames.single_fits.Reads as single-fits-reads
-use Rattle.berth.proofs.frames.wide.Reads as wide-reads
 
--- src/arrivals.rt:85:8
 single-fits-requires : tie.Need-single-fits-requires
 single-fits-requires c κs = search needs
 
--- src/arrivals.rt:86:30
 low-requires : tie.Need-low-requires
 low-requires c κs = search needs
 
--- src/arrivals.rt:86:13
 wide-requires : tie.Need-wide-requires
 wide-requires c κs = search needs
 
--- src/arrivals.rt:90:18
 old-code-requires : tie.Need-old-code-requires
 old-code-requires c κs = search needs
 
--- src/arrivals.rt:87:9
 returns : tie.Need-returns
 unfolding singleCame heardOf
 returns c = let fits = sym (c .before .before .before .before .single-fits .ensures) ∙ c .before .before .before .if1 .taken in
     let l = c .before .wide .ensures .0 ∙ c .before .before .low .ensures .0 in
     record { same = simp (fits, c .old-code .ensures, l); within = omega (arith, l, single-within _ fits) }
 
--- src/arrivals.rt:97:5
 ignored-requires : tie.Need-ignored-requires
 ignored-requires c κs = search needs
 
--- src/arrivals.rt:81:1
 returns-2 : tie.Need-returns-2
 unfolding singleCame
 returns-2 c = simp (sym (c .before .before .single-fits .ensures) ∙ c .before .if1 .left) (c .ignored .ensures _)

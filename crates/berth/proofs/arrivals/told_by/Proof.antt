@@ -4,10 +4,7 @@ use Rattle.rules.specs.Arrivals.{toldBy}
 use Rattle.berth.specs.Reading.{toldOf, cameOf}
 use Rattle.berth.proofs.arrivals.told_by.Statement.{statement}
 use Rattle.berth.proofs.arrivals.told_by.Tie as tie
-use Rattle.berth.proofs.arrivals.told_by.Reads as reads
-use Rattle.berth.proofs.arrivals.told_by.Lts as lts
 
--- src/arrivals.rt:317:1
 returns : tie.Need-returns
 unfolding toldBy cameOf toldOf
 returns c = λ d. record { same = refl; within = omega arith }

@@ -3,10 +3,7 @@ use mathlib.Core.Path.{refl}
 use Rattle.berth.specs.Reading.{heardOf}
 use Rattle.berth.proofs.arrivals.unstored.Statement.{statement}
 use Rattle.berth.proofs.arrivals.unstored.Tie as tie
-use Rattle.berth.proofs.arrivals.unstored.Reads as reads
-use Rattle.berth.proofs.arrivals.unstored.Lts as lts
 
--- src/arrivals.rt:50:1
 returns : tie.Need-returns
 unfolding heardOf
 returns c = λ d. record { same = refl; within = omega arith }

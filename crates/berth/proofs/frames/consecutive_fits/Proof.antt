@@ -1,26 +1,20 @@
 use borrow.Author.Tests.{eq-eqb, lt-leb, ne-eqb, le-leb}
-use Rattle.rules.specs.Frames.{consecutiveFits}
 use borrow.Author.Needs.{needs}
+use Rattle.rules.specs.Frames.{consecutiveFits}
 use Rattle.berth.proofs.frames.consecutive_fits.Statement.{statement}
 use Rattle.berth.proofs.frames.consecutive_fits.Tie as tie
-use Rattle.berth.proofs.frames.consecutive_fits.Reads as reads
-use Rattle.berth.proofs.frames.consecutive_fits.Lts as lts
 
--- src/frames.rt:90:9
 returns : tie.Need-returns
 unfolding consecutiveFits
 returns c = simp (eq-eqb _ _ (c .if1 .taken))
 
--- src/frames.rt:93:9
 returns-2 : tie.Need-returns-2
 unfolding consecutiveFits
 returns-2 c = simp (ne-eqb _ _ (c .before .if1 .left), lt-leb _ _ (c .if2 .taken))
 
--- src/frames.rt:95:20
 add-result : tie.Need-add-result
 add-result c = search needs
 
--- src/frames.rt:86:1
 returns-3 : tie.Need-returns-3
 unfolding consecutiveFits
 returns-3 c = simp (ne-eqb _ _ (c .before .if1 .left), le-leb _ _ (c .if2 .left))

@@ -1,21 +1,16 @@
-use Rattle.berth.proofs.Fits.{counts}
 use borrow.Author.Tests.{eq-eqb, ne-eqb}
 use Rattle.rules.specs.Frames.{counted}
+use Rattle.berth.proofs.Fits.{counts}
 use Rattle.berth.proofs.frames.counted.Statement.{statement}
 use Rattle.berth.proofs.frames.counted.Tie as tie
-use Rattle.berth.proofs.frames.counted.Reads as reads
-use Rattle.berth.proofs.frames.counted.Lts as lts
 
--- src/frames.rt:124:9
 returns : tie.Need-returns
 unfolding counted
 returns c = simp (eq-eqb _ _ (c .if1 .taken))
 
--- src/frames.rt:126:5
 add-result : tie.Need-add-result
 add-result c = record { fits = counts (c .before .pre) (c .before .fits .block .fits) }
 
--- src/frames.rt:119:1
 returns-2 : tie.Need-returns-2
 unfolding counted
 returns-2 c = simp (ne-eqb _ _ (c .if1 .left))

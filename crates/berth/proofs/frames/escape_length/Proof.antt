@@ -1,68 +1,50 @@
-use Rattle.rules.specs.Frames.{escapeLength}
 use borrow.Author.Needs.{needs}
+use Rattle.rules.specs.Frames.{escapeLength}
 use Rattle.berth.proofs.frames.escape_length.Statement.{statement}
 use Rattle.berth.proofs.frames.escape_length.Tie as tie
-use Rattle.berth.proofs.frames.escape_length.Reads as reads
-use Rattle.berth.proofs.frames.escape_length.Lts as lts
-use Rattle.berth.proofs.frames.wide.Reads as wide-reads
 
--- src/frames.rt:59:12
 shared-slice-read-wide : tie.Need-shared-slice-read-wide
 shared-slice-read-wide c = search needs
 
--- src/frames.rt:59:7
 wide-requires : tie.Need-wide-requires
 wide-requires c κs = search needs
 
--- src/frames.rt:59:7
 mul-result : tie.Need-mul-result
 mul-result c = search needs
 
--- src/frames.rt:59:35
 shared-slice-read-wide-2 : tie.Need-shared-slice-read-wide-2
 shared-slice-read-wide-2 c = search needs
 
--- src/frames.rt:59:30
 wide-requires-2 : tie.Need-wide-requires-2
 wide-requires-2 c κs = search needs
 
--- src/frames.rt:59:7
 add-result : tie.Need-add-result
 add-result c = search needs
 
--- src/frames.rt:59:6
 mul-result-2 : tie.Need-mul-result-2
 mul-result-2 c = search needs
 
--- src/frames.rt:59:59
 shared-slice-read-wide-3 : tie.Need-shared-slice-read-wide-3
 shared-slice-read-wide-3 c = search needs
 
--- src/frames.rt:59:54
 wide-requires-3 : tie.Need-wide-requires-3
 wide-requires-3 c κs = search needs
 
--- src/frames.rt:59:6
 add-result-2 : tie.Need-add-result-2
 add-result-2 c = search needs
 
--- src/frames.rt:59:5
 mul-result-3 : tie.Need-mul-result-3
 mul-result-3 c = search needs
 
--- src/frames.rt:59:83
 shared-slice-read-wide-4 : tie.Need-shared-slice-read-wide-4
 shared-slice-read-wide-4 c = search needs
 
--- src/frames.rt:59:78
 wide-requires-4 : tie.Need-wide-requires-4
 wide-requires-4 c κs = search needs
 
--- src/frames.rt:59:5
 add-result-3 : tie.Need-add-result-3
 add-result-3 c = search needs
 
--- src/frames.rt:55:1
 returns : tie.Need-returns
 unfolding escapeLength
 returns c = simp (c .before .before .before .before .before .before .wide .ensures .0, c .before .before .before .before .wide2 .ensures .0, c .before .before .wide3 .ensures .0, c .wide4 .ensures .0)

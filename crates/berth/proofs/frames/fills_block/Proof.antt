@@ -1,21 +1,16 @@
-use Rattle.berth.proofs.Fits.{counts}
 use borrow.Author.Tests.{eq-eqb, ne-eqb}
 use Rattle.rules.specs.Frames.{fillsBlock}
+use Rattle.berth.proofs.Fits.{counts}
 use Rattle.berth.proofs.frames.fills_block.Statement.{statement}
 use Rattle.berth.proofs.frames.fills_block.Tie as tie
-use Rattle.berth.proofs.frames.fills_block.Reads as reads
-use Rattle.berth.proofs.frames.fills_block.Lts as lts
 
--- src/frames.rt:134:9
 returns : tie.Need-returns
 unfolding fillsBlock
 returns c = simp (eq-eqb _ _ (c .if1 .taken))
 
--- src/frames.rt:136:5
 add-result : tie.Need-add-result
 add-result c = record { fits = counts (c .before .pre) (c .before .fits .block .fits) }
 
--- src/frames.rt:129:1
 returns-2 : tie.Need-returns-2
 unfolding fillsBlock
 returns-2 c = simp (ne-eqb _ _ (c .if1 .left))

@@ -2,15 +2,11 @@ use borrow.Author.Tests.{lt-leb, le-leb}
 use Rattle.rules.specs.Frames.{flowFits}
 use Rattle.berth.proofs.frames.flow_fits.Statement.{statement}
 use Rattle.berth.proofs.frames.flow_fits.Tie as tie
-use Rattle.berth.proofs.frames.flow_fits.Reads as reads
-use Rattle.berth.proofs.frames.flow_fits.Lts as lts
 
--- src/frames.rt:102:9
 returns : tie.Need-returns
 unfolding flowFits
 returns c = simp (lt-leb _ _ (c .if1 .taken))
 
--- src/frames.rt:98:1
 returns-2 : tie.Need-returns-2
 unfolding flowFits
 returns-2 c = simp (le-leb _ _ (c .if1 .left))

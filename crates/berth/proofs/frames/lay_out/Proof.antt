@@ -1,45 +1,33 @@
 use denote.Ref.{now}
-use Rattle.berth.proofs.Puts.{laid-out}
 use borrow.Author.Needs.{needs}
+use Rattle.berth.proofs.Puts.{laid-out}
 use Rattle.berth.proofs.frames.lay_out.Statement.{statement}
 use Rattle.berth.proofs.frames.lay_out.Tie as tie
-use Rattle.berth.proofs.frames.lay_out.Reads as reads
-use Rattle.berth.proofs.frames.lay_out.Lts as lts
-use Rattle.bytes.proofs.copy.Reads as copy-reads
 
--- src/frames.rt:113:17
 slice-aggregate-copy : tie.Need-slice-aggregate-copy
 slice-aggregate-copy c = search needs
 
--- src/frames.rt:113:5
 copy-requires : tie.Need-copy-requires
 copy-requires c κs = search needs
 
--- src/frames.rt:114:5
 copy-requires-2 : tie.Need-copy-requires-2
 copy-requires-2 c κs = search needs
 
--- src/frames.rt:116:24
 sub-copy : tie.Need-sub-copy
 sub-copy c = search needs
 
--- src/frames.rt:116:24
 part-copy-start : tie.Need-part-copy-start
 part-copy-start c = search needs
 
--- src/frames.rt:116:24
 part-copy-end : tie.Need-part-copy-end
 part-copy-end c = search needs
 
--- src/frames.rt:116:5
 copy-requires-3 : tie.Need-copy-requires-3
 copy-requires-3 c κs = search needs
 
--- src/frames.rt:108:1
 same-length : tie.Need-same-length
 same-length c = search needs
 
--- src/frames.rt:108:1
 returns : tie.Need-returns
 returns c = let start = c .before .before .before .before .before .before .before .before .before .before .before .before .before .before .before .before in
     let filled = c .before .before .before .before .before .before .before .before .before .before .copy in

@@ -1,45 +1,33 @@
 use borrow.Author.Tests.{lt-leb, le-leb, eq-eqb, ne-eqb}
-use Rattle.rules.specs.Frames.{singleFits}
 use borrow.Author.Needs.{needs}
+use Rattle.rules.specs.Frames.{singleFits}
 use Rattle.berth.proofs.frames.single_fits.Statement.{statement}
 use Rattle.berth.proofs.frames.single_fits.Tie as tie
-use Rattle.berth.proofs.frames.single_fits.Reads as reads
-use Rattle.berth.proofs.frames.single_fits.Lts as lts
-use Rattle.berth.proofs.frames.low.Reads as low-reads
-use Rattle.berth.proofs.frames.wide.Reads as wide-reads
 
--- src/frames.rt:35:18
 low-requires : tie.Need-low-requires
 low-requires c κs = search needs
 
--- src/frames.rt:35:9
 wide-requires : tie.Need-wide-requires
 wide-requires c κs = search needs
 
--- src/frames.rt:37:9
 returns : tie.Need-returns
 unfolding singleFits
 returns c = simp (← c .before .before .low .ensures .0, ← c .before .wide .ensures .0, lt-leb _ _ (c .if1 .taken))
 
--- src/frames.rt:40:9
 returns-2 : tie.Need-returns-2
 unfolding singleFits
 returns-2 c = simp (← c .before .before .before .low .ensures .0, ← c .before .before .wide .ensures .0, le-leb _ _ (c .before .if1 .left), lt-leb _ _ (c .if2 .taken))
 
--- src/frames.rt:43:9
 returns-3 : tie.Need-returns-3
 unfolding singleFits
 returns-3 c = simp (← c .before .before .before .before .low .ensures .0, ← c .before .before .before .wide .ensures .0, le-leb _ _ (c .before .before .if1 .left), le-leb _ _ (c .before .if2 .left), eq-eqb _ _ (c .if3 .taken))
 
--- src/frames.rt:45:20
 cast-result : tie.Need-cast-result
 cast-result c = search needs
 
--- src/frames.rt:45:20
 add-result : tie.Need-add-result
 add-result c = search needs
 
--- src/frames.rt:31:1
 returns-4 : tie.Need-returns-4
 unfolding singleFits
 returns-4 c = simp (← c .before .before .before .before .low .ensures .0, ← c .before .before .before .wide .ensures .0, le-leb _ _ (c .before .before .if1 .left), le-leb _ _ (c .before .if2 .left), ne-eqb _ _ (c .if3 .left))

@@ -1,34 +1,26 @@
 use mathlib.Core.Path.{sym, _∙_, refl}
 use borrow.Author.Tests.{ne-eqb, eq-eqb}
-use Rattle.berth.proofs.Chains.{more, stop, ends}
-use Rattle.rules.specs.Ranges.{txInRange}
 use borrow.Author.Needs.{needs}
+use Rattle.rules.specs.Ranges.{txInRange}
+use Rattle.berth.proofs.Chains.{more, stop, ends}
 use Rattle.berth.proofs.ranges.awaits_flow_in_range.Statement.{statement}
 use Rattle.berth.proofs.ranges.awaits_flow_in_range.Tie as tie
-use Rattle.berth.proofs.ranges.awaits_flow_in_range.Reads as reads
-use Rattle.berth.proofs.ranges.awaits_flow_in_range.Lts as lts
-use Rattle.berth.proofs.ranges.sending_in_range.Reads as sending-in-range-reads
 
--- src/ranges.rt:157:8
 sending-in-range-requires : tie.Need-sending-in-range-requires
 sending-in-range-requires c κs = search needs
 
--- src/ranges.rt:159:13
 returns : tie.Need-returns
 unfolding txInRange
 returns c = more _ (sym (c .before .before .before .sending-in-range .ensures) ∙ c .before .before .if1 .taken) (stop _ (ne-eqb _ _ (c .if2 .taken)))
 
--- src/ranges.rt:162:13
 returns-2 : tie.Need-returns-2
 unfolding txInRange
 returns-2 c = more _ (sym (c .before .before .before .before .before .sending-in-range .ensures) ∙ c .before .before .before .before .if1 .taken) (more _ (eq-eqb _ _ (c .before .before .if2 .left)) (stop _ (ne-eqb _ _ (c .if3 .taken))))
 
--- src/ranges.rt:164:9
 returns-3 : tie.Need-returns-3
 unfolding txInRange
 returns-3 c = more _ (sym (c .before .before .before .before .before .sending-in-range .ensures) ∙ c .before .before .before .before .if1 .taken) (more _ (eq-eqb _ _ (c .before .before .if2 .left)) (more _ (eq-eqb _ _ (c .if3 .left)) (ends refl)))
 
--- src/ranges.rt:154:1
 returns-4 : tie.Need-returns-4
 unfolding txInRange
 returns-4 c = stop _ (sym (c .before .sending-in-range .ensures) ∙ c .if1 .left)

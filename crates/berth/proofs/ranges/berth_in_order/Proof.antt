@@ -1,29 +1,21 @@
 use mathlib.Core.Path.{sym, _∙_}
-use Rattle.rules.specs.Ranges.{berthInOrder}
-use Rattle.rules.specs.Tests.{all}
 use mathlib.Core.Bool.{and-true}
 use borrow.Author.Needs.{needs}
+use Rattle.rules.specs.Ranges.{berthInOrder}
+use Rattle.rules.specs.Tests.{all}
 use Rattle.berth.proofs.ranges.berth_in_order.Statement.{statement}
 use Rattle.berth.proofs.ranges.berth_in_order.Tie as tie
-use Rattle.berth.proofs.ranges.berth_in_order.Reads as reads
-use Rattle.berth.proofs.ranges.berth_in_order.Lts as lts
-use Rattle.berth.proofs.ranges.rx_in_range.Reads as rx-in-range-reads
-use Rattle.berth.proofs.ranges.tx_in_range.Reads as tx-in-range-reads
 
--- src/ranges.rt:187:8
 rx-in-range-requires : tie.Need-rx-in-range-requires
 rx-in-range-requires c κs = search needs
 
--- src/ranges.rt:188:9
 tx-in-range-requires : tie.Need-tx-in-range-requires
 tx-in-range-requires c κs = search needs
 
--- src/ranges.rt:188:9
 returns : tie.Need-returns
 unfolding berthInOrder all
 returns c = simp (sym (c .before .before .rx-in-range .ensures) ∙ c .before .if1 .taken, c .tx-in-range .ensures, and-true)
 
--- src/ranges.rt:182:1
 returns-2 : tie.Need-returns-2
 unfolding berthInOrder all
 returns-2 c = simp (sym (c .before .rx-in-range .ensures) ∙ c .if1 .left, and-true)

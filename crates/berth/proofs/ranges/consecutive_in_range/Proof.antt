@@ -1,35 +1,27 @@
 use mathlib.Core.Path.{sym, _∙_}
+use mathlib.Core.Bool.{and-true}
 use borrow.Author.Tests.{eq-eqb, ne-eqb}
+use borrow.Author.Needs.{needs}
 use Rattle.rules.specs.Ranges.{txInRange}
 use Rattle.rules.specs.Tests.{all}
-use mathlib.Core.Bool.{and-true}
-use borrow.Author.Needs.{needs}
 use Rattle.berth.proofs.ranges.consecutive_in_range.Statement.{statement}
 use Rattle.berth.proofs.ranges.consecutive_in_range.Tie as tie
-use Rattle.berth.proofs.ranges.consecutive_in_range.Reads as reads
-use Rattle.berth.proofs.ranges.consecutive_in_range.Lts as lts
-use Rattle.berth.proofs.ranges.sending_in_range.Reads as sending-in-range-reads
 
--- src/ranges.rt:173:8
 sending-in-range-requires : tie.Need-sending-in-range-requires
 sending-in-range-requires c κs = search needs
 
--- src/ranges.rt:175:13
 returns : tie.Need-returns
 unfolding txInRange all
 returns c = simp (sym (c .before .before .before .sending-in-range .ensures) ∙ c .before .before .if1 .taken, eq-eqb _ _ (c .if2 .taken), and-true)
 
--- src/ranges.rt:178:13
 returns-2 : tie.Need-returns-2
 unfolding txInRange all
 returns-2 c = simp (sym (c .before .before .before .before .sending-in-range .ensures) ∙ c .before .before .before .if1 .taken, ne-eqb _ _ (c .before .if2 .left), c .if3 .taken)
 
--- src/ranges.rt:180:9
 returns-3 : tie.Need-returns-3
 unfolding txInRange all
 returns-3 c = simp (sym (c .before .before .before .before .sending-in-range .ensures) ∙ c .before .before .before .if1 .taken, ne-eqb _ _ (c .before .if2 .left), ne-eqb _ _ (c .if3 .left), and-true)
 
--- src/ranges.rt:170:1
 returns-4 : tie.Need-returns-4
 unfolding txInRange all
 returns-4 c = simp (sym (c .before .sending-in-range .ensures) ∙ c .if1 .left, and-true)

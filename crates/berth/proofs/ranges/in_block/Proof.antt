@@ -2,15 +2,11 @@ use borrow.Author.Tests.{eq-eqb, ne-eqb}
 use Rattle.rules.specs.Ranges.{inBlock}
 use Rattle.berth.proofs.ranges.in_block.Statement.{statement}
 use Rattle.berth.proofs.ranges.in_block.Tie as tie
-use Rattle.berth.proofs.ranges.in_block.Reads as reads
-use Rattle.berth.proofs.ranges.in_block.Lts as lts
 
--- src/ranges.rt:38:9
 returns : tie.Need-returns
 unfolding inBlock
 returns c = simp (eq-eqb _ _ (c .if1 .taken))
 
--- src/ranges.rt:34:1
 returns-2 : tie.Need-returns-2
 unfolding inBlock
 returns-2 c = simp (ne-eqb _ _ (c .if1 .left))

@@ -1,54 +1,42 @@
-use borrow.Author.Tests.{lt-leb, le-leb, le-ltb, lt-ltb}
-use Rattle.berth.proofs.Chains.{stop, more, ends}
-use Rattle.rules.specs.Ranges.{sendingInRange}
 use mathlib.Core.Path.{sym, _∙_, refl}
+use borrow.Author.Tests.{lt-leb, le-leb, le-ltb, lt-ltb}
 use borrow.Author.Needs.{needs}
+use Rattle.rules.specs.Ranges.{sendingInRange}
+use Rattle.berth.proofs.Chains.{stop, more, ends}
 use Rattle.berth.proofs.ranges.sending_in_range.Statement.{statement}
 use Rattle.berth.proofs.ranges.sending_in_range.Tie as tie
-use Rattle.berth.proofs.ranges.sending_in_range.Reads as reads
-use Rattle.berth.proofs.ranges.sending_in_range.Lts as lts
-use Rattle.berth.proofs.ranges.in_block.Reads as in-block-reads
 
--- src/ranges.rt:101:9
 returns : tie.Need-returns
 unfolding sendingInRange
 returns c = stop _ (lt-leb _ _ (c .if1 .taken))
 
--- src/ranges.rt:104:9
 returns-2 : tie.Need-returns-2
 unfolding sendingInRange
 returns-2 c = more _ (le-leb _ _ (c .before .before .before .if1 .left)) (stop _ (lt-leb _ _ (c .if2 .taken)))
 
--- src/ranges.rt:107:9
 returns-3 : tie.Need-returns-3
 unfolding sendingInRange
 returns-3 c = more _ (le-leb _ _ (c .before .before .before .before .before .if1 .left)) (more _ (le-leb _ _ (c .before .before .if2 .left)) (stop _ (lt-leb _ _ (c .if3 .taken))))
 
--- src/ranges.rt:110:9
 returns-4 : tie.Need-returns-4
 unfolding sendingInRange
 returns-4 c = more _ (le-leb _ _ (c .before .before .before .before .before .before .before .if1 .left)) (more _ (le-leb _ _ (c .before .before .before .before .if2 .left)) (more _ (le-leb _ _ (c .before .before .if3 .left)) (stop _ (le-ltb _ _ (c .if4 .taken)))))
 
--- src/ranges.rt:114:9
 returns-5 : tie.Need-returns-5
 unfolding sendingInRange
 returns-5 c = more _ (le-leb _ _ (c .before .before .before .before .before .before .before .before .if1 .left)) (more _ (le-leb _ _ (c .before .before .before .before .before .if2 .left)) (more _ (le-leb _ _ (c .before .before .before .if3 .left)) (more _ (lt-ltb _ _ (c .before .if4 .left)) (stop _ (le-ltb _ _ (c .if5 .taken))))))
 
--- src/ranges.rt:116:8
 in-block-requires : tie.Need-in-block-requires
 in-block-requires c κs = search needs
 
--- src/ranges.rt:118:13
 returns-6 : tie.Need-returns-6
 unfolding sendingInRange
 returns-6 c = more _ (le-leb _ _ (c .before .before .before .before .before .before .before .before .before .before .before .before .if1 .left)) (more _ (le-leb _ _ (c .before .before .before .before .before .before .before .before .before .if2 .left)) (more _ (le-leb _ _ (c .before .before .before .before .before .before .before .if3 .left)) (more _ (lt-ltb _ _ (c .before .before .before .before .before .if4 .left)) (more _ (lt-ltb _ _ (c .before .before .before .before .if5 .left)) (more _ (sym (c .before .before .before .in-block .ensures) ∙ c .before .before .if6 .taken) (stop _ (lt-leb _ _ (c .if7 .taken))))))))
 
--- src/ranges.rt:120:9
 returns-7 : tie.Need-returns-7
 unfolding sendingInRange
 returns-7 c = more _ (le-leb _ _ (c .before .before .before .before .before .before .before .before .before .before .before .before .before .if1 .left)) (more _ (le-leb _ _ (c .before .before .before .before .before .before .before .before .before .before .if2 .left)) (more _ (le-leb _ _ (c .before .before .before .before .before .before .before .before .if3 .left)) (more _ (lt-ltb _ _ (c .before .before .before .before .before .before .if4 .left)) (more _ (lt-ltb _ _ (c .before .before .before .before .before .if5 .left)) (more _ (sym (c .before .before .before .before .in-block .ensures) ∙ c .before .before .before .if6 .taken) (more _ (le-leb _ _ (c .before .if7 .left)) (ends refl)))))))
 
--- src/ranges.rt:97:1
 returns-8 : tie.Need-returns-8
 unfolding sendingInRange
 returns-8 c = more _ (le-leb _ _ (c .before .before .before .before .before .before .before .before .before .before .if1 .left)) (more _ (le-leb _ _ (c .before .before .before .before .before .before .before .if2 .left)) (more _ (le-leb _ _ (c .before .before .before .before .before .if3 .left)) (more _ (lt-ltb _ _ (c .before .before .before .if4 .left)) (more _ (lt-ltb _ _ (c .before .before .if5 .left)) (stop _ (sym (c .before .in-block .ensures) ∙ c .if6 .left))))))

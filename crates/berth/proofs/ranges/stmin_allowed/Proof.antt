@@ -2,20 +2,15 @@ use borrow.Author.Tests.{le-leb, lt-leb}
 use Rattle.rules.specs.Ranges.{stminAllowed}
 use Rattle.berth.proofs.ranges.stmin_allowed.Statement.{statement}
 use Rattle.berth.proofs.ranges.stmin_allowed.Tie as tie
-use Rattle.berth.proofs.ranges.stmin_allowed.Reads as reads
-use Rattle.berth.proofs.ranges.stmin_allowed.Lts as lts
 
--- src/ranges.rt:10:9
 returns : tie.Need-returns
 unfolding stminAllowed
 returns c = simp (le-leb _ _ (c .if1 .taken))
 
--- src/ranges.rt:13:9
 returns-2 : tie.Need-returns-2
 unfolding stminAllowed
 returns-2 c = simp (lt-leb _ _ (c .before .if1 .left), lt-leb _ _ (c .if2 .taken))
 
--- src/ranges.rt:6:1
 returns-3 : tie.Need-returns-3
 unfolding stminAllowed
 returns-3 c = simp (lt-leb _ _ (c .before .if1 .left), le-leb _ _ (c .if2 .left))

@@ -1,55 +1,41 @@
-use Rattle.rules.specs.Ticks.{rxCode}
 use borrow.Author.Needs.{needs}
+use Rattle.rules.specs.Ticks.{rxCode}
 use Rattle.berth.proofs.ticks.rx_code.Statement.{statement}
 use Rattle.berth.proofs.ticks.rx_code.Tie as tie
-use Rattle.berth.proofs.ticks.rx_code.Reads as reads
-use Rattle.berth.proofs.ticks.rx_code.Lts as lts
-use Rattle.berth.proofs.ticks.code_at.Reads as code-at-reads
 
--- src/ticks.rt:52:21
 enum-told : tie.Need-enum-told
 enum-told c = search needs
 
--- src/ticks.rt:53:26
 enum-known-rx : tie.Need-enum-known-rx
 enum-known-rx c = search needs
 
--- src/ticks.rt:53:32
 code-at-requires : tie.Need-code-at-requires
 code-at-requires c κs = search needs
 
--- src/ticks.rt:54:23
 enum-known-rx-2 : tie.Need-enum-known-rx-2
 enum-known-rx-2 c = search needs
 
--- src/ticks.rt:54:29
 code-at-requires-2 : tie.Need-code-at-requires-2
 code-at-requires-2 c κs = search needs
 
--- src/ticks.rt:55:23
 enum-known-rx-3 : tie.Need-enum-known-rx-3
 enum-known-rx-3 c = search needs
 
--- src/ticks.rt:55:29
 code-at-requires-3 : tie.Need-code-at-requires-3
 code-at-requires-3 c κs = search needs
 
--- src/ticks.rt:48:1
 returns : tie.Need-returns
 unfolding rxCode
 returns c = simp (c .enum-told .given .1)
 
--- src/ticks.rt:48:1
 returns-2 : tie.Need-returns-2
 unfolding rxCode
 returns-2 c = simp (c .before .before .rx .given .1, c .code-at .ensures)
 
--- src/ticks.rt:48:1
 returns-3 : tie.Need-returns-3
 unfolding rxCode
 returns-3 c = simp (c .before .before .rx2 .given .1, c .code-at2 .ensures)
 
--- src/ticks.rt:48:1
 returns-4 : tie.Need-returns-4
 unfolding rxCode
 returns-4 c = simp (c .before .before .rx3 .given .1, c .code-at3 .ensures)

@@ -1,115 +1,88 @@
-use Rattle.berth.proofs.Chains.{running, ended}
-use Rattle.rules.specs.Ticks.{txTicked, ran}
 use borrow.Author.Tests.{ne-eqb, eq-eqb}
 use borrow.Author.Needs.{needs}
+use Rattle.rules.specs.Ticks.{txTicked, ran}
+use Rattle.berth.proofs.Chains.{running, ended}
 use Rattle.berth.proofs.ticks.tx_ticked.Statement.{statement}
 use Rattle.berth.proofs.ticks.tx_ticked.Tie as tie
-use Rattle.berth.proofs.ticks.tx_ticked.Reads as reads
-use Rattle.berth.proofs.ticks.tx_ticked.Lts as lts
-use Rattle.berth.proofs.ticks.closer.Reads as closer-reads
 
--- src/ticks.rt:73:21
 enum-told : tie.Need-enum-told
 enum-told c = search needs
 
--- src/ticks.rt:74:23
 enum-known-tx : tie.Need-enum-known-tx
 enum-known-tx c = search needs
 
--- src/ticks.rt:75:20
 sub-if1 : tie.Need-sub-if1
 sub-if1 c = search needs
 
--- src/ticks.rt:76:41
 add-t13 : tie.Need-add-t13
 add-t13 c = search needs
 
--- src/ticks.rt:76:17
 returns : tie.Need-returns
 unfolding txTicked ran
 returns c = simp (c .before .before .tx .given .1, running _ (c .if1 .taken))
 
--- src/ticks.rt:80:22
 enum-known-tx-2 : tie.Need-enum-known-tx-2
 enum-known-tx-2 c = search needs
 
--- src/ticks.rt:81:20
 sub-if2 : tie.Need-sub-if2
 sub-if2 c = search needs
 
--- src/ticks.rt:82:40
 add-t16 : tie.Need-add-t16
 add-t16 c = search needs
 
--- src/ticks.rt:82:17
 returns-2 : tie.Need-returns-2
 unfolding txTicked ran
 returns-2 c = simp (c .before .before .tx2 .given .1, running _ (c .if2 .taken))
 
--- src/ticks.rt:86:24
 enum-known-tx-3 : tie.Need-enum-known-tx-3
 enum-known-tx-3 c = search needs
 
--- src/ticks.rt:87:20
 sub-if3 : tie.Need-sub-if3
 sub-if3 c = search needs
 
--- src/ticks.rt:88:42
 add-t19 : tie.Need-add-t19
 add-t19 c = search needs
 
--- src/ticks.rt:88:17
 returns-3 : tie.Need-returns-3
 unfolding txTicked ran
 returns-3 c = simp (c .before .before .tx3 .given .1, running _ (c .if3 .taken))
 
--- src/ticks.rt:92:25
 enum-known-tx-4 : tie.Need-enum-known-tx-4
 enum-known-tx-4 c = search needs
 
--- src/ticks.rt:94:40
 closer-requires : tie.Need-closer-requires
 closer-requires c κs = search needs
 
--- src/ticks.rt:94:17
 returns-4 : tie.Need-returns-4
 unfolding txTicked ran
 returns-4 c = simp (c .before .before .before .before .tx4 .given .1, ne-eqb _ _ (c .before .if4 .taken), c .closer .ensures)
 
--- src/ticks.rt:96:20
 sub-if5 : tie.Need-sub-if5
 sub-if5 c = search needs
 
--- src/ticks.rt:97:43
 add-t23 : tie.Need-add-t23
 add-t23 c = search needs
 
--- src/ticks.rt:97:17
 returns-5 : tie.Need-returns-5
 unfolding txTicked ran
 returns-5 c = simp (c .before .before .before .before .tx4 .given .1, eq-eqb _ _ (c .before .if4 .left), running _ (c .if5 .taken))
 
--- src/ticks.rt:69:1
 returns-6 : tie.Need-returns-6
 unfolding txTicked ran
 returns-6 c = simp (c .enum-told .given .1)
 
--- src/ticks.rt:69:1
 returns-7 : tie.Need-returns-7
 unfolding txTicked ran
 returns-7 c = simp (c .before .before .tx .given .1, ended _ (c .if1 .left))
 
--- src/ticks.rt:69:1
 returns-8 : tie.Need-returns-8
 unfolding txTicked ran
 returns-8 c = simp (c .before .before .tx2 .given .1, ended _ (c .if2 .left))
 
--- src/ticks.rt:69:1
 returns-9 : tie.Need-returns-9
 unfolding txTicked ran
 returns-9 c = simp (c .before .before .tx3 .given .1, ended _ (c .if3 .left))
 
--- src/ticks.rt:69:1
 returns-10 : tie.Need-returns-10
 unfolding txTicked ran
 returns-10 c = simp (c .before .before .before .before .tx4 .given .1, eq-eqb _ _ (c .before .if4 .left), ended _ (c .if5 .left))

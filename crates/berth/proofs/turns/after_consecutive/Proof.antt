@@ -1,47 +1,33 @@
-use borrow.Author.Tests.{le-leb, lt-leb}
-use Rattle.rules.specs.Turns.{afterConsecutive}
 use mathlib.Core.Path.{sym, _∙_}
+use borrow.Author.Tests.{le-leb, lt-leb}
 use borrow.Author.Needs.{needs}
+use Rattle.rules.specs.Turns.{afterConsecutive}
 use Rattle.berth.proofs.turns.after_consecutive.Statement.{statement}
 use Rattle.berth.proofs.turns.after_consecutive.Tie as tie
-use Rattle.berth.proofs.turns.after_consecutive.Reads as reads
-use Rattle.berth.proofs.turns.after_consecutive.Lts as lts
-use Rattle.berth.proofs.frames.counted.Reads as counted-reads
-use Rattle.berth.proofs.frames.fills_block.Reads as fills-block-reads
-use Rattle.berth.proofs.turns.moved.Reads as moved-reads
-use Rattle.berth.proofs.turns.to_go.Reads as to-go-reads
 
--- src/turns.rt:196:8
 to-go-requires : tie.Need-to-go-requires
 to-go-requires c κs = search needs
 
--- src/turns.rt:197:9
 returns : tie.Need-returns
 unfolding afterConsecutive
 returns c = simp (← c .before .to-go .ensures, le-leb _ _ (c .if1 .taken))
 
--- src/turns.rt:199:8
 fills-block-requires : tie.Need-fills-block-requires
 fills-block-requires c κs = search needs
 
--- src/turns.rt:200:13
 moved-requires : tie.Need-moved-requires
 moved-requires c κs = search needs
 
--- src/turns.rt:201:9
 returns-2 : tie.Need-returns-2
 unfolding afterConsecutive
 returns-2 c = simp (← c .before .before .before .before .to-go .ensures, lt-leb _ _ (c .before .before .before .if1 .left), sym (c .before .before .fills-block .ensures) ∙ c .before .if2 .taken, ← c .moved .ensures)
 
--- src/turns.rt:203:22
 counted-requires : tie.Need-counted-requires
 counted-requires c κs = search needs
 
--- src/turns.rt:203:9
 moved-requires-2 : tie.Need-moved-requires-2
 moved-requires-2 c κs = search needs
 
--- src/turns.rt:192:1
 returns-3 : tie.Need-returns-3
 unfolding afterConsecutive
 returns-3 c = simp (← c .before .before .before .before .before .to-go .ensures, lt-leb _ _ (c .before .before .before .before .if1 .left), sym (c .before .before .before .fills-block .ensures) ∙ c .before .before .if2 .left, ← c .before .counted .ensures, ← c .moved2 .ensures)

@@ -1,42 +1,32 @@
-use Rattle.rules.specs.Turns.{afterFlow, newBlock}
 use borrow.Author.Needs.{needs}
+use Rattle.rules.specs.Turns.{afterFlow, newBlock}
 use Rattle.berth.proofs.turns.after_flow.Statement.{statement}
 use Rattle.berth.proofs.turns.after_flow.Tie as tie
-use Rattle.berth.proofs.turns.after_flow.Reads as reads
-use Rattle.berth.proofs.turns.after_flow.Lts as lts
 
--- src/turns.rt:84:21
 enum-told : tie.Need-enum-told
 enum-told c = search needs
 
--- src/turns.rt:85:32
 enum-told-2 : tie.Need-enum-told-2
 enum-told-2 c = search needs
 
--- src/turns.rt:86:20
 enum-known-rx : tie.Need-enum-known-rx
 enum-known-rx c = search needs
 
--- src/turns.rt:91:29
 enum-told-3 : tie.Need-enum-told-3
 enum-told-3 c = search needs
 
--- src/turns.rt:80:1
 returns : tie.Need-returns
 unfolding afterFlow newBlock
 returns c = simp (c .enum-told .given .1)
 
--- src/turns.rt:80:1
 returns-2 : tie.Need-returns-2
 unfolding afterFlow newBlock
 returns-2 c = simp (c .enum-told2 .given .1)
 
--- src/turns.rt:80:1
 returns-3 : tie.Need-returns-3
 unfolding afterFlow newBlock
 returns-3 c = simp (c .before .rx .given .1)
 
--- src/turns.rt:80:1
 returns-4 : tie.Need-returns-4
 unfolding afterFlow newBlock
 returns-4 c = simp (c .enum-told3 .given .1)

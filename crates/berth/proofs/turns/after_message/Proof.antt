@@ -1,61 +1,45 @@
-use Rattle.rules.specs.Turns.{afterMessage}
 use borrow.Author.Needs.{needs}
+use Rattle.rules.specs.Turns.{afterMessage}
 use Rattle.berth.proofs.turns.after_message.Statement.{statement}
 use Rattle.berth.proofs.turns.after_message.Tie as tie
-use Rattle.berth.proofs.turns.after_message.Reads as reads
-use Rattle.berth.proofs.turns.after_message.Lts as lts
-use Rattle.berth.proofs.turns.after_consecutive.Reads as after-consecutive-reads
-use Rattle.berth.proofs.turns.opened.Reads as opened-reads
 
--- src/turns.rt:212:21
 enum-told : tie.Need-enum-told
 enum-told c = search needs
 
--- src/turns.rt:213:32
 enum-told-2 : tie.Need-enum-told-2
 enum-told-2 c = search needs
 
--- src/turns.rt:214:22
 enum-known-tx : tie.Need-enum-known-tx
 enum-known-tx c = search needs
 
--- src/turns.rt:215:17
 opened-requires : tie.Need-opened-requires
 opened-requires c κs = search needs
 
--- src/turns.rt:218:33
 enum-told-3 : tie.Need-enum-told-3
 enum-told-3 c = search needs
 
--- src/turns.rt:219:25
 enum-known-tx-2 : tie.Need-enum-known-tx-2
 enum-known-tx-2 c = search needs
 
--- src/turns.rt:219:34
 after-consecutive-requires : tie.Need-after-consecutive-requires
 after-consecutive-requires c κs = (rw (c .before .tx2 .given .1) at (c .before .before .before .pre)) .0
 
--- src/turns.rt:207:1
 returns : tie.Need-returns
 unfolding afterMessage
 returns c = simp (c .enum-told .given .1)
 
--- src/turns.rt:207:1
 returns-2 : tie.Need-returns-2
 unfolding afterMessage
 returns-2 c = simp (c .enum-told2 .given .1)
 
--- src/turns.rt:207:1
 returns-3 : tie.Need-returns-3
 unfolding afterMessage
 returns-3 c = simp (c .before .before .tx .given .1, c .opened .ensures)
 
--- src/turns.rt:207:1
 returns-4 : tie.Need-returns-4
 unfolding afterMessage
 returns-4 c = simp (c .enum-told3 .given .1)
 
--- src/turns.rt:207:1
 returns-5 : tie.Need-returns-5
 unfolding afterMessage
 returns-5 c = simp (c .before .before .tx2 .given .1, c .after-consecutive .ensures)

@@ -2,15 +2,11 @@ use borrow.Author.Tests.{le-leb, lt-leb}
 use Rattle.rules.specs.Turns.{beginsWith}
 use Rattle.berth.proofs.turns.begins_with.Statement.{statement}
 use Rattle.berth.proofs.turns.begins_with.Tie as tie
-use Rattle.berth.proofs.turns.begins_with.Reads as reads
-use Rattle.berth.proofs.turns.begins_with.Lts as lts
 
--- src/turns.rt:263:9
 returns : tie.Need-returns
 unfolding beginsWith
 returns c = simp (le-leb _ _ (c .if1 .taken))
 
--- src/turns.rt:259:1
 returns-2 : tie.Need-returns-2
 unfolding beginsWith
 returns-2 c = simp (lt-leb _ _ (c .if1 .left))

@@ -1,51 +1,39 @@
-use Rattle.rules.specs.Turns.{busy}
 use borrow.Author.Needs.{needs}
+use Rattle.rules.specs.Turns.{busy}
 use Rattle.berth.proofs.turns.busy.Statement.{statement}
 use Rattle.berth.proofs.turns.busy.Tie as tie
-use Rattle.berth.proofs.turns.busy.Reads as reads
-use Rattle.berth.proofs.turns.busy.Lts as lts
 
--- src/turns.rt:298:21
 enum-told : tie.Need-enum-told
 enum-told c = search needs
 
--- src/turns.rt:299:32
 enum-told-2 : tie.Need-enum-told-2
 enum-told-2 c = search needs
 
--- src/turns.rt:300:31
 enum-told-3 : tie.Need-enum-told-3
 enum-told-3 c = search needs
 
--- src/turns.rt:301:33
 enum-told-4 : tie.Need-enum-told-4
 enum-told-4 c = search needs
 
--- src/turns.rt:302:34
 enum-told-5 : tie.Need-enum-told-5
 enum-told-5 c = search needs
 
--- src/turns.rt:294:1
 returns : tie.Need-returns
 unfolding busy
 returns c = simp (c .enum-told .given .1)
 
--- src/turns.rt:294:1
 returns-2 : tie.Need-returns-2
 unfolding busy
 returns-2 c = simp (c .enum-told2 .given .1)
 
--- src/turns.rt:294:1
 returns-3 : tie.Need-returns-3
 unfolding busy
 returns-3 c = simp (c .enum-told3 .given .1)
 
--- src/turns.rt:294:1
 returns-4 : tie.Need-returns-4
 unfolding busy
 returns-4 c = simp (c .enum-told4 .given .1)
 
--- src/turns.rt:294:1
 returns-5 : tie.Need-returns-5
 unfolding busy
 returns-5 c = simp (c .enum-told5 .given .1)

@@ -1,74 +1,55 @@
+use Prim.Native.Nat.{_+_, _-_}
 use native.Mathlib.Omega.{arith}
 use mathlib.Core.Path.{ap, _∙_, _≡_}
 use lib.ListN.{length-take, length-drop}
+use borrow.Author.Needs.{needs}
 use Rattle.rules.specs.Frames.{consecutiveFrame, share}
 use Rattle.rules.specs.Turns.{toGo}
 use Rattle.rules.specs.Numbers.{consecutiveMost}
 use Rattle.berth.proofs.Fits.{share-most}
-use Prim.Native.Nat.{_+_, _-_}
-use borrow.Author.Needs.{needs}
 use Rattle.berth.proofs.turns.consecutive_frame.Statement.{statement}
 use Rattle.berth.proofs.turns.consecutive_frame.Tie as tie
-use Rattle.berth.proofs.turns.consecutive_frame.Reads as reads
-use Rattle.berth.proofs.turns.consecutive_frame.Lts as lts
-use Rattle.berth.proofs.frames.lay_out.Reads as lay-out-reads
-use Rattle.berth.proofs.frames.share.Reads as share-reads
-use Rattle.berth.proofs.turns.to_go.Reads as to-go-reads
 
--- src/turns.rt:125:17
 mul-t8 : tie.Need-mul-t8
 mul-t8 c = search needs
 
--- src/turns.rt:125:17
 add-t9 : tie.Need-add-t9
 add-t9 c = search needs
 
--- src/turns.rt:126:14
 cast-lo : tie.Need-cast-lo
 cast-lo c = search needs
 
--- src/turns.rt:127:33
 to-go-requires : tie.Need-to-go-requires
 to-go-requires c κs = search needs
 
--- src/turns.rt:127:19
 share-requires : tie.Need-share-requires
 share-requires c κs = search needs
 
--- src/turns.rt:127:19
 cast-hi : tie.Need-cast-hi
 cast-hi c = search needs
 
--- src/turns.rt:127:14
 add-hi : tie.Need-add-hi
 add-hi c = search needs
 
--- src/turns.rt:128:28
 slice-aggregate-lay-out : tie.Need-slice-aggregate-lay-out
 slice-aggregate-lay-out c = search needs
 
--- src/turns.rt:128:35
 sub-lay-out : tie.Need-sub-lay-out
 sub-lay-out c = search needs
 
--- src/turns.rt:128:35
 part-lay-out-start : tie.Need-part-lay-out-start
 part-lay-out-start c = search needs
 
--- src/turns.rt:128:35
 part-lay-out-end : tie.Need-part-lay-out-end
 unfolding toGo
 part-lay-out-end c = omega (arith, c .before .before .share .ensures, c .before .before .before .to-go .ensures, share-most (c .before .before .before .to-go .result), c .before .before .before .before .before .before .before .pre)
 
--- src/turns.rt:128:5
 lay-out-requires : tie.Need-lay-out-requires
 lay-out-requires c κs = (c .before .before .before .before .before .before .before .before .pre .3, simp (length-take, length-drop) (omega (arith, c .before .before .before .share .ensures, share-most (c .before .before .before .before .to-go .result))))
 
--- src/turns.rt:120:1
 same-length : tie.Need-same-length
 same-length c = search needs
 
--- src/turns.rt:120:1
 returns : tie.Need-returns
 unfolding consecutiveFrame
 returns c = let o = c .before .before .before .before .before .before .before .before .before .before .before .args .o in

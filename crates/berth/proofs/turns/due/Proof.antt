@@ -1,27 +1,19 @@
 use mathlib.Core.Path.{sym, _∙_}
-use Rattle.rules.specs.Turns.{due}
 use borrow.Author.Needs.{needs}
+use Rattle.rules.specs.Turns.{due}
 use Rattle.berth.proofs.turns.due.Statement.{statement}
 use Rattle.berth.proofs.turns.due.Tie as tie
-use Rattle.berth.proofs.turns.due.Reads as reads
-use Rattle.berth.proofs.turns.due.Lts as lts
-use Rattle.berth.proofs.turns.flow_due.Reads as flow-due-reads
-use Rattle.berth.proofs.turns.message_due.Reads as message-due-reads
 
--- src/turns.rt:50:8
 flow-due-requires : tie.Need-flow-due-requires
 flow-due-requires c κs = search needs
 
--- src/turns.rt:51:9
 returns : tie.Need-returns
 unfolding due
 returns c = simp (sym (c .before .flow-due .ensures) ∙ c .if1 .taken)
 
--- src/turns.rt:53:5
 message-due-requires : tie.Need-message-due-requires
 message-due-requires c κs = search needs
 
--- src/turns.rt:45:1
 returns-2 : tie.Need-returns-2
 unfolding due
 returns-2 c = simp (sym (c .before .before .flow-due .ensures) ∙ c .before .if1 .left, c .message-due .ensures)

@@ -1,50 +1,37 @@
 use native.Mathlib.Omega.{arith}
 use lib.ListN.{length-take}
-use Rattle.rules.specs.Frames.{firstFrame}
 use borrow.Author.Needs.{needs}
+use Rattle.rules.specs.Frames.{firstFrame}
 use Rattle.berth.proofs.turns.first_frame.Statement.{statement}
 use Rattle.berth.proofs.turns.first_frame.Tie as tie
-use Rattle.berth.proofs.turns.first_frame.Reads as reads
-use Rattle.berth.proofs.turns.first_frame.Lts as lts
-use Rattle.berth.proofs.frames.lay_out.Reads as lay-out-reads
 
--- src/turns.rt:115:17
 mul-t6 : tie.Need-mul-t6
 mul-t6 c = search needs
 
--- src/turns.rt:115:42
 cast-t8 : tie.Need-cast-t8
 cast-t8 c = search needs
 
--- src/turns.rt:115:17
 add-t9 : tie.Need-add-t9
 add-t9 c = search needs
 
--- src/turns.rt:115:59
 cast-t11 : tie.Need-cast-t11
 cast-t11 c = search needs
 
--- src/turns.rt:116:13
 cast-e : tie.Need-cast-e
 cast-e c = search needs
 
--- src/turns.rt:117:28
 slice-aggregate-lay-out : tie.Need-slice-aggregate-lay-out
 slice-aggregate-lay-out c = search needs
 
--- src/turns.rt:117:35
 slice-aggregate-lay-out-2 : tie.Need-slice-aggregate-lay-out-2
 slice-aggregate-lay-out-2 c = simp length-take (omega (arith, c .before .before .before .before .before .pre))
 
--- src/turns.rt:117:5
 lay-out-requires : tie.Need-lay-out-requires
 lay-out-requires c κs = (c .before .before .before .before .before .pre .2, simp length-take (omega (arith, c .before .before .before .before .before .pre)))
 
--- src/turns.rt:111:1
 same-length : tie.Need-same-length
 same-length c = search needs
 
--- src/turns.rt:111:1
 returns : tie.Need-returns
 unfolding firstFrame
 returns c = c .before .before .lay-out .ensures

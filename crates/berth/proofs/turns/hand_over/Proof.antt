@@ -1,59 +1,41 @@
 use mathlib.Core.Path.{sym, _∙_}
+use borrow.Author.Needs.{needs}
 use Rattle.rules.specs.Turns.{due, handOver}
 use Rattle.berth.specs.Reading.{handedOf}
-use borrow.Author.Needs.{needs}
 use Rattle.berth.proofs.turns.hand_over.Statement.{statement}
 use Rattle.berth.proofs.turns.hand_over.Tie as tie
-use Rattle.berth.proofs.turns.hand_over.Reads as reads
-use Rattle.berth.proofs.turns.hand_over.Lts as lts
-use Rattle.berth.proofs.turns.after_flow.Reads as after-flow-reads
-use Rattle.berth.proofs.turns.after_message.Reads as after-message-reads
-use Rattle.berth.proofs.turns.flow_due.Reads as flow-due-reads
-use Rattle.berth.proofs.turns.flow_frame.Reads as flow-frame-reads
-use Rattle.berth.proofs.turns.message_code.Reads as message-code-reads
-use Rattle.berth.proofs.turns.message_frame.Reads as message-frame-reads
 
--- src/turns.rt:232:8
 flow-due-requires : tie.Need-flow-due-requires
 flow-due-requires c κs = search needs
 
--- src/turns.rt:233:9
 flow-frame-requires : tie.Need-flow-frame-requires
 flow-frame-requires c κs = (sym (c .before .before .flow-due .ensures) ∙ c .before .if1 .taken, c .before .before .before .before .before .pre .5)
 
--- src/turns.rt:235:17
 after-flow-requires : tie.Need-after-flow-requires
 after-flow-requires c κs = search needs
 
--- src/turns.rt:239:9
 same-length : tie.Need-same-length
 same-length c = search needs
 
--- src/turns.rt:239:9
 returns : tie.Need-returns
 unfolding handOver handedOf
 returns c = simp (sym (c .before .before .before .before .before .before .flow-due .ensures) ∙ c .before .before .before .before .before .if1 .taken, c .after-flow .ensures, c .before .before .before .flow-frame .ensures)
 
--- src/turns.rt:244:5
 message-frame-requires : tie.Need-message-frame-requires
 unfolding due
 message-frame-requires c κs = let pre = c .before .before .before .before .before .pre in
     let flow = sym (c .before .before .flow-due .ensures) ∙ c .before .if1 .left in
     ((rw flow at (pre .0)), pre .1 .send, pre .3, pre .2, pre .4, pre .5)
 
--- src/turns.rt:248:13
 after-message-requires : tie.Need-after-message-requires
 after-message-requires c κs = search needs
 
--- src/turns.rt:252:15
 message-code-requires : tie.Need-message-code-requires
 message-code-requires c κs = search needs
 
--- src/turns.rt:226:1
 same-length-2 : tie.Need-same-length-2
 same-length-2 c = search needs
 
--- src/turns.rt:226:1
 returns-2 : tie.Need-returns-2
 unfolding handOver handedOf
 returns-2 c = simp (sym (c .before .before .before .before .before .before .before .flow-due .ensures) ∙ c .before .before .before .before .before .before .if1 .left, c .message-code .ensures, c .before .after-message .ensures, c .before .before .before .before .message-frame .ensures)

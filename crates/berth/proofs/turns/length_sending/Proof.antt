@@ -1,51 +1,39 @@
-use Rattle.rules.specs.Turns.{lengthSending}
 use borrow.Author.Needs.{needs}
+use Rattle.rules.specs.Turns.{lengthSending}
 use Rattle.berth.proofs.turns.length_sending.Statement.{statement}
 use Rattle.berth.proofs.turns.length_sending.Tie as tie
-use Rattle.berth.proofs.turns.length_sending.Reads as reads
-use Rattle.berth.proofs.turns.length_sending.Lts as lts
 
--- src/turns.rt:286:21
 enum-told : tie.Need-enum-told
 enum-told c = search needs
 
--- src/turns.rt:287:23
 enum-known-tx : tie.Need-enum-known-tx
 enum-known-tx c = search needs
 
--- src/turns.rt:288:22
 enum-known-tx-2 : tie.Need-enum-known-tx-2
 enum-known-tx-2 c = search needs
 
--- src/turns.rt:289:24
 enum-known-tx-3 : tie.Need-enum-known-tx-3
 enum-known-tx-3 c = search needs
 
--- src/turns.rt:290:25
 enum-known-tx-4 : tie.Need-enum-known-tx-4
 enum-known-tx-4 c = search needs
 
--- src/turns.rt:282:1
 returns : tie.Need-returns
 unfolding lengthSending
 returns c = simp (c .enum-told .given .1)
 
--- src/turns.rt:282:1
 returns-2 : tie.Need-returns-2
 unfolding lengthSending
 returns-2 c = simp (c .before .tx .given .1)
 
--- src/turns.rt:282:1
 returns-3 : tie.Need-returns-3
 unfolding lengthSending
 returns-3 c = simp (c .before .tx2 .given .1)
 
--- src/turns.rt:282:1
 returns-4 : tie.Need-returns-4
 unfolding lengthSending
 returns-4 c = simp (c .before .tx3 .given .1)
 
--- src/turns.rt:282:1
 returns-5 : tie.Need-returns-5
 unfolding lengthSending
 returns-5 c = simp (c .before .tx4 .given .1)

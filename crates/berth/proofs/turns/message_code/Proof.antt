@@ -1,62 +1,47 @@
 use borrow.Author.Tests.{le-leb, lt-leb}
-use Rattle.rules.specs.Turns.{messageCode}
 use borrow.Author.Needs.{needs}
+use Rattle.rules.specs.Turns.{messageCode}
 use Rattle.berth.proofs.turns.message_code.Statement.{statement}
 use Rattle.berth.proofs.turns.message_code.Tie as tie
-use Rattle.berth.proofs.turns.message_code.Reads as reads
-use Rattle.berth.proofs.turns.message_code.Lts as lts
-use Rattle.berth.proofs.turns.to_go.Reads as to-go-reads
 
--- src/turns.rt:150:21
 enum-told : tie.Need-enum-told
 enum-told c = search needs
 
--- src/turns.rt:151:32
 enum-told-2 : tie.Need-enum-told-2
 enum-told-2 c = search needs
 
--- src/turns.rt:152:31
 enum-told-3 : tie.Need-enum-told-3
 enum-told-3 c = search needs
 
--- src/turns.rt:153:33
 enum-told-4 : tie.Need-enum-told-4
 enum-told-4 c = search needs
 
--- src/turns.rt:154:25
 enum-known-tx : tie.Need-enum-known-tx
 enum-known-tx c = search needs
 
--- src/turns.rt:155:16
 to-go-requires : tie.Need-to-go-requires
 to-go-requires c κs = (rw (c .before .tx .given .1) at (c .before .before .before .pre)) .0 .position-most
 
--- src/turns.rt:156:17
 returns : tie.Need-returns
 unfolding messageCode
 returns c = simp (c .before .before .before .tx .given .1, ← c .before .to-go .ensures, le-leb _ _ (c .if1 .taken))
 
--- src/turns.rt:145:1
 returns-2 : tie.Need-returns-2
 unfolding messageCode
 returns-2 c = simp (c .enum-told .given .1)
 
--- src/turns.rt:145:1
 returns-3 : tie.Need-returns-3
 unfolding messageCode
 returns-3 c = simp (c .enum-told2 .given .1)
 
--- src/turns.rt:145:1
 returns-4 : tie.Need-returns-4
 unfolding messageCode
 returns-4 c = simp (c .enum-told3 .given .1)
 
--- src/turns.rt:145:1
 returns-5 : tie.Need-returns-5
 unfolding messageCode
 returns-5 c = simp (c .enum-told4 .given .1)
 
--- src/turns.rt:145:1
 returns-6 : tie.Need-returns-6
 unfolding messageCode
 returns-6 c = simp (c .before .before .before .tx .given .1, ← c .before .to-go .ensures, lt-leb _ _ (c .if1 .left))

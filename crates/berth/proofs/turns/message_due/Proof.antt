@@ -1,51 +1,39 @@
-use Rattle.rules.specs.Turns.{messageDue}
 use borrow.Author.Needs.{needs}
+use Rattle.rules.specs.Turns.{messageDue}
 use Rattle.berth.proofs.turns.message_due.Statement.{statement}
 use Rattle.berth.proofs.turns.message_due.Tie as tie
-use Rattle.berth.proofs.turns.message_due.Reads as reads
-use Rattle.berth.proofs.turns.message_due.Lts as lts
 
--- src/turns.rt:37:21
 enum-told : tie.Need-enum-told
 enum-told c = search needs
 
--- src/turns.rt:38:32
 enum-told-2 : tie.Need-enum-told-2
 enum-told-2 c = search needs
 
--- src/turns.rt:39:31
 enum-told-3 : tie.Need-enum-told-3
 enum-told-3 c = search needs
 
--- src/turns.rt:40:33
 enum-told-4 : tie.Need-enum-told-4
 enum-told-4 c = search needs
 
--- src/turns.rt:41:25
 enum-known-tx : tie.Need-enum-known-tx
 enum-known-tx c = search needs
 
--- src/turns.rt:33:1
 returns : tie.Need-returns
 unfolding messageDue
 returns c = simp (c .enum-told .given .1)
 
--- src/turns.rt:33:1
 returns-2 : tie.Need-returns-2
 unfolding messageDue
 returns-2 c = simp (c .enum-told2 .given .1)
 
--- src/turns.rt:33:1
 returns-3 : tie.Need-returns-3
 unfolding messageDue
 returns-3 c = simp (c .enum-told3 .given .1)
 
--- src/turns.rt:33:1
 returns-4 : tie.Need-returns-4
 unfolding messageDue
 returns-4 c = simp (c .enum-told4 .given .1)
 
--- src/turns.rt:33:1
 returns-5 : tie.Need-returns-5
 unfolding messageDue
 returns-5 c = simp (c .before .before .tx .given .1)

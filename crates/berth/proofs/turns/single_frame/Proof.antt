@@ -1,44 +1,33 @@
 use native.Mathlib.Omega.{arith}
+use mathlib.Core.Path.{_≡_}
 use lib.ListN.{length, take, length-take}
 use denote.Ref.{now}
-use mathlib.Core.Path.{_≡_}
-use Rattle.rules.specs.Frames.{singleFrame}
 use borrow.Author.Needs.{needs}
+use Rattle.rules.specs.Frames.{singleFrame}
 use Rattle.berth.proofs.turns.single_frame.Statement.{statement}
 use Rattle.berth.proofs.turns.single_frame.Tie as tie
-use Rattle.berth.proofs.turns.single_frame.Reads as reads
-use Rattle.berth.proofs.turns.single_frame.Lts as lts
-use Rattle.berth.proofs.frames.lay_out.Reads as lay-out-reads
 
--- src/turns.rt:106:17
 mul-t6 : tie.Need-mul-t6
 mul-t6 c = search needs
 
--- src/turns.rt:106:43
 cast-t7 : tie.Need-cast-t7
 cast-t7 c = search needs
 
--- src/turns.rt:106:17
 add-t8 : tie.Need-add-t8
 add-t8 c = search needs
 
--- src/turns.rt:108:28
 slice-aggregate-lay-out : tie.Need-slice-aggregate-lay-out
 slice-aggregate-lay-out c = search needs
 
--- src/turns.rt:108:35
 slice-aggregate-lay-out-2 : tie.Need-slice-aggregate-lay-out-2
 slice-aggregate-lay-out-2 c = simp length-take (omega (arith, c .before .before .before .before .before .pre))
 
--- src/turns.rt:108:5
 lay-out-requires : tie.Need-lay-out-requires
 lay-out-requires c κs = (c .before .before .before .before .before .pre .2, simp length-take (omega (arith, c .before .before .before .before .before .pre)))
 
--- src/turns.rt:102:1
 same-length : tie.Need-same-length
 same-length c = search needs
 
--- src/turns.rt:102:1
 returns : tie.Need-returns
 unfolding singleFrame
 returns c = let a = c .before .before .before .before .before .before .before .before .args in let n : length (take (a .n) (now (a .area))) ≡ a .n = simp length-take (omega (arith, c .before .before .before .before .before .before .before .before .pre)) in rw n (c .before .before .lay-out .ensures)

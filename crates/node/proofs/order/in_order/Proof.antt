@@ -1,50 +1,34 @@
-use Rattle.rules.specs.declared.Berth.{Berth}
-use mathlib.Core.Path.{_≡_}
-use lib.ListN.{length}
-use Rattle.rules.specs.Numbers.{berthCount}
-use borrow.Author.Tests.{eq-eqb}
-use lib.ListN.{length-map}
 use mathlib.Core.Path.{sym, _∙_}
-use borrow.Author.Tests.{le-ltb, lt-ltb}
-use Rattle.berth.proofs.Chains.{more, stop, ends}
-use Rattle.rules.specs.Ranges.{inOrder}
+use lib.ListN.{length-map}
+use borrow.Author.Tests.{eq-eqb, le-ltb, lt-ltb}
 use borrow.Author.Needs.{needs}
+use Rattle.rules.specs.Ranges.{inOrder}
+use Rattle.berth.proofs.Chains.{more, stop, ends}
 use Rattle.node.proofs.order.in_order.Statement.{statement}
 use Rattle.node.proofs.order.in_order.Tie as tie
-use Rattle.node.proofs.order.in_order.Reads as reads
-use Rattle.node.proofs.order.in_order.Lts as lts
-use Rattle.berth.proofs.ranges.settings_allowed.Reads as settings-allowed-reads
-use Rattle.node.proofs.order.each_in_order.Reads as each-in-order-reads
 
--- src/order.rt:32:9
 cast-settings-allowed : tie.Need-cast-settings-allowed
 cast-settings-allowed c = search needs
 
--- src/order.rt:33:9
 cast-settings-allowed-2 : tie.Need-cast-settings-allowed-2
 cast-settings-allowed-2 c = search needs
 
--- src/order.rt:30:8
 settings-allowed-requires : tie.Need-settings-allowed-requires
 settings-allowed-requires c κs = search needs
 
--- src/order.rt:36:13
 returns : tie.Need-returns
 unfolding inOrder
 returns c = more _ (sym (c .before .before .before .settings-allowed .ensures) ∙ c .before .before .if1 .taken) (stop _ (le-ltb _ _ (c .if2 .taken)))
 
--- src/order.rt:38:9
 each-in-order-requires : tie.Need-each-in-order-requires
 each-in-order-requires c κs = search needs
 
--- src/order.rt:38:9
 returns-2 : tie.Need-returns-2
 unfolding inOrder
 returns-2 c = let berths = c .before .before .before .before .before .before .before .before .args .node .berths in
     let ten = sym (length-map berths _) ∙ c .before .before .before .before .before .before .before .before .good .0 .1 .1 .1 .1 .0 .1 .0 .1 in
     more _ (sym (c .before .before .before .before .settings-allowed .ensures) ∙ c .before .before .before .if1 .taken) (more _ (lt-ltb _ _ (c .before .if2 .left)) (more _ (eq-eqb _ _ ten) (ends (c .each-in-order .ensures))))
 
--- src/order.rt:26:1
 returns-3 : tie.Need-returns-3
 unfolding inOrder
 returns-3 c = stop _ (sym (c .before .settings-allowed .ensures) ∙ c .if1 .left)

@@ -1,23 +1,16 @@
-use lib.ListN.{length-map}
-use mathlib.Core.Path.{sym, _∙_}
-use Rattle.rules.specs.declared.Berth.{Berth}
-use Rattle.node.proofs.Distances.{passed-all, stopped-at, at-most-ten}
+use Prim.Native.Nat.{ℕ, _≤_, _<_, _-_}
+use native.Mathlib.Nat.{le-antisymm}
+use native.Mathlib.Omega.{arith}
+use mathlib.Core.Path.{sym, _∙_, _≡_}
+use mathlib.Core.Bool.{false}
+use lib.ListN.{length-map, length}
+use borrow.Author.Needs.{needs}
 use Rattle.rules.specs.Stores.{passedOver}
 use Rattle.rules.proofs.Cases.{split}
-use native.Mathlib.Nat.{le-antisymm}
-use borrow.Author.Needs.{needs}
-use native.Mathlib.Omega.{arith}
-use Prim.Native.Nat.{ℕ, _≤_, _<_, _-_}
-use Rattle.node.proofs.Distances.{probed}
 use Rattle.rules.specs.Numbers.{berthCount}
-use lib.ListN.{length}
-use mathlib.Core.Path.{_≡_}
-use mathlib.Core.Bool.{false}
+use Rattle.node.proofs.Distances.{passed-all, stopped-at, at-most-ten, probed}
 use Rattle.node.proofs.round.passed_over.Statement.{statement}
 use Rattle.node.proofs.round.passed_over.Tie as tie
-use Rattle.node.proofs.round.passed_over.Reads as reads
-use Rattle.node.proofs.round.passed_over.Lts as lts
-use Rattle.berth.proofs.turns.due.Reads as due-reads
 
 abbrev Inv-loop : tie.InvT-loop
 Inv-loop node passed₀ passed = (passed ≤ berthCount) × (length (node .berths) ≡ berthCount) × ((j : ℕ) → j < passed → probed (node .served) (node .berths) j ≡ false)
@@ -25,35 +18,27 @@ Inv-loop node passed₀ passed = (passed ≤ berthCount) × (length (node .berth
 abbrev μ-loop : tie.MeasureT-loop
 μ-loop node passed₀ passed = berthCount - passed
 
--- src/round.rt:14:5
 loop-holds : tie.Need-loop-holds Inv-loop μ-loop
 loop-holds c = (search needs, sym (length-map (c .args .t1 .berths) _) ∙ c .good .0 .1 .1 .1 .1 .0 .1 .0 .1, λ j l. absurd (omega arith))
 
--- src/round.rt:15:20
 add-at : tie.Need-add-at Inv-loop μ-loop
 add-at c = search needs
 
--- src/round.rt:15:20
 add-at-2 : tie.Need-add-at-2 Inv-loop μ-loop
 add-at-2 c = search needs
 
--- src/round.rt:15:18
 cast-at : tie.Need-cast-at Inv-loop μ-loop
 cast-at c = search needs
 
--- src/round.rt:16:19
 mul-one : tie.Need-mul-one Inv-loop μ-loop
 mul-one c = search needs
 
--- src/round.rt:16:19
 element-copy-out-one : tie.Need-element-copy-out-one Inv-loop μ-loop
 element-copy-out-one c = search needs
 
--- src/round.rt:17:12
 due-requires : tie.Need-due-requires Inv-loop μ-loop
 due-requires c κs = search needs
 
--- src/round.rt:18:13
 returns : tie.Need-returns Inv-loop μ-loop
 unfolding passedOver
 returns c = let s = c .before .before .before .before in
@@ -63,15 +48,12 @@ returns c = let s = c .before .before .before .before in
     (passed-all (node .served) (node .berths) (s .before .pre) (s .loop .inv .1) p (s .loop .inv .0) (s .loop .inv .2))
     (stopped-at (node .served) (node .berths) (s .before .pre) (s .loop .inv .1) p (c .before .before .before .loop-test .taken) (sym (c .before .due .ensures) ∙ c .if1 .taken))
 
--- src/round.rt:20:9
 add-passed : tie.Need-add-passed Inv-loop μ-loop
 add-passed c = search needs
 
--- src/round.rt:14:5
 loop-less : tie.Need-loop-less Inv-loop μ-loop
 loop-less c = search needs
 
--- src/round.rt:14:5
 loop-again : tie.Need-loop-again Inv-loop μ-loop
 loop-again c = let s = c .before .before .before .before in
     let off = sym (c .before .due .ensures) ∙ c .if1 .left in (
@@ -80,7 +62,6 @@ loop-again c = let s = c .before .before .before .before in
       λ j l. split (s .loop .passed) j (λ le. let z : j ≡ s .loop .passed = omega arith in rw z off) (λ lt. s .loop .inv .2 j lt),
     )
 
--- src/round.rt:9:1
 returns-2 : tie.Need-returns-2 Inv-loop μ-loop
 unfolding passedOver
 returns-2 c = let s = c .before in
