@@ -1,3 +1,4 @@
+-- Refusals 1 to 4 in their order, each the first need that is not met; what passes them is heard.
 use native.Mathlib.Omega.{arith}
 use mathlib.Core.Path.{sym, refl, _∙_, _≡_}
 use mathlib.Core.Bool.{true}

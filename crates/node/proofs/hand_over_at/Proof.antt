@@ -1,3 +1,5 @@
+-- The berth that the search stopped at is due (`due-there`) and in order, so it hands its frame over; the first eight bytes of
+-- the buffer are that frame.
 use Prim.Native.Nat.{_+_, _-_, _*_, _%_}
 use native.Mathlib.Omega.{arith}
 use mathlib.Core.Path.{_∙_, _≡_}

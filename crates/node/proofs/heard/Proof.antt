@@ -1,3 +1,5 @@
+-- The berth is in order. Where refusal 11 does not hold, the bytes put down in the berth's area are bytes put down in the store
+-- (`put-in-part`).
 use Prim.Native.Nat.{_+_, _-_, _*_, _<_}
 use native.Mathlib.Omega.{arith}
 use mathlib.Core.Path.{sym, ap, _∙_, _≡_}

@@ -1,3 +1,5 @@
+-- The six refusals in their order, each the first need that is not met; else the message is put down at the front of the area
+-- (`put-down`).
 use Prim.Native.Nat.{_+_, _-_, _*_}
 use native.Mathlib.Omega.{arith}
 use mathlib.Core.Path.{sym, refl, ap, _∙_, _≡_}

@@ -1,3 +1,4 @@
+-- Settings that are allowed fit their bytes; the fresh node is the rule's.
 use native.Mathlib.Omega.{arith}
 use mathlib.Core.Logic.{⊎-elim}
 use mathlib.Core.Path.{sym, refl, _∙_}

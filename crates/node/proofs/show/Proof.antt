@@ -1,3 +1,5 @@
+-- Each test that fails shows nothing; else the part lies within the berth's area, since a length in order does (`last-fits`,
+-- `sending-fits`).
 use native.Mathlib.Omega.{arith}
 use mathlib.Core.Path.{sym, refl, _∙_, _≡_}
 use mathlib.Core.Bool.{true, false}

@@ -1,3 +1,4 @@
+-- A node out of order is refused, any other is ticked.
 use native.Mathlib.Omega.{arith}
 use mathlib.Core.Path.{sym, refl, _∙_}
 use borrow.Author.Needs.{needs}

@@ -1,3 +1,4 @@
+-- The invariant: the first i berths and codes are those after the tick, the others as they were.
 use Prim.Native.Nat.{_≤_, _-_}
 use native.Mathlib.Omega.{arith}
 use mathlib.Core.Path.{sym, _∙_, refl, _≡_}

@@ -1,3 +1,4 @@
+-- Refusals 1, 2 and 9 in their order; then the search says whether a berth is due.
 use native.Mathlib.Omega.{arith}
 use mathlib.Core.Path.{sym, refl, _∙_, _≡_}
 use mathlib.Core.Bool.{false, true}

@@ -1,3 +1,4 @@
+-- The code's test is the rule's: sums of two numbers of 32 bits do not wrap in 64.
 use mathlib.Core.Path.{refl}
 use borrow.Author.Needs.{needs}
 use Rattle.rules.specs.Stores.{inside}

@@ -1,3 +1,4 @@
+-- The kit's copy fills the front of the part from the place on, and the part put back is the bytes put down (`put-down`).
 use Prim.Native.Nat.{_+_, _-_}
 use native.Mathlib.Omega.{arith}
 use mathlib.Core.Path.{_≡_}

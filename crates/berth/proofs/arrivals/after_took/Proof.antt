@@ -1,3 +1,4 @@
+-- The two ways of the block are the two choices of the rule; the counts fit by the range of the reception.
 use mathlib.Core.Path.{sym, _∙_}
 use borrow.Author.Needs.{needs}
 use Rattle.rules.specs.Arrivals.{afterTook}

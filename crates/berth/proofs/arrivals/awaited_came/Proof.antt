@@ -1,3 +1,4 @@
+-- Each way out is one choice of the rule. Where the frame fits, its bytes lie within it (`consecutive-within`).
 use mathlib.Core.Path.{sym, _∙_}
 use denote.Ref.{now}
 use borrow.Author.Tests.{le-leb, lt-leb, eq-eqb, ne-eqb}

@@ -1,3 +1,4 @@
+-- Six bytes from the third on lie within a frame of eight.
 use native.Mathlib.Omega.{arith}
 use borrow.Author.Needs.{needs}
 use Rattle.rules.specs.Arrivals.{begun}

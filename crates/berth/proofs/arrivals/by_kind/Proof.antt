@@ -1,3 +1,4 @@
+-- The kind picks the rule; what the receive or send side heard passes over to the berth.
 use borrow.Author.Tests.{eq-eqb, ne-eqb}
 use borrow.Author.Needs.{needs}
 use Rattle.rules.specs.Arrivals.{byKind}

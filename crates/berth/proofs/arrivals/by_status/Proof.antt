@@ -1,3 +1,4 @@
+-- The status picks the rule's choice.
 use borrow.Author.Tests.{eq-eqb, ne-eqb}
 use borrow.Author.Needs.{needs}
 use Rattle.rules.specs.Arrivals.{byStatus}

@@ -1,3 +1,4 @@
+-- By cases on the receive side: all but awaiting are ignored as they stand.
 use borrow.Author.Needs.{needs}
 use Rattle.rules.specs.Arrivals.{consecutiveCame}
 use Rattle.berth.proofs.arrivals.consecutive_came.Statement.{statement}

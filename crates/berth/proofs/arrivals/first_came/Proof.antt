@@ -1,3 +1,4 @@
+-- A frame that fits has eight bytes (`first-whole`), so its length can be read; then A decides.
 use mathlib.Core.Path.{sym, _∙_}
 use borrow.Author.Tests.{le-ltb, lt-ltb}
 use borrow.Author.Needs.{needs}

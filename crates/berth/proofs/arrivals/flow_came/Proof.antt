@@ -1,3 +1,4 @@
+-- By cases on the send side; a frame that fits has its three bytes (`flow-within`).
 use mathlib.Core.Path.{sym, _∙_}
 use borrow.Author.Needs.{needs}
 use Rattle.rules.specs.Arrivals.{flowCame}

@@ -1,3 +1,4 @@
+-- Both sides are the same record.
 use mathlib.Core.Path.{refl}
 use Rattle.rules.specs.Arrivals.{flowIgnored}
 use Rattle.berth.specs.Reading.{toldOf}

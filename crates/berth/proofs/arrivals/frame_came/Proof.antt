@@ -1,3 +1,4 @@
+-- Without data the frame is ignored, else its kind decides.
 use borrow.Author.Tests.{eq-eqb, ne-eqb}
 use borrow.Author.Needs.{needs}
 use Rattle.rules.specs.Arrivals.{frameCame}

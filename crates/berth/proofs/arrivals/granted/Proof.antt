@@ -1,3 +1,4 @@
+-- The gap is that of the third byte; the other fields are the rule's own.
 use borrow.Author.Needs.{needs}
 use Rattle.rules.specs.Arrivals.{granted}
 use Rattle.berth.proofs.arrivals.granted.Statement.{statement}

@@ -1,3 +1,4 @@
+-- What a frame takes is no more than what is missing (`share-most`), so the sum stays below the total.
 use native.Mathlib.Omega.{arith}
 use borrow.Author.Needs.{needs}
 use Rattle.rules.specs.Arrivals.{missing, grown}

@@ -1,3 +1,4 @@
+-- What is heard of a receive side is carried over field by field.
 use mathlib.Core.Path.{ap}
 use Rattle.rules.specs.Arrivals.{heardBy}
 use Rattle.berth.specs.Reading.{heardOf, cameOf}

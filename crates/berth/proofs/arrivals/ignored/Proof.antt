@@ -1,3 +1,4 @@
+-- An answer that stores nothing, with the word Ignored.
 use borrow.Author.Needs.{needs}
 use Rattle.rules.specs.Arrivals.{ignored}
 use Rattle.berth.proofs.arrivals.ignored.Statement.{statement}

@@ -1,3 +1,4 @@
+-- A difference that does not wrap, since less was got than announced.
 use mathlib.Core.Path.{refl}
 use borrow.Author.Needs.{needs}
 use Rattle.rules.specs.Arrivals.{missing}

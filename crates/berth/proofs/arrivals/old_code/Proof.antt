@@ -1,3 +1,4 @@
+-- By cases on the receive side.
 use borrow.Author.Needs.{needs}
 use Rattle.rules.specs.Arrivals.{oldCode}
 use Rattle.berth.proofs.arrivals.old_code.Statement.{statement}

@@ -1,3 +1,4 @@
+-- The bytes from the second on, as many as the frame takes, lie within the frame.
 use native.Mathlib.Omega.{arith}
 use mathlib.Core.Path.{ap}
 use borrow.Author.Needs.{needs}

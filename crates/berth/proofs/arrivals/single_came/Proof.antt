@@ -1,3 +1,4 @@
+-- A frame that fits holds its L bytes behind the first (`single-within`).
 use native.Mathlib.Omega.{arith}
 use mathlib.Core.Path.{sym, _∙_}
 use borrow.Author.Needs.{needs}

@@ -1,3 +1,4 @@
+-- Both sides are the same record.
 use borrow.Author.Needs.{needs}
 use Rattle.rules.specs.Arrivals.{taking}
 use Rattle.berth.proofs.arrivals.taking.Statement.{statement}

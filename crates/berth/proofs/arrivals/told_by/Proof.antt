@@ -1,3 +1,4 @@
+-- What a send side was told is carried over field by field; nothing is stored.
 use native.Mathlib.Omega.{arith}
 use mathlib.Core.Path.{refl}
 use Rattle.rules.specs.Arrivals.{toldBy}

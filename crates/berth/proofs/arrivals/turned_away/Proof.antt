@@ -1,3 +1,4 @@
+-- An answer that stores nothing, with the word TooLong.
 use borrow.Author.Needs.{needs}
 use Rattle.rules.specs.Arrivals.{turnedAway}
 use Rattle.berth.proofs.arrivals.turned_away.Statement.{statement}

@@ -1,3 +1,4 @@
+-- No byte of the frame is stored, so any frame will do.
 use native.Mathlib.Omega.{arith}
 use mathlib.Core.Path.{refl}
 use Rattle.berth.specs.Reading.{heardOf}

@@ -1,3 +1,4 @@
+-- A short length of 0 picks the escape length.
 use borrow.Author.Tests.{eq-eqb, ne-eqb}
 use borrow.Author.Needs.{needs}
 use Rattle.rules.specs.Frames.{announced}

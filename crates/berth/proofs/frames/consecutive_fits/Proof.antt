@@ -1,3 +1,4 @@
+-- Each test is one of the rule's, in its order.
 use borrow.Author.Tests.{eq-eqb, lt-leb, ne-eqb, le-leb}
 use borrow.Author.Needs.{needs}
 use Rattle.rules.specs.Frames.{consecutiveFits}

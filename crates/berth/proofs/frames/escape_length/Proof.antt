@@ -1,3 +1,4 @@
+-- Four bytes of 8 bits make a number of 32.
 use borrow.Author.Needs.{needs}
 use Rattle.rules.specs.Frames.{escapeLength}
 use Rattle.berth.proofs.frames.escape_length.Statement.{statement}

@@ -1,3 +1,4 @@
+-- A count in a block has room for one more (`counts`).
 use borrow.Author.Tests.{eq-eqb, ne-eqb}
 use Rattle.rules.specs.Frames.{fillsBlock}
 use Rattle.berth.proofs.Fits.{counts}

@@ -1,3 +1,4 @@
+-- The data length comes first, then the length that the frame announces.
 use borrow.Author.Tests.{ne-eqb, eq-eqb}
 use borrow.Author.Needs.{needs}
 use Rattle.rules.specs.Frames.{firstFits}

@@ -1,3 +1,4 @@
+-- Each test is one of the rule's, in its order.
 use borrow.Author.Tests.{lt-leb, le-leb}
 use Rattle.rules.specs.Frames.{flowFits}
 use Rattle.berth.proofs.frames.flow_fits.Statement.{statement}

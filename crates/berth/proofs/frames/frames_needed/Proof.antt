@@ -1,3 +1,4 @@
+-- Each test is one of the rule's; the sum is rounded up as the rule does.
 use native.Mathlib.Omega.{arith}
 use borrow.Author.Tests.{le-ltb, le-leb, lt-ltb, lt-leb}
 use borrow.Author.Needs.{needs}

@@ -1,3 +1,4 @@
+-- Each test is one of the rule's, on the byte as a wider number.
 use borrow.Author.Tests.{le-leb, lt-ltb, lt-leb, le-ltb}
 use borrow.Author.Needs.{needs}
 use Rattle.rules.specs.Frames.{gapOf}

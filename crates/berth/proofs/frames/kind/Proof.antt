@@ -1,3 +1,4 @@
+-- The upper half of the first byte.
 use mathlib.Core.Path.{refl}
 use borrow.Author.Needs.{needs}
 use Rattle.rules.specs.Frames.{kind}

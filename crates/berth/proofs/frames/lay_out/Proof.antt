@@ -1,3 +1,4 @@
+-- Three copies: CC over the whole frame, the head, and the piece behind it (`laid-out`).
 use denote.Ref.{now}
 use borrow.Author.Needs.{needs}
 use Rattle.berth.proofs.Puts.{laid-out}

@@ -1,3 +1,4 @@
+-- The lower half of the first byte, below 16.
 use native.Mathlib.Omega.{arith}
 use mathlib.Core.Path.{refl}
 use borrow.Author.Needs.{needs}

@@ -1,3 +1,4 @@
+-- The lesser of the two.
 use native.Mathlib.Omega.{arith}
 use Rattle.rules.specs.Frames.{share}
 use Rattle.berth.proofs.frames.share.Statement.{statement}

@@ -1,3 +1,4 @@
+-- Twelve bits: the lower half of the first byte, and the second.
 use borrow.Author.Needs.{needs}
 use Rattle.rules.specs.Frames.{shortLength}
 use Rattle.berth.proofs.frames.short_length.Statement.{statement}

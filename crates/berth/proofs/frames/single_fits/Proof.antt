@@ -1,3 +1,4 @@
+-- Each test is one of the rule's, on the lower half as a wider number.
 use borrow.Author.Tests.{lt-leb, le-leb, eq-eqb, ne-eqb}
 use borrow.Author.Needs.{needs}
 use Rattle.rules.specs.Frames.{singleFits}

@@ -1,3 +1,4 @@
+-- A chain of tests, one for each of the rule's list.
 use mathlib.Core.Path.{sym, _∙_, refl}
 use borrow.Author.Tests.{ne-eqb, eq-eqb}
 use borrow.Author.Needs.{needs}

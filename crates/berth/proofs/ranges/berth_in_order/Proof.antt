@@ -1,3 +1,4 @@
+-- The receive side's test, then the send side's.
 use mathlib.Core.Path.{sym, _∙_}
 use mathlib.Core.Bool.{and-true}
 use borrow.Author.Needs.{needs}

@@ -1,3 +1,4 @@
+-- A chain of tests; a timer of 0 is below 1,000.
 use mathlib.Core.Path.{sym, _∙_}
 use mathlib.Core.Bool.{and-true}
 use borrow.Author.Tests.{eq-eqb, ne-eqb}

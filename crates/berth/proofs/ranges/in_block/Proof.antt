@@ -1,3 +1,4 @@
+-- A block size of 0 asks for a count of 0.
 use borrow.Author.Tests.{eq-eqb, ne-eqb}
 use Rattle.rules.specs.Ranges.{inBlock}
 use Rattle.berth.proofs.ranges.in_block.Statement.{statement}

@@ -1,3 +1,4 @@
+-- By cases on the receive side, each a chain of tests.
 use mathlib.Core.Bool.{and-true}
 use mathlib.Core.Path.{sym, _∙_}
 use borrow.Author.Tests.{lt-leb, ne-eqb, eq-eqb, le-leb}

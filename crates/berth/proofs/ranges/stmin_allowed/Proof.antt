@@ -1,3 +1,4 @@
+-- Each test is one of the rule's, in its order.
 use borrow.Author.Tests.{le-leb, lt-leb}
 use Rattle.rules.specs.Ranges.{stminAllowed}
 use Rattle.berth.proofs.ranges.stmin_allowed.Statement.{statement}

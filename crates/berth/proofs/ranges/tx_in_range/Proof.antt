@@ -1,3 +1,4 @@
+-- By cases on the send side, each a chain of tests.
 use mathlib.Core.Bool.{and-true}
 use borrow.Author.Tests.{lt-leb, le-leb}
 use borrow.Author.Needs.{needs}

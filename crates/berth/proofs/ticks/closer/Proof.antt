@@ -1,3 +1,4 @@
+-- The gap left is above 0, so it falls by one.
 use mathlib.Core.Path.{refl}
 use borrow.Author.Needs.{needs}
 use Rattle.rules.specs.Ticks.{closer}

@@ -1,3 +1,4 @@
+-- The code tests the timer before the tick, the rule after it (`running`, `ended`).
 use borrow.Author.Needs.{needs}
 use Rattle.rules.specs.Ticks.{ran}
 use Rattle.berth.proofs.Chains.{running, ended}

@@ -1,3 +1,4 @@
+-- The codes of the two sides.
 use borrow.Author.Needs.{needs}
 use Rattle.rules.specs.Calls.{codesOf}
 use Rattle.berth.proofs.ticks.codes_of.Statement.{statement}

@@ -1,3 +1,4 @@
+-- By cases on the receive side, each by its timer.
 use borrow.Author.Needs.{needs}
 use Rattle.rules.specs.Ticks.{rxTicked, ran}
 use Rattle.berth.proofs.Chains.{running, ended}

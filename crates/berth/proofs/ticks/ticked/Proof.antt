@@ -1,3 +1,4 @@
+-- The two sides after the tick; the last length stays.
 use borrow.Author.Needs.{needs}
 use Rattle.rules.specs.Ticks.{ticked}
 use Rattle.berth.proofs.ticks.ticked.Statement.{statement}

@@ -1,3 +1,4 @@
+-- By cases on the send side, each by its timer; a gap left gives no code.
 use borrow.Author.Tests.{ne-eqb, eq-eqb}
 use borrow.Author.Needs.{needs}
 use Rattle.rules.specs.Ticks.{txCode}

@@ -1,3 +1,4 @@
+-- The last frame, then a filled block, then the gap: the order of the rule.
 use mathlib.Core.Path.{sym, _∙_}
 use borrow.Author.Tests.{le-leb, lt-leb}
 use borrow.Author.Needs.{needs}

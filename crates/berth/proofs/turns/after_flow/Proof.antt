@@ -1,3 +1,4 @@
+-- By cases on the receive side.
 use borrow.Author.Needs.{needs}
 use Rattle.rules.specs.Turns.{afterFlow, newBlock}
 use Rattle.berth.proofs.turns.after_flow.Statement.{statement}

@@ -1,3 +1,4 @@
+-- By cases on the send side.
 use borrow.Author.Needs.{needs}
 use Rattle.rules.specs.Turns.{afterMessage}
 use Rattle.berth.proofs.turns.after_message.Statement.{statement}

@@ -1,3 +1,4 @@
+-- The length picks single due or first due.
 use borrow.Author.Tests.{le-leb, lt-leb}
 use Rattle.rules.specs.Turns.{beginsWith}
 use Rattle.berth.proofs.turns.begins_with.Statement.{statement}

@@ -1,3 +1,4 @@
+-- By cases on the send side.
 use borrow.Author.Needs.{needs}
 use Rattle.rules.specs.Turns.{busy}
 use Rattle.berth.proofs.turns.busy.Statement.{statement}

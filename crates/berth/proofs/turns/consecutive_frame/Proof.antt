@@ -1,3 +1,4 @@
+-- What the frame takes is still to go, so it lies within the area; the head is 2 and the SN.
 use Prim.Native.Nat.{_+_, _-_}
 use native.Mathlib.Omega.{arith}
 use mathlib.Core.Path.{ap, _∙_, _≡_}

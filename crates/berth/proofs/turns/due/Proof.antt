@@ -1,3 +1,4 @@
+-- Flow control owed, else a message's frame.
 use mathlib.Core.Path.{sym, _∙_}
 use borrow.Author.Needs.{needs}
 use Rattle.rules.specs.Turns.{due}

@@ -1,3 +1,4 @@
+-- Six bytes of the area behind a head of two.
 use native.Mathlib.Omega.{arith}
 use lib.ListN.{length-take}
 use borrow.Author.Needs.{needs}

@@ -1,3 +1,4 @@
+-- By cases on the receive side.
 use borrow.Author.Needs.{needs}
 use Rattle.rules.specs.Turns.{flowDue}
 use Rattle.berth.proofs.turns.flow_due.Statement.{statement}

@@ -1,3 +1,4 @@
+-- Only the two states that owe flow control are due; the head is the status, the piece block size and STmin.
 use mathlib.Core.Path.{sym, _∙_}
 use mathlib.Core.Bool.{true, false, true≢false}
 use borrow.Author.Needs.{needs}

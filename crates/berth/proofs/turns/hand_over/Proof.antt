@@ -1,3 +1,4 @@
+-- Flow control goes first; a berth that is due and owes none has a message's frame due.
 use mathlib.Core.Path.{sym, _∙_}
 use borrow.Author.Needs.{needs}
 use Rattle.rules.specs.Turns.{due, handOver}

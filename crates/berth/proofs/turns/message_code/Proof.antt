@@ -1,3 +1,4 @@
+-- By cases on the send side; a consecutive frame is the last if no more is to go than it takes.
 use borrow.Author.Tests.{le-leb, lt-leb}
 use borrow.Author.Needs.{needs}
 use Rattle.rules.specs.Turns.{messageCode}

@@ -1,3 +1,4 @@
+-- By cases on the send side.
 use borrow.Author.Needs.{needs}
 use Rattle.rules.specs.Turns.{messageDue}
 use Rattle.berth.proofs.turns.message_due.Statement.{statement}

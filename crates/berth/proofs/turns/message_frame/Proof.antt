@@ -1,3 +1,4 @@
+-- By cases on the send side; its range bounds what is read of the area.
 use native.Mathlib.Omega.{arith}
 use mathlib.Core.Path.{sym, _∙_}
 use mathlib.Core.Bool.{true, false, true≢false}

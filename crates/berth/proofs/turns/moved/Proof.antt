@@ -1,3 +1,4 @@
+-- What a frame takes is no more than what is to go (`share-most`), so the sum stays within the length.
 use native.Mathlib.Omega.{arith}
 use borrow.Author.Needs.{needs}
 use Rattle.rules.specs.Turns.{moved, toGo}

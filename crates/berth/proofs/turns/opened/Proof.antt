@@ -1,3 +1,4 @@
+-- Both sides are the same record.
 use borrow.Author.Needs.{needs}
 use Rattle.rules.specs.Turns.{opened}
 use Rattle.berth.proofs.turns.opened.Statement.{statement}

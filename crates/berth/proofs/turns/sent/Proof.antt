@@ -1,3 +1,4 @@
+-- The send side begins anew; the rest of the berth stays.
 use borrow.Author.Needs.{needs}
 use Rattle.rules.specs.Turns.{sent}
 use Rattle.berth.proofs.turns.sent.Statement.{statement}

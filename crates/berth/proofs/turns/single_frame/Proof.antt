@@ -1,3 +1,4 @@
+-- The message's bytes behind a head that says how many they are.
 use native.Mathlib.Omega.{arith}
 use mathlib.Core.Path.{_≡_}
 use lib.ListN.{length, take, length-take}

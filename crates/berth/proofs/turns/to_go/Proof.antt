@@ -1,3 +1,4 @@
+-- A difference that does not wrap, since the position is below the length.
 use mathlib.Core.Path.{refl}
 use borrow.Author.Needs.{needs}
 use Rattle.rules.specs.Turns.{toGo}

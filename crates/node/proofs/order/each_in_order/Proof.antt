@@ -1,3 +1,4 @@
+-- The invariant: the test of every berth from i on says what the test of every berth says.
 use Prim.Native.Nat.{_≤_, _-_}
 use native.Mathlib.Omega.{arith}
 use mathlib.Core.Path.{sym, _∙_, refl, _≡_}

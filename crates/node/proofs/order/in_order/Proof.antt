@@ -1,3 +1,4 @@
+-- A chain of tests; that the array has ten berths is known of its type.
 use mathlib.Core.Path.{sym, _∙_}
 use lib.ListN.{length-map}
 use borrow.Author.Tests.{eq-eqb, le-ltb, lt-ltb}

@@ -1,3 +1,5 @@
+-- The invariant: no berth probed so far is due. So the count is a lower bound of the distances, and where the search stops an
+-- upper one.
 use Prim.Native.Nat.{ℕ, _≤_, _<_, _-_}
 use native.Mathlib.Nat.{le-antisymm}
 use native.Mathlib.Omega.{arith}
