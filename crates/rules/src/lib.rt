@@ -3,6 +3,107 @@
 ghost use mathlib.Core.Path.{_≡_};
 ghost use Rattle.rules.specs.Frames.{firstSn, nextSn};
 
+// The numbers of paper 01 that the code uses, under the names of specs/Numbers.
+pub const BERTH_COUNT: u8 = 10;
+
+pub const LEAST_AREA: u32 = 8;
+
+pub const LARGEST_AREA: u32 = 4095;
+
+pub const LARGEST_BLOCK: u32 = 255;
+
+pub const MOST_MILLIS: u32 = 0x7F;
+
+pub const LEAST_FRACTION: u32 = 0xF1;
+
+pub const MOST_FRACTION: u32 = 0xF9;
+
+pub const FROM_BERTH: u32 = 0x640;
+
+pub const TO_BERTH: u32 = 0x660;
+
+pub const TIMEOUT: u16 = 1000;
+
+pub const SN_COUNT: u8 = 16;
+
+pub const LONGEST_GAP: u8 = 127;
+
+pub const SINGLE_KIND: u8 = 0;
+
+pub const FIRST_KIND: u8 = 1;
+
+pub const CONSECUTIVE_KIND: u8 = 2;
+
+pub const FLOW_KIND: u8 = 3;
+
+pub const GO_STATUS: u8 = 0;
+
+pub const WAIT_STATUS: u8 = 1;
+
+pub const OVERFLOW_STATUS: u8 = 2;
+
+pub const FRAME_LENGTH: usize = 8;
+
+pub const FILLER: u8 = 0xCC;
+
+pub const LEAST_FLOW: usize = 3;
+
+pub const SINGLE_MOST: u32 = 7;
+
+pub const FIRST_BYTES: u32 = 6;
+
+pub const CONSECUTIVE_MOST: u32 = 7;
+
+pub const LEAST_LONG: u32 = 8;
+
+pub const SHORT_MOST: u32 = 4095;
+
+pub const NO_DATA: u8 = 1;
+
+pub const OTHER_KIND: u8 = 2;
+
+pub const WRONG_LENGTH: u8 = 3;
+
+pub const NOT_AWAITED: u8 = 4;
+
+pub const N_OK: u8 = 1;
+
+pub const N_TIMEOUT_A: u8 = 2;
+
+pub const N_TIMEOUT_BS: u8 = 3;
+
+pub const N_TIMEOUT_CR: u8 = 4;
+
+pub const N_WRONG_SN: u8 = 5;
+
+pub const N_INVALID_FS: u8 = 6;
+
+pub const N_UNEXP_PDU: u8 = 7;
+
+pub const N_BUFFER_OVFLW: u8 = 9;
+
+pub const OUT_OF_ORDER: u8 = 1;
+
+pub const WRONG_STORE: u8 = 2;
+
+pub const WRONG_IDENTIFIER: u8 = 3;
+
+pub const TOO_MANY_BYTES: u8 = 4;
+
+pub const NO_SUCH_BERTH: u8 = 5;
+
+pub const EMPTY_MESSAGE: u8 = 6;
+
+pub const MESSAGE_TOO_LONG: u8 = 7;
+
+pub const ALREADY_SENDING: u8 = 8;
+
+pub const SHORT_BUFFER: u8 = 9;
+
+pub const BAD_SETTING: u8 = 10;
+
+pub const OUTSIDE_AREA: u8 = 11;
+
 // What set-up takes: the area size A, the block size BS and the STmin byte.
 pub struct Settings {
     pub area: u32,

@@ -1,0 +1,4 @@
+-- Facts that several proofs of this crate cite.
+pub mod Chains
+pub mod Fits
+pub mod Puts

@@ -1,0 +1,55 @@
+-- By cases on the send side.
+use borrow.Author.Needs.{needs}
+use Rattle.rules.specs.Turns.{busy}
+use Rattle.berth.proofs.turns.busy.Statement.{statement}
+use Rattle.berth.proofs.turns.busy.Tie as tie
+
+enum-told : tie.Need-enum-told
+enum-told c = search needs
+
+enum-told-2 : tie.Need-enum-told-2
+enum-told-2 c = search needs
+
+enum-told-3 : tie.Need-enum-told-3
+enum-told-3 c = search needs
+
+enum-told-4 : tie.Need-enum-told-4
+enum-told-4 c = search needs
+
+enum-told-5 : tie.Need-enum-told-5
+enum-told-5 c = search needs
+
+returns : tie.Need-returns
+unfolding busy
+returns c = simp (c .enum-told .given .1)
+
+returns-2 : tie.Need-returns-2
+unfolding busy
+returns-2 c = simp (c .enum-told2 .given .1)
+
+returns-3 : tie.Need-returns-3
+unfolding busy
+returns-3 c = simp (c .enum-told3 .given .1)
+
+returns-4 : tie.Need-returns-4
+unfolding busy
+returns-4 c = simp (c .enum-told4 .given .1)
+
+returns-5 : tie.Need-returns-5
+unfolding busy
+returns-5 c = simp (c .enum-told5 .given .1)
+
+pub busy-spec : {M : Type 1} → statement M
+busy-spec =
+    tie.close
+    (tie.spec
+    enum-told
+    enum-told-2
+    enum-told-3
+    enum-told-4
+    enum-told-5
+    returns
+    returns-2
+    returns-3
+    returns-4
+    returns-5)

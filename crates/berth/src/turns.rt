@@ -1,0 +1,301 @@
+// Paper 01, "Ticks and turns", at one berth: whether a frame is due, what is handed over, how a message begins to be sent, and the
+// length of the message now being sent.
+ghost use mathlib.Core.Path.{_≡_};
+ghost use mathlib.Core.Bool.{true};
+ghost use mathlib.Core.List.{[]};
+ghost use Prim.Native.Nat.{_+_, _≤_, _<_};
+ghost use lib.ListN.{length, take, drop};
+ghost use Rattle.rules.specs.Numbers.{leastArea, largestArea, snCount, frameLength, singleMost, firstBytes, consecutiveMost};
+ghost use Rattle.rules.specs.Frames.{singleFrame, firstFrame, consecutiveFrame, share};
+ghost use Rattle.rules.specs.Ranges.{SendingRange, RxRange, TxRange, BerthRange};
+ghost use Rattle.rules.specs.Turns.{flowDue, messageDue, due, flowFrame, newBlock, afterFlow, toGo, messageFrame, messageCode, opened, moved, afterConsecutive, afterMessage, handOver, beginsWith, sent, lengthSending, busy};
+ghost use Rattle.berth.specs.Reading.{handedOf};
+use crate::frames;
+use rules::Berth;
+use rules::Rx;
+use rules::Sending;
+use rules::Settings;
+use rules::Sn;
+use rules::Taking;
+use rules::Tx;
+
+fn flow_due(rx: Rx) -> bool
+    ensures { λ r. ⌜ r ≡ flowDue rx ⌝ }
+{
+    match rx {
+        Rx::Idle => false,
+        Rx::OwesOverflow(_) => true,
+        Rx::OwesGo(_, _) => true,
+        Rx::Awaits(_, _) => false,
+    }
+}
+
+fn message_due(tx: Tx) -> bool
+    ensures { λ r. ⌜ r ≡ messageDue tx ⌝ }
+{
+    match tx {
+        Tx::Idle => false,
+        Tx::SingleDue(_, _) => true,
+        Tx::FirstDue(_, _) => true,
+        Tx::AwaitsFlow(_, _) => false,
+        Tx::Consecutive(o, _) => o.left == 0,
+    }
+}
+
+pub fn due(berth: Berth) -> bool
+    ensures { λ r. ⌜ r ≡ due berth ⌝ }
+{
+    let rx = berth.rx;
+    let tx = berth.tx;
+    if flow_due(rx) {
+        return true;
+    }
+    message_due(tx)
+}
+
+// Flow control that is owed, into the frame.
+fn flow_frame(settings: Settings, rx: Rx, frame: &mut [u8])
+    requires { ⌜ (flowDue rx ≡ true) × (length (now frame) ≡ frameLength) ⌝ }
+    ensures { λ _. ⌜ now (frame .exit) ≡ flowFrame settings rx ⌝ }
+{
+    match rx {
+        Rx::Idle => {}
+        Rx::OwesOverflow(_) => {
+            let head = [rules::FLOW_KIND * 16 + rules::OVERFLOW_STATUS];
+            let piece = [0u8, 0];
+            frames::lay_out(frame, &head, &piece);
+        }
+        Rx::OwesGo(_, _) => {
+            let head = [rules::FLOW_KIND * 16 + rules::GO_STATUS];
+            let piece = [settings.block, settings.stmin];
+            frames::lay_out(frame, &head, &piece);
+        }
+        Rx::Awaits(_, _) => {}
+    }
+}
+
+fn after_flow(rx: Rx) -> Rx
+    ensures { λ r. ⌜ r ≡ afterFlow rx ⌝ }
+{
+    match rx {
+        Rx::Idle => rx,
+        Rx::OwesOverflow(_) => Rx::Idle,
+        Rx::OwesGo(p, _) => {
+            let mut q = p;
+            q.taken = 0;
+            Rx::Awaits(q, 0)
+        }
+        Rx::Awaits(_, _) => rx,
+    }
+}
+
+fn to_go(o: Sending) -> u32
+    requires { ⌜ o .position < o .length ⌝ }
+    ensures { λ r. ⌜ r ≡ toGo o ⌝ }
+{
+    o.length - o.position
+}
+
+fn single_frame(n: u32, area: &[u8], frame: &mut [u8])
+    requires { ⌜ (n ≤ singleMost) × (n ≤ length (now area)) × (length (now frame) ≡ frameLength) ⌝ }
+    ensures { λ _. ⌜ now (frame .exit) ≡ singleFrame (take n (now (area .entry))) ⌝ }
+{
+    let head = [rules::SINGLE_KIND * 16 + n as u8];
+    let e = n as usize;
+    frames::lay_out(frame, &head, &area[..e]);
+}
+
+fn first_frame(n: u32, area: &[u8], frame: &mut [u8])
+    requires { ⌜ (n ≤ largestArea) × (firstBytes ≤ length (now area)) × (length (now frame) ≡ frameLength) ⌝ }
+    ensures { λ _. ⌜ now (frame .exit) ≡ firstFrame n (take firstBytes (now (area .entry))) ⌝ }
+{
+    let head = [rules::FIRST_KIND * 16 + (n / 256) as u8, (n % 256) as u8];
+    let e = rules::FIRST_BYTES as usize;
+    frames::lay_out(frame, &head, &area[..e]);
+}
+
+fn consecutive_frame(o: Sending, area: &[u8], frame: &mut [u8])
+    requires { ⌜ (o .position < o .length) × (o .length ≤ length (now area)) × (o .sn .0 < snCount) × (length (now frame) ≡ frameLength) ⌝ }
+    ensures { λ _. ⌜ now (frame .exit) ≡ consecutiveFrame (o .sn) (take (share consecutiveMost (toGo o)) (drop (o .position) (now (area .entry)))) ⌝ }
+{
+    let sn = o.sn.0;
+    let head = [rules::CONSECUTIVE_KIND * 16 + sn];
+    let lo = o.position as usize;
+    let hi = lo + frames::share(to_go(o)) as usize;
+    frames::lay_out(frame, &head, &area[lo..hi]);
+}
+
+// A message's frame that is due, into the frame.
+fn message_frame(settings: Settings, tx: Tx, area: &[u8], frame: &mut [u8])
+    requires { ⌜ (messageDue tx ≡ true) × TxRange settings tx × (settings .area ≤ largestArea) × (leastArea ≤ settings .area) × (length (now area) ≡ settings .area) × (length (now frame) ≡ frameLength) ⌝ }
+    ensures { λ _. ⌜ now (frame .exit) ≡ messageFrame tx (now (area .entry)) ⌝ }
+{
+    match tx {
+        Tx::Idle => {}
+        Tx::SingleDue(n, _) => single_frame(n, area, frame),
+        Tx::FirstDue(n, _) => first_frame(n, area, frame),
+        Tx::AwaitsFlow(_, _) => {}
+        Tx::Consecutive(o, _) => consecutive_frame(o, area, frame),
+    }
+}
+
+fn message_code(settings: Settings, tx: Tx) -> u8
+    requires { ⌜ TxRange settings tx ⌝ }
+    ensures { λ r. ⌜ r ≡ messageCode tx ⌝ }
+{
+    match tx {
+        Tx::Idle => 0,
+        Tx::SingleDue(_, _) => rules::N_OK,
+        Tx::FirstDue(_, _) => 0,
+        Tx::AwaitsFlow(_, _) => 0,
+        Tx::Consecutive(o, _) => {
+            if to_go(o) <= rules::CONSECUTIVE_MOST {
+                return rules::N_OK;
+            }
+            0
+        }
+    }
+}
+
+fn opened(n: u32) -> Sending
+    ensures { λ r. ⌜ r ≡ opened n ⌝ }
+{
+    Sending {
+        length: n,
+        position: rules::FIRST_BYTES,
+        sn: Sn::first(),
+        block: 0,
+        sent: 0,
+        gap: 0,
+        left: 0,
+    }
+}
+
+fn moved(o: Sending, sent: u8, left: u8) -> Sending
+    requires { ⌜ o .position < o .length ⌝ }
+    ensures { λ r. ⌜ r ≡ moved o sent left ⌝ }
+{
+    Sending {
+        length: o.length,
+        position: o.position + frames::share(to_go(o)),
+        sn: o.sn.next(),
+        block: o.block,
+        sent: sent,
+        gap: o.gap,
+        left: left,
+    }
+}
+
+fn after_consecutive(settings: Settings, o: Sending) -> Tx
+    requires { ⌜ SendingRange settings o ⌝ }
+    ensures { λ r. ⌜ r ≡ afterConsecutive o ⌝ }
+{
+    if to_go(o) <= rules::CONSECUTIVE_MOST {
+        return Tx::Idle;
+    }
+    if frames::fills_block(o.block, o.sent) {
+        let q = moved(o, 0, 0);
+        return Tx::AwaitsFlow(q, 0);
+    }
+    let q = moved(o, frames::counted(o.block, o.sent), o.gap);
+    Tx::Consecutive(q, 0)
+}
+
+fn after_message(settings: Settings, tx: Tx) -> Tx
+    requires { ⌜ TxRange settings tx ⌝ }
+    ensures { λ r. ⌜ r ≡ afterMessage tx ⌝ }
+{
+    match tx {
+        Tx::Idle => tx,
+        Tx::SingleDue(_, _) => Tx::Idle,
+        Tx::FirstDue(n, _) => {
+            let q = opened(n);
+            Tx::AwaitsFlow(q, 0)
+        }
+        Tx::AwaitsFlow(_, _) => tx,
+        Tx::Consecutive(o, _) => after_consecutive(settings, o),
+    }
+}
+
+// What a berth that has a frame due hands over; the frame stands in the part that was lent.
+pub struct Handed {
+    pub berth: Berth,
+    pub code: u8,
+}
+
+pub fn hand_over(settings: Settings, berth: Berth, area: &[u8], frame: &mut [u8]) -> Handed
+    requires { ⌜ (due berth ≡ true) × BerthRange settings berth × (leastArea ≤ settings .area) × (settings .area ≤ largestArea) × (length (now area) ≡ settings .area) × (length (now frame) ≡ frameLength) ⌝ }
+    ensures { λ r. ⌜ handedOf r (now (frame .exit)) ≡ handOver settings berth (now (area .entry)) ⌝ }
+{
+    let rx = berth.rx;
+    let tx = berth.tx;
+    if flow_due(rx) {
+        flow_frame(settings, rx, frame);
+        let after = Berth {
+            rx: after_flow(rx),
+            last: berth.last,
+            tx: tx,
+        };
+        return Handed {
+            berth: after,
+            code: 0,
+        };
+    }
+    message_frame(settings, tx, area, frame);
+    let after = Berth {
+        rx: rx,
+        last: berth.last,
+        tx: after_message(settings, tx),
+    };
+    Handed {
+        berth: after,
+        code: message_code(settings, tx),
+    }
+}
+
+fn begins_with(n: u32) -> Tx
+    ensures { λ r. ⌜ r ≡ beginsWith n ⌝ }
+{
+    if n <= rules::SINGLE_MOST {
+        return Tx::SingleDue(n, 0);
+    }
+    Tx::FirstDue(n, 0)
+}
+
+// A message of n bytes begins to be sent.
+pub fn sent(berth: Berth, n: u32) -> Berth
+    ensures { λ r. ⌜ r ≡ sent berth n ⌝ }
+{
+    let rx = berth.rx;
+    let tx = begins_with(n);
+    Berth {
+        rx: rx,
+        last: berth.last,
+        tx: tx,
+    }
+}
+
+// The length of the message now being sent, 0 for none.
+pub fn length_sending(tx: Tx) -> u32
+    ensures { λ r. ⌜ r ≡ lengthSending tx ⌝ }
+{
+    match tx {
+        Tx::Idle => 0,
+        Tx::SingleDue(n, _) => n,
+        Tx::FirstDue(n, _) => n,
+        Tx::AwaitsFlow(o, _) => o.length,
+        Tx::Consecutive(o, _) => o.length,
+    }
+}
+
+pub fn busy(tx: Tx) -> bool
+    ensures { λ r. ⌜ r ≡ busy tx ⌝ }
+{
+    match tx {
+        Tx::Idle => false,
+        Tx::SingleDue(_, _) => true,
+        Tx::FirstDue(_, _) => true,
+        Tx::AwaitsFlow(_, _) => true,
+        Tx::Consecutive(_, _) => true,
+    }
+}

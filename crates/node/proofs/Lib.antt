@@ -1,0 +1,10 @@
+-- Facts that several proofs of this crate cite, and what the promises determine.
+pub mod Lists
+pub mod InRange
+pub mod Distances
+pub mod Outcomes
+pub mod Parts
+pub mod Shows
+pub mod Papers
+pub mod Determined
+pub mod PoorNodes

@@ -1,0 +1,38 @@
+-- Settings that are allowed fit their bytes; the fresh node is the rule's.
+use native.Mathlib.Omega.{arith}
+use mathlib.Core.Logic.{⊎-elim}
+use mathlib.Core.Path.{sym, refl, _∙_}
+use borrow.Author.Needs.{needs}
+use Rattle.rules.proofs.Cases.{yes-of}
+use Rattle.rules.specs.Refusals.{setUpRefusal}
+use Rattle.rules.specs.Answers.{setUpSays}
+use Rattle.rules.specs.Stores.{setUpNode}
+use Rattle.rules.specs.Calls.{setUpOutcome, refusedOutcome}
+use Rattle.node.proofs.Outcomes.{unmet, meets, all-met, agrees}
+use Rattle.node.proofs.InRange.{settings-range}
+use Rattle.node.proofs.set_up.Statement.{statement}
+use Rattle.node.proofs.set_up.Tie as tie
+
+settings-allowed-requires : tie.Need-settings-allowed-requires
+settings-allowed-requires c κs = search needs
+
+cast-t10 : tie.Need-cast-t10
+cast-t10 c = let range = settings-range (c .before .before .args .area) (c .before .before .args .block) (c .before .before .args .stmin) (yes-of (sym (c .before .settings-allowed .ensures) ∙ c .if1 .taken)) in record { fits = omega (arith, range .block-most) }
+
+cast-t11 : tie.Need-cast-t11
+cast-t11 c = let range = settings-range (c .before .before .args .area) (c .before .before .args .block) (c .before .before .args .stmin) (yes-of (sym (c .before .settings-allowed .ensures) ∙ c .if1 .taken)) in record { fits = ⊎-elim (λ h. omega arith) (λ h. omega arith) (range .stmin-allowed) }
+
+sub-t10 : tie.Need-sub-t10
+sub-t10 c = search needs
+
+returns : tie.Need-returns
+unfolding setUpOutcome setUpRefusal setUpSays setUpNode
+returns c = λ incoming outgoing. rw (meets _ _ (sym (c .before .settings-allowed .ensures) ∙ c .if1 .taken) all-met) (agrees refl)
+
+returns-2 : tie.Need-returns-2
+unfolding setUpOutcome setUpRefusal setUpSays refusedOutcome
+returns-2 c = λ incoming outgoing. rw (unmet _ _ (sym (c .before .settings-allowed .ensures) ∙ c .if1 .left)) (agrees refl)
+
+pub set-up-spec : {M : Type 1} → statement M
+set-up-spec =
+    tie.close (tie.spec settings-allowed-requires cast-t10 cast-t11 sub-t10 returns returns-2)

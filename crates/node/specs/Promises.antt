@@ -1,0 +1,82 @@
+-- The promise of each call, one predicate each over what the call is given, its answer, and the node, stores and buffer after it:
+-- what the code leaves is the outcome of the rules at that call. Answers are compared as paper 01 numbers them.
+use Prim.Native.Nat.{ℕ, _+_, _*_}
+use mathlib.Core.Path.{_≡_}
+use mathlib.Core.Bool.{Bool}
+use mathlib.Core.List.{List, []}
+use lib.ListN.{replicate}
+use Rattle.rules.specs.Numbers.{berthCount}
+use Rattle.rules.specs.Tests.{pick, unless}
+use Rattle.rules.specs.Frames.{framesNeeded}
+use Rattle.rules.specs.Stores.{Held}
+use Rattle.rules.specs.Answers.{Answer, shown, setUpSays, frameSays, tickSays, sendSays, turnSays, paperOf}
+use Rattle.rules.specs.Refusals.{frame, tick, send, turn, show}
+use Rattle.rules.specs.Calls.{Outcome, outcome, setUpOutcome, showable}
+use Rattle.rules.specs.declared.Node.{Node}
+use Rattle.rules.specs.declared.Codes.{Codes}
+use Rattle.rules.specs.declared.SetUpAnswer.{SetUpAnswer}
+use Rattle.rules.specs.declared.FrameAnswer.{FrameAnswer}
+use Rattle.rules.specs.declared.TickAnswer.{TickAnswer}
+use Rattle.rules.specs.declared.SendAnswer.{SendAnswer}
+use Rattle.rules.specs.declared.TurnAnswer.{TurnAnswer}
+
+-- ---- what a call is lent, what it leaves, and when two outcomes are the same
+
+abbrev pub lent : Node → List ℕ → List ℕ → Held
+lent n incoming outgoing = record { node = n; incoming = incoming; outgoing = outgoing }
+
+abbrev pub left : Answer → Held → List ℕ → Outcome
+left a h buffer = record { answer = a; held = h; buffer = buffer }
+
+pub record Agrees (o p : Outcome) : Type 0 where
+  pub answer : paperOf (o .answer) ≡ paperOf (p .answer)
+  pub held : o .held ≡ p .held
+  pub buffer : o .buffer ≡ p .buffer
+
+-- ---- the promises. A store that a call is not given is any store, and it stays; a call without a buffer has the empty one
+
+abbrev pub SetUpPromise : Node → ℕ → ℕ → ℕ → SetUpAnswer → Node → Type 0
+SetUpPromise n area block stmin a n′ =
+    (incoming outgoing : List ℕ) →
+    Agrees (left (setUpSays a) (lent n′ incoming outgoing) []) (setUpOutcome (lent n incoming outgoing) area block stmin)
+
+abbrev pub FramePromise : Node → List ℕ → ℕ → List ℕ → FrameAnswer → Node → List ℕ → Type 0
+FramePromise n incoming id d a n′ incoming′ =
+    (outgoing : List ℕ) →
+    Agrees (left (frameSays a) (lent n′ incoming′ outgoing) []) (outcome (lent n incoming outgoing) (frame id d))
+
+-- beside a refused tick stand ten pairs of zeros
+abbrev pub noCodes : List Codes
+noCodes = replicate berthCount (record { receive = 0; send = 0 })
+
+pub record TickPromise (n : Node) (a : TickAnswer) (n′ : Node) : Type 0 where
+  pub agrees :
+      (incoming outgoing : List ℕ) →
+      Agrees (left (tickSays a) (lent n′ incoming outgoing) []) (outcome (lent n incoming outgoing) tick)
+  pub beside : unless (a .refused) (λ number. a .codes ≡ noCodes) (Unit {0})
+
+abbrev pub SendPromise : Node → List ℕ → ℕ → List ℕ → SendAnswer → Node → List ℕ → Type 0
+SendPromise n outgoing k m a n′ outgoing′ =
+    (incoming : List ℕ) →
+    Agrees (left (sendSays a) (lent n′ incoming outgoing′) []) (outcome (lent n incoming outgoing) (send k m))
+
+abbrev pub TurnPromise : Node → List ℕ → List ℕ → TurnAnswer → Node → List ℕ → Type 0
+TurnPromise n outgoing buffer a n′ buffer′ =
+    (incoming : List ℕ) →
+    Agrees (left (turnSays a buffer′) (lent n′ incoming outgoing) buffer′) (outcome (lent n incoming outgoing) (turn buffer))
+
+-- where a part starts: a block of memory, and the place in it. Berth k's area in the chosen store, or the front of the incoming
+-- store where nothing can be shown
+abbrev pub startsAt : Held → ℕ → Bool → ℕ × ℕ → ℕ × ℕ → ℕ × ℕ
+startsAt h k choice incoming outgoing =
+    pick (showable h k)
+    (pick choice outgoing incoming .0, k * h .node .settings .area + pick choice outgoing incoming .1)
+    incoming
+
+-- show is lent everything to look at only, so nothing else changes
+pub record ShowPromise (n : Node) (incoming outgoing : List ℕ) (k : ℕ) (choice : Bool) (part : List ℕ) (in-at out-at part-at : ℕ × ℕ) : Type 0 where
+  pub agrees : Agrees (left (shown part) (lent n incoming outgoing) []) (outcome (lent n incoming outgoing) (show k choice))
+  pub starts : part-at ≡ startsAt (lent n incoming outgoing) k choice in-at out-at
+
+abbrev pub NeededPromise : ℕ → ℕ → Type 0
+NeededPromise n r = r ≡ framesNeeded n

@@ -1,0 +1,333 @@
+// The node of ten berths by value: the calls of paper 01. Stores and buffer are lent; the node goes in and comes back beside the
+// answer. Whatever a call is given it answers: bad input is refused, by the numbers of the paper and in their order.
+mod order;
+mod round;
+
+ghost use Rattle.node.specs.Promises.{SetUpPromise, FramePromise, TickPromise, SendPromise, TurnPromise, ShowPromise, NeededPromise};
+ghost use mathlib.Core.Path.{_≡_};
+ghost use mathlib.Core.Bool.{true};
+ghost use Prim.Native.Nat.{_+_, _*_, _≤_, _<_};
+ghost use lib.ListN.{length};
+ghost use Rattle.rules.specs.Numbers.{berthCount, fromBerth, frameLength};
+ghost use Rattle.rules.specs.Ranges.{inOrder};
+ghost use Rattle.rules.specs.Stores.{rightStore, passedOver};
+use rules::Berth;
+use rules::Codes;
+use rules::FrameAnswer;
+use rules::Node;
+use rules::Rx;
+use rules::SendAnswer;
+use rules::SetUpAnswer;
+use rules::Settings;
+use rules::TickAnswer;
+use rules::TurnAnswer;
+use rules::Tx;
+
+pub struct SetUpOut {
+    pub answer: SetUpAnswer,
+    pub node: Node,
+}
+
+pub struct FrameOut {
+    pub answer: FrameAnswer,
+    pub node: Node,
+}
+
+pub struct TickOut {
+    pub answer: TickAnswer,
+    pub node: Node,
+}
+
+pub struct SendOut {
+    pub answer: SendAnswer,
+    pub node: Node,
+}
+
+pub struct TurnOut {
+    pub answer: TurnAnswer,
+    pub node: Node,
+}
+
+// Fills the node whatever it held before; refused, it gives the node back as it was.
+pub fn set_up(node: Node, area: u32, block: u32, stmin: u32) -> SetUpOut
+    ensures { λ r. ⌜ SetUpPromise node area block stmin (r .answer) (r .node) ⌝ }
+{
+    if berth::ranges::settings_allowed(area, block, stmin) {
+        let settings = Settings {
+            area: area,
+            block: block as u8,
+            stmin: stmin as u8,
+        };
+        let fresh = Berth {
+            rx: Rx::Idle,
+            last: 0,
+            tx: Tx::Idle,
+        };
+        let berths = [fresh; 10];
+        let n = Node {
+            settings: settings,
+            served: rules::BERTH_COUNT - 1,
+            berths: berths,
+        };
+        return SetUpOut {
+            answer: SetUpAnswer::Ready,
+            node: n,
+        };
+    }
+    SetUpOut {
+        answer: SetUpAnswer::Refused(rules::BAD_SETTING),
+        node: node,
+    }
+}
+
+fn frame_refused(number: u8, node: Node) -> FrameOut
+    ensures { λ r. ⌜ (r .answer ≡ FrameAnswer.Refused number) × (r .node ≡ node) ⌝ }
+{
+    FrameOut {
+        answer: FrameAnswer::Refused(number),
+        node: node,
+    }
+}
+
+// A frame that no refusal below 11 holds back. Refusal 11 is tested before anything is stored.
+fn heard(node: Node, incoming: &mut [u8], identifier: u32, payload: &[u8]) -> FrameOut
+    requires { ⌜ (inOrder node ≡ true) × (rightStore node (now incoming) ≡ true) × (fromBerth ≤ identifier) × (identifier < fromBerth + berthCount) × (length (now payload) ≤ frameLength) ⌝ }
+    ensures { λ r. ⌜ FramePromise node (now (incoming .entry)) identifier (now (payload .entry)) (r .answer) (r .node) (now (incoming .exit)) ⌝ }
+{
+    let settings = node.settings;
+    let k = identifier - rules::FROM_BERTH;
+    let at = k as usize;
+    let one = node.berths[at];
+    let came = berth::arrivals::frame_came(settings, one, payload);
+    if berth::areas::inside(settings.area, came.place, came.count) {
+        let a = settings.area as usize;
+        let lo = at * a;
+        let hi = lo + a;
+        berth::areas::keep(
+            &mut incoming[lo..hi],
+            came.place,
+            payload,
+            came.from,
+            came.count,
+        );
+        let after = came.berth;
+        let word = came.word;
+        let mut n = node;
+        n.berths[at] = after;
+        return FrameOut {
+            answer: FrameAnswer::Heard(k as u8, came.old, word),
+            node: n,
+        };
+    }
+    frame_refused(rules::OUTSIDE_AREA, node)
+}
+
+pub fn frame(node: Node, incoming: &mut [u8], identifier: u32, payload: &[u8]) -> FrameOut
+    ensures { λ r. ⌜ FramePromise node (now (incoming .entry)) identifier (now (payload .entry)) (r .answer) (r .node) (now (incoming .exit)) ⌝ }
+{
+    if order::in_order(node) {
+        if incoming.len() != order::store_length(node) {
+            return frame_refused(rules::WRONG_STORE, node);
+        }
+        if identifier < rules::FROM_BERTH {
+            return frame_refused(rules::WRONG_IDENTIFIER, node);
+        }
+        if rules::FROM_BERTH + rules::BERTH_COUNT as u32 <= identifier {
+            return frame_refused(rules::WRONG_IDENTIFIER, node);
+        }
+        if rules::FRAME_LENGTH < payload.len() {
+            return frame_refused(rules::TOO_MANY_BYTES, node);
+        }
+        return heard(node, &mut incoming[..], identifier, payload);
+    }
+    frame_refused(rules::OUT_OF_ORDER, node)
+}
+
+// A tick of each berth of a node in order.
+fn ticked(node: Node) -> TickOut
+    requires { ⌜ inOrder node ≡ true ⌝ }
+    ensures { λ r. ⌜ TickPromise node (r .answer) (r .node) ⌝ }
+{
+    let mut n = node;
+    let mut codes = [Codes {
+        receive: 0,
+        send: 0,
+    }; 10];
+    let mut i: usize = 0;
+    while i < 10 {
+        let one = node.berths[i];
+        codes[i] = berth::ticks::codes_of(one);
+        n.berths[i] = berth::ticks::ticked(one);
+        i += 1;
+    }
+    let answer = TickAnswer {
+        refused: 0,
+        codes: codes,
+    };
+    TickOut {
+        answer: answer,
+        node: n,
+    }
+}
+
+pub fn tick(node: Node) -> TickOut
+    ensures { λ r. ⌜ TickPromise node (r .answer) (r .node) ⌝ }
+{
+    if order::in_order(node) {
+        return ticked(node);
+    }
+    let codes = [Codes {
+        receive: 0,
+        send: 0,
+    }; 10];
+    let answer = TickAnswer {
+        refused: rules::OUT_OF_ORDER,
+        codes: codes,
+    };
+    TickOut {
+        answer: answer,
+        node: node,
+    }
+}
+
+fn send_refused(number: u8, node: Node) -> SendOut
+    ensures { λ r. ⌜ (r .answer ≡ SendAnswer.Refused number) × (r .node ≡ node) ⌝ }
+{
+    SendOut {
+        answer: SendAnswer::Refused(number),
+        node: node,
+    }
+}
+
+pub fn send(node: Node, outgoing: &mut [u8], berth: u32, message: &[u8]) -> SendOut
+    ensures { λ r. ⌜ SendPromise node (now (outgoing .entry)) berth (now (message .entry)) (r .answer) (r .node) (now (outgoing .exit)) ⌝ }
+{
+    if order::in_order(node) {
+        if outgoing.len() != order::store_length(node) {
+            return send_refused(rules::WRONG_STORE, node);
+        }
+        if rules::BERTH_COUNT as u32 <= berth {
+            return send_refused(rules::NO_SUCH_BERTH, node);
+        }
+        if message.len() == 0 {
+            return send_refused(rules::EMPTY_MESSAGE, node);
+        }
+        let a = node.settings.area as usize;
+        if a < message.len() {
+            return send_refused(rules::MESSAGE_TOO_LONG, node);
+        }
+        let at = berth as usize;
+        let one = node.berths[at];
+        let tx = one.tx;
+        if berth::turns::busy(tx) {
+            return send_refused(rules::ALREADY_SENDING, node);
+        }
+        let lo = at * a;
+        let hi = lo + a;
+        bytes::copy(message, &mut outgoing[lo..hi]);
+        let mut n = node;
+        n.berths[at] = berth::turns::sent(one, message.len() as u32);
+        return SendOut {
+            answer: SendAnswer::Sent(berth as u8),
+            node: n,
+        };
+    }
+    send_refused(rules::OUT_OF_ORDER, node)
+}
+
+fn turn_answered(answer: TurnAnswer, node: Node) -> TurnOut
+    ensures { λ r. ⌜ (r .answer ≡ answer) × (r .node ≡ node) ⌝ }
+{
+    TurnOut {
+        answer: answer,
+        node: node,
+    }
+}
+
+// The berth that is passed to after so many hands over its frame.
+fn hand_over_at(node: Node, outgoing: &[u8], buffer: &mut [u8], passed: u8) -> TurnOut
+    requires { ⌜ (inOrder node ≡ true) × (rightStore node (now outgoing) ≡ true) × (frameLength ≤ length (now buffer)) × (passed ≡ passedOver node) × (passed < berthCount) ⌝ }
+    ensures { λ r. ⌜ TurnPromise node (now (outgoing .entry)) (now (buffer .entry)) (r .answer) (r .node) (now (buffer .exit)) ⌝ }
+{
+    let settings = node.settings;
+    let k = (node.served + 1 + passed) % rules::BERTH_COUNT;
+    let at = k as usize;
+    let a = settings.area as usize;
+    let lo = at * a;
+    let hi = lo + a;
+    let one = node.berths[at];
+    let handed = berth::turns::hand_over(settings, one, &outgoing[lo..hi], &mut buffer[..8]);
+    let after = handed.berth;
+    let mut n = node;
+    n.berths[at] = after;
+    n.served = k;
+    TurnOut {
+        answer: TurnAnswer::HandedOver {
+            identifier: rules::TO_BERTH + k as u32,
+            code: handed.code,
+            passed: passed,
+        },
+        node: n,
+    }
+}
+
+pub fn turn(node: Node, outgoing: &[u8], buffer: &mut [u8]) -> TurnOut
+    ensures { λ r. ⌜ TurnPromise node (now (outgoing .entry)) (now (buffer .entry)) (r .answer) (r .node) (now (buffer .exit)) ⌝ }
+{
+    if order::in_order(node) {
+        if outgoing.len() != order::store_length(node) {
+            return turn_answered(TurnAnswer::Refused(rules::WRONG_STORE), node);
+        }
+        if buffer.len() < rules::FRAME_LENGTH {
+            return turn_answered(TurnAnswer::Refused(rules::SHORT_BUFFER), node);
+        }
+        let passed = round::passed_over(node);
+        if rules::BERTH_COUNT <= passed {
+            return turn_answered(TurnAnswer::None(rules::BERTH_COUNT), node);
+        }
+        return hand_over_at(node, outgoing, &mut buffer[..], passed);
+    }
+    turn_answered(TurnAnswer::Refused(rules::OUT_OF_ORDER), node)
+}
+
+// The part of the incoming store that holds the last message arrived or, if the choice is true, the part of the outgoing store
+// that holds the message now being sent; empty if there is none.
+pub fn show<'a>(
+    node: Node,
+    incoming: &'a [u8],
+    outgoing: &'a [u8],
+    berth: u32,
+    choice: bool,
+) -> &'a [u8]
+    ensures { λ r. ⌜ ShowPromise node (now (incoming .entry)) (now (outgoing .entry)) berth choice (now r) (incoming .entry .ptr) (outgoing .entry .ptr) (r .ptr) ⌝ }
+{
+    if order::in_order(node) {
+        if incoming.len() != order::store_length(node) {
+            return &incoming[..0];
+        }
+        if outgoing.len() != order::store_length(node) {
+            return &incoming[..0];
+        }
+        if rules::BERTH_COUNT as u32 <= berth {
+            return &incoming[..0];
+        }
+        let at = berth as usize;
+        let lo = at * node.settings.area as usize;
+        let one = node.berths[at];
+        if choice {
+            let tx = one.tx;
+            let hi = lo + berth::turns::length_sending(tx) as usize;
+            return &outgoing[lo..hi];
+        }
+        let hi = lo + one.last as usize;
+        return &incoming[lo..hi];
+    }
+    &incoming[..0]
+}
+
+// How many frames a message of a length needs.
+pub fn frames_needed(length: u64) -> u64
+    ensures { λ r. ⌜ NeededPromise length r ⌝ }
+{
+    berth::frames::frames_needed(length)
+}
