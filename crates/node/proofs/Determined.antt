@@ -15,12 +15,12 @@ use Rattle.rules.specs.declared.TickAnswer.{TickAnswer}
 use Rattle.rules.specs.declared.SendAnswer.{SendAnswer}
 use Rattle.rules.specs.declared.TurnAnswer.{TurnAnswer}
 use Rattle.node.specs.Promises.{lent, left, Agrees, noCodes, SetUpPromise, FramePromise, TickPromise, SendPromise, TurnPromise, ShowPromise, NeededPromise}
-use Rattle.node.proofs.Papers.{paper-tells}
+use Rattle.rules.proofs.Answers.{paper-one}
 
 -- outcomes that agree are equal
 pub same : {o p : Outcome} → Agrees o p → o ≡ p
 same {o} {p} e =
-    ap (λ a. left a (o .held) (o .buffer)) (paper-tells (o .answer) (p .answer) (e .answer))
+    ap (λ a. left a (o .held) (o .buffer)) (paper-one (o .answer) (p .answer) (e .answer))
     ∙ ap (λ h. left (p .answer) h (o .buffer)) (e .held)
     ∙ ap (λ b. left (p .answer) (p .held) b) (e .buffer)
 

@@ -5,6 +5,5 @@ pub mod Distances
 pub mod Outcomes
 pub mod Parts
 pub mod Shows
-pub mod Papers
 pub mod Determined
 pub mod PoorNodes

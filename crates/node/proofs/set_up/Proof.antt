@@ -9,7 +9,7 @@ use Rattle.rules.specs.Answers.{setUpSays}
 use Rattle.rules.specs.Stores.{setUpNode}
 use Rattle.rules.specs.Calls.{setUpOutcome, refusedOutcome}
 use Rattle.node.proofs.Outcomes.{unmet, meets, all-met, agrees}
-use Rattle.node.proofs.InRange.{settings-range}
+use Rattle.rules.proofs.Ranges.{settings-range}
 use Rattle.node.proofs.set_up.Statement.{statement}
 use Rattle.node.proofs.set_up.Tie as tie
 
