@@ -1,4 +1,2 @@
 -- Facts that several proofs of this crate cite.
 pub mod Chains
-pub mod Fits
-pub mod Puts

@@ -1,49 +1,9 @@
--- How the structs of this crate are read as the records of the rules: where a rule has bytes, the code has the part of the frame
--- that holds them.
-use Prim.Native.Nat.{ℕ, _+_, _≤_}
-use mathlib.Core.Path.{_≡_}
+-- How the struct that a hand-over gives back is read as the record of the rules.
+use Prim.Native.Nat.{ℕ}
 use mathlib.Core.List.{List}
-use lib.ListN.{length, take, drop}
-use Rattle.rules.specs.Arrivals as rule
-use Rattle.rules.specs.Turns as rule-of-turns
-use Rattle.berth.specs.declared.arrivals.Heard.{Heard}
-use Rattle.berth.specs.declared.arrivals.Told.{Told}
-use Rattle.berth.specs.declared.arrivals.Came.{Came}
+use Rattle.rules.specs.Turns.{HandedOver}
 use Rattle.berth.specs.declared.turns.Handed.{Handed}
 
-unfoldable pub heardOf : Heard → List ℕ → rule.Heard
-heardOf r d =
-    record {
-      rx = r .rx;
-      last = r .last;
-      old = r .old;
-      word = r .word;
-      place = r .place;
-      bytes = take (r .count) (drop (r .from) d);
-    }
-
--- at a frame d the struct says what the rule says, and the part lies within the frame
-pub record Hears (r : Heard) (d : List ℕ) (h : rule.Heard) : Type 0 where
-  pub same : heardOf r d ≡ h
-  pub within : r .from + r .count ≤ length d
-
-unfoldable pub toldOf : Told → rule.Told
-toldOf r = record { tx = r .tx; word = r .word }
-
-unfoldable pub cameOf : Came → List ℕ → rule.Came
-cameOf r d =
-    record {
-      berth = r .berth;
-      old = r .old;
-      word = r .word;
-      place = r .place;
-      bytes = take (r .count) (drop (r .from) d);
-    }
-
-pub record Comes (r : Came) (d : List ℕ) (c : rule.Came) : Type 0 where
-  pub same : cameOf r d ≡ c
-  pub within : r .from + r .count ≤ length d
-
 -- the frame stands in the part that was lent
-unfoldable pub handedOf : Handed → List ℕ → rule-of-turns.HandedOver
+unfoldable pub handedOf : Handed → List ℕ → HandedOver
 handedOf r frame = record { berth = r .berth; frame = frame; code = r .code }

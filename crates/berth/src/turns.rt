@@ -10,13 +10,11 @@ ghost use Rattle.rules.specs.Frames.{singleFrame, firstFrame, consecutiveFrame,
 ghost use Rattle.rules.specs.Ranges.{SendingRange, RxRange, TxRange, BerthRange};
 ghost use Rattle.rules.specs.Turns.{flowDue, messageDue, due, flowFrame, newBlock, afterFlow, toGo, messageFrame, messageCode, opened, moved, afterConsecutive, afterMessage, handOver, beginsWith, sent, lengthSending, busy};
 ghost use Rattle.berth.specs.Reading.{handedOf};
-use crate::frames;
 use rules::Berth;
 use rules::Rx;
 use rules::Sending;
 use rules::Settings;
 use rules::Sn;
-use rules::Taking;
 use rules::Tx;
 
 fn flow_due(rx: Rx) -> bool

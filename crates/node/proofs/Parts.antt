@@ -17,8 +17,8 @@ use Rattle.rules.specs.Stores.{rightStore, inside, cameAt}
 use Rattle.rules.specs.Refusals.{frame, senderOf, needs, refusal}
 use Rattle.rules.specs.declared.Node.{Node}
 use Rattle.rules.proofs.Cases.{yes-of, split}
-use Rattle.berth.specs.Reading.{cameOf, Comes}
-use Rattle.berth.specs.declared.arrivals.Came.{Came}
+use Rattle.arrivals.specs.Reading.{cameOf, Comes}
+use Rattle.arrivals.specs.declared.Came.{Came}
 use Rattle.node.specs.Promises.{lent}
 use Rattle.node.proofs.Outcomes.{meets, last-one}
 

@@ -6,7 +6,7 @@ mod round;
 ghost use Rattle.node.specs.Promises.{SetUpPromise, FramePromise, TickPromise, SendPromise, TurnPromise, ShowPromise, NeededPromise};
 ghost use mathlib.Core.Path.{_≡_};
 ghost use mathlib.Core.Bool.{true};
-ghost use Prim.Native.Nat.{_+_, _*_, _≤_, _<_};
+ghost use Prim.Native.Nat.{_+_, _≤_, _<_};
 ghost use lib.ListN.{length};
 ghost use Rattle.rules.specs.Numbers.{berthCount, fromBerth, frameLength};
 ghost use Rattle.rules.specs.Ranges.{inOrder};
@@ -98,12 +98,12 @@ fn heard(node: Node, incoming: &mut [u8], identifier: u32, payload: &[u8]) -> Fr
     let k = identifier - rules::FROM_BERTH;
     let at = k as usize;
     let one = node.berths[at];
-    let came = berth::arrivals::frame_came(settings, one, payload);
-    if berth::areas::inside(settings.area, came.place, came.count) {
+    let came = arrivals::frame_came(settings, one, payload);
+    if arrivals::areas::inside(settings.area, came.place, came.count) {
         let a = settings.area as usize;
         let lo = at * a;
         let hi = lo + a;
-        berth::areas::keep(
+        arrivals::areas::keep(
             &mut incoming[lo..hi],
             came.place,
             payload,
@@ -329,5 +329,5 @@ pub fn show<'a>(
 pub fn frames_needed(length: u64) -> u64
     ensures { λ r. ⌜ NeededPromise length r ⌝ }
 {
-    berth::frames::frames_needed(length)
+    frames::frames_needed(length)
 }

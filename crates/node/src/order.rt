@@ -1,7 +1,7 @@
 // Whether a node is in order, and the length of its stores. Order is tested before a length is computed: in a bad node the area may
 // be huge.
 ghost use mathlib.Core.Path.{_≡_};
-ghost use Prim.Native.Nat.{_*_, _≤_};
+ghost use Prim.Native.Nat.{_*_};
 ghost use Rattle.rules.specs.Numbers.{berthCount};
 ghost use Rattle.rules.specs.Tests.{each};
 ghost use Rattle.rules.specs.Ranges.{berthInOrder, inOrder};

@@ -13,8 +13,8 @@ use Rattle.rules.specs.Stores.{inside, cameAt, withBerth, stored}
 use Rattle.rules.specs.Calls.{done, afterFrame, reply, written}
 use Rattle.rules.specs.Answers.{frameSays}
 use Rattle.rules.specs.Refusals.{frame}
-use Rattle.berth.specs.Reading.{cameOf}
-use Rattle.berth.proofs.Puts.{put-in-part}
+use Rattle.arrivals.specs.Reading.{cameOf}
+use Rattle.frames.proofs.Puts.{put-in-part}
 use Rattle.node.proofs.Parts.{inside-fits, right-length, area-within, counted, last-need}
 use Rattle.node.proofs.InRange.{in-order}
 use Rattle.node.proofs.Outcomes.{does, refuses}

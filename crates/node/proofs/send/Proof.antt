@@ -15,7 +15,7 @@ use Rattle.rules.specs.Answers.{sendSays}
 use Rattle.rules.specs.Refusals.{send, refusal, needs as needsOf}
 use Rattle.rules.specs.Calls.{done, reply, written}
 use Rattle.rules.specs.declared.SendAnswer.{SendAnswer}
-use Rattle.berth.proofs.Puts.{put-down}
+use Rattle.frames.proofs.Puts.{put-down}
 use Rattle.node.proofs.Parts.{store-right, store-wrong, right-length, area-within, positive}
 use Rattle.node.proofs.InRange.{in-order}
 use Rattle.node.proofs.Outcomes.{meets, unmet, all-met, refused-as, does}

@@ -7,7 +7,7 @@ use borrow.Author.Needs.{needs}
 use Rattle.rules.specs.Frames.{consecutiveFrame, share}
 use Rattle.rules.specs.Turns.{toGo}
 use Rattle.rules.specs.Numbers.{consecutiveMost}
-use Rattle.berth.proofs.Fits.{share-most}
+use Rattle.frames.proofs.Fits.{share-most}
 use Rattle.berth.proofs.turns.consecutive_frame.Statement.{statement}
 use Rattle.berth.proofs.turns.consecutive_frame.Tie as tie
 

@@ -2,7 +2,7 @@
 use native.Mathlib.Omega.{arith}
 use borrow.Author.Needs.{needs}
 use Rattle.rules.specs.Turns.{moved, toGo}
-use Rattle.berth.proofs.Fits.{share-most}
+use Rattle.frames.proofs.Fits.{share-most}
 use Rattle.berth.proofs.turns.moved.Statement.{statement}
 use Rattle.berth.proofs.turns.moved.Tie as tie
 

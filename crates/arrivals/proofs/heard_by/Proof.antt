@@ -1,0 +1,13 @@
+-- What is heard of a receive side is carried over field by field.
+use mathlib.Core.Path.{ap}
+use Rattle.rules.specs.Arrivals.{heardBy}
+use Rattle.arrivals.specs.Reading.{heardOf, cameOf}
+use Rattle.arrivals.proofs.heard_by.Statement.{statement}
+use Rattle.arrivals.proofs.heard_by.Tie as tie
+
+returns : tie.Need-returns
+unfolding heardBy cameOf heardOf
+returns c = λ d h e. record { same = ap (heardBy (c .args .berth)) (e .same); within = e .within }
+
+pub heard-by-spec : {M : Type 1} → statement M
+heard-by-spec = tie.close (tie.spec returns)

@@ -1,0 +1,2 @@
+-- How the structs of this crate are read as the records of the rules.
+pub mod Reading

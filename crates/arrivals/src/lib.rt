@@ -1,0 +1,375 @@
+// Paper 01, "A frame arrives", at one berth. Nothing is stored here: an answer says which part of the frame goes to which place of
+// the area, so that refusal 11 can be tested before any byte is stored.
+pub mod areas;
+
+ghost use mathlib.Core.Path.{_≡_};
+ghost use mathlib.Core.List.{List, []};
+ghost use Prim.Native.Nat.{ℕ, _+_, _≤_, _<_};
+ghost use lib.ListN.{length};
+ghost use Rattle.rules.specs.Numbers.{frameLength, leastFlow, consecutiveMost};
+ghost use Rattle.rules.specs.Frames.{share};
+ghost use Rattle.rules.specs.Ranges.{TakingRange, RxRange, BerthRange};
+ghost use Rattle.rules.specs.Arrivals.{Heard as HeardRule, ignored, oldCode, singleCame, turnedAway, taking, begun, firstCame, missing, piece, grown, completed, afterTook, took, wrongSn, awaitedCame, consecutiveCame, granted, byStatus, flowIgnored, flowCame, heardBy, toldBy, byKind, frameCame};
+ghost use Rattle.arrivals.specs.Reading.{Hears, Comes, toldOf};
+use rules::Berth;
+use rules::Rx;
+use rules::Sending;
+use rules::Settings;
+use rules::Sn;
+use rules::Taking;
+use rules::Tx;
+use rules::Word;
+
+// What a frame makes of a receive side. `count` bytes of the frame, from `from` on, are to be stored at `place`.
+pub struct Heard {
+    pub rx: Rx,
+    pub last: u32,
+    pub old: u8,
+    pub word: Word,
+    pub place: u32,
+    pub from: u32,
+    pub count: u32,
+}
+
+// What a flow control frame makes of a send side.
+pub struct Told {
+    pub tx: Tx,
+    pub word: Word,
+}
+
+// What a frame makes of a berth.
+pub struct Came {
+    pub berth: Berth,
+    pub old: u8,
+    pub word: Word,
+    pub place: u32,
+    pub from: u32,
+    pub count: u32,
+}
+
+// An answer that stores nothing.
+fn unstored(rx: Rx, last: u32, old: u8, word: Word) -> Heard
+    ensures { λ r. ⌜ ((d : List ℕ) → Hears r d (record { rx = rx; last = last; old = old; word = word; place = 0; bytes = [] })) ⌝ }
+{
+    Heard {
+        rx: rx,
+        last: last,
+        old: old,
+        word: word,
+        place: 0,
+        from: 0,
+        count: 0,
+    }
+}
+
+fn ignored(why: u8, rx: Rx, last: u32) -> Heard
+    ensures { λ r. ⌜ ((d : List ℕ) → Hears r d (ignored why rx last)) ⌝ }
+{
+    unstored(rx, last, 0, Word::Ignored(why))
+}
+
+fn old_code(rx: Rx) -> u8
+    ensures { λ r. ⌜ r ≡ oldCode rx ⌝ }
+{
+    match rx {
+        Rx::Idle => 0,
+        Rx::OwesOverflow(_) => 0,
+        Rx::OwesGo(_, _) => rules::N_UNEXP_PDU,
+        Rx::Awaits(_, _) => rules::N_UNEXP_PDU,
+    }
+}
+
+fn single_came(rx: Rx, last: u32, frame: &[u8]) -> Heard
+    requires { ⌜ 0 < length (now frame) ⌝ }
+    ensures { λ r. ⌜ Hears r (now (frame .entry)) (singleCame rx last (now (frame .entry))) ⌝ }
+{
+    if frames::single_fits(frame) {
+        let l = frames::wide(frames::low(frame));
+        return Heard {
+            rx: Rx::Idle,
+            last: l,
+            old: old_code(rx),
+            word: Word::Delivered(l),
+            place: 0,
+            from: 1,
+            count: l,
+        };
+    }
+    ignored(rules::WRONG_LENGTH, rx, last)
+}
+
+fn turned_away(rx: Rx, last: u32) -> Heard
+    ensures { λ r. ⌜ ((d : List ℕ) → Hears r d (turnedAway rx last)) ⌝ }
+{
+    unstored(Rx::OwesOverflow(0), last, old_code(rx), Word::TooLong)
+}
+
+fn taking(n: u32) -> Taking
+    ensures { λ r. ⌜ r ≡ taking n ⌝ }
+{
+    Taking {
+        total: n,
+        got: rules::FIRST_BYTES,
+        sn: Sn::first(),
+        taken: 0,
+    }
+}
+
+fn begun(n: u32, rx: Rx) -> Heard
+    ensures { λ r. ⌜ ((d : List ℕ) → length d ≡ frameLength → Hears r d (begun n rx d)) ⌝ }
+{
+    let p = taking(n);
+    Heard {
+        rx: Rx::OwesGo(p, 0),
+        last: 0,
+        old: old_code(rx),
+        word: Word::Begun(n),
+        place: 0,
+        from: 2,
+        count: rules::FIRST_BYTES,
+    }
+}
+
+fn first_came(settings: Settings, rx: Rx, last: u32, frame: &[u8]) -> Heard
+    ensures { λ r. ⌜ Hears r (now (frame .entry)) (firstCame settings rx last (now (frame .entry))) ⌝ }
+{
+    if frames::first_fits(frame) {
+        let n = frames::announced(frame);
+        if settings.area < n {
+            return turned_away(rx, last);
+        }
+        return begun(n, rx);
+    }
+    ignored(rules::WRONG_LENGTH, rx, last)
+}
+
+fn missing(p: Taking) -> u32
+    requires { ⌜ p .got < p .total ⌝ }
+    ensures { λ r. ⌜ r ≡ missing p ⌝ }
+{
+    p.total - p.got
+}
+
+fn grown(p: Taking, count: u8) -> Taking
+    requires { ⌜ p .got < p .total ⌝ }
+    ensures { λ r. ⌜ r ≡ grown p count ⌝ }
+{
+    Taking {
+        total: p.total,
+        got: p.got + frames::share(missing(p)),
+        sn: p.sn.next(),
+        taken: count,
+    }
+}
+
+// The bytes of the next frame, where an answer stores them: this side, last length and word with the piece at got.
+fn pieced(p: Taking, rx: Rx, last: u32, word: Word) -> Heard
+    requires { ⌜ p .got < p .total ⌝ }
+    ensures { λ r. ⌜ ((d : List ℕ) → share consecutiveMost (missing p) + 1 ≤ length d → Hears r d (record { rx = rx; last = last; old = 0; word = word; place = p .got; bytes = piece p d })) ⌝ }
+{
+    let count = frames::share(missing(p));
+    Heard {
+        rx: rx,
+        last: last,
+        old: 0,
+        word: word,
+        place: p.got,
+        from: 1,
+        count: count,
+    }
+}
+
+fn after_took(settings: Settings, p: Taking) -> Rx
+    requires { ⌜ TakingRange settings p ⌝ }
+    ensures { λ r. ⌜ r ≡ afterTook settings p ⌝ }
+{
+    if frames::fills_block(settings.block, p.taken) {
+        let q = grown(p, 0);
+        return Rx::OwesGo(q, 0);
+    }
+    let q = grown(p, frames::counted(settings.block, p.taken));
+    Rx::Awaits(q, 0)
+}
+
+fn awaited_came(settings: Settings, p: Taking, t: u16, last: u32, frame: &[u8]) -> Heard
+    requires { ⌜ (0 < length (now frame)) × TakingRange settings p ⌝ }
+    ensures { λ r. ⌜ Hears r (now (frame .entry)) (awaitedCame settings p t last (now (frame .entry))) ⌝ }
+{
+    let r = missing(p);
+    if frames::consecutive_fits(r, frame) {
+        let sn = p.sn.0;
+        if frames::low(frame) == sn {
+            if r <= rules::CONSECUTIVE_MOST {
+                return pieced(p, Rx::Idle, p.total, Word::Delivered(p.total));
+            }
+            return pieced(p, after_took(settings, p), last, Word::Took);
+        }
+        return unstored(Rx::Idle, last, 0, Word::Failed(rules::N_WRONG_SN));
+    }
+    ignored(rules::WRONG_LENGTH, Rx::Awaits(p, t), last)
+}
+
+fn consecutive_came(settings: Settings, rx: Rx, last: u32, frame: &[u8]) -> Heard
+    requires { ⌜ (0 < length (now frame)) × RxRange settings last rx ⌝ }
+    ensures { λ r. ⌜ Hears r (now (frame .entry)) (consecutiveCame settings rx last (now (frame .entry))) ⌝ }
+{
+    match rx {
+        Rx::Idle => ignored(rules::NOT_AWAITED, rx, last),
+        Rx::OwesOverflow(_) => ignored(rules::NOT_AWAITED, rx, last),
+        Rx::OwesGo(_, _) => ignored(rules::NOT_AWAITED, rx, last),
+        Rx::Awaits(p, t) => awaited_came(settings, p, t, last, frame),
+    }
+}
+
+// The peer's block size and gap are taken; nothing else of the sending moves.
+fn granted(o: Sending, frame: &[u8]) -> Sending
+    requires { ⌜ leastFlow ≤ length (now frame) ⌝ }
+    ensures { λ r. ⌜ r ≡ granted o (now (frame .entry)) ⌝ }
+{
+    let sn = o.sn;
+    let block = frame[1];
+    let gap = frames::gap_of(frame[2]);
+    Sending {
+        length: o.length,
+        position: o.position,
+        sn: sn,
+        block: block,
+        sent: 0,
+        gap: gap,
+        left: 0,
+    }
+}
+
+fn by_status(o: Sending, frame: &[u8]) -> Told
+    requires { ⌜ leastFlow ≤ length (now frame) ⌝ }
+    ensures { λ r. ⌜ toldOf r ≡ byStatus o (now (frame .entry)) ⌝ }
+{
+    let status = frames::low(frame);
+    if status == rules::GO_STATUS {
+        let q = granted(o, frame);
+        return Told {
+            tx: Tx::Consecutive(q, 0),
+            word: Word::Going,
+        };
+    }
+    if status == rules::WAIT_STATUS {
+        return Told {
+            tx: Tx::AwaitsFlow(o, 0),
+            word: Word::Waiting,
+        };
+    }
+    if status == rules::OVERFLOW_STATUS {
+        return Told {
+            tx: Tx::Idle,
+            word: Word::Failed(rules::N_BUFFER_OVFLW),
+        };
+    }
+    Told {
+        tx: Tx::Idle,
+        word: Word::Failed(rules::N_INVALID_FS),
+    }
+}
+
+fn flow_ignored(why: u8, tx: Tx) -> Told
+    ensures { λ r. ⌜ toldOf r ≡ flowIgnored why tx ⌝ }
+{
+    Told {
+        tx: tx,
+        word: Word::Ignored(why),
+    }
+}
+
+fn flow_came(tx: Tx, frame: &[u8]) -> Told
+    requires { ⌜ 0 < length (now frame) ⌝ }
+    ensures { λ r. ⌜ toldOf r ≡ flowCame tx (now (frame .entry)) ⌝ }
+{
+    match tx {
+        Tx::Idle => flow_ignored(rules::NOT_AWAITED, tx),
+        Tx::SingleDue(_, _) => flow_ignored(rules::NOT_AWAITED, tx),
+        Tx::FirstDue(_, _) => flow_ignored(rules::NOT_AWAITED, tx),
+        Tx::AwaitsFlow(o, _) => {
+            if frames::flow_fits(frame) {
+                return by_status(o, frame);
+            }
+            flow_ignored(rules::WRONG_LENGTH, tx)
+        }
+        Tx::Consecutive(_, _) => flow_ignored(rules::NOT_AWAITED, tx),
+    }
+}
+
+fn heard_by(berth: Berth, heard: Heard) -> Came
+    ensures { λ r. ⌜ ((d : List ℕ) → (h : HeardRule) → Hears heard d h → Comes r d (heardBy berth h)) ⌝ }
+{
+    let rx = heard.rx;
+    let tx = berth.tx;
+    let word = heard.word;
+    let after = Berth {
+        rx: rx,
+        last: heard.last,
+        tx: tx,
+    };
+    Came {
+        berth: after,
+        old: heard.old,
+        word: word,
+        place: heard.place,
+        from: heard.from,
+        count: heard.count,
+    }
+}
+
+fn told_by(berth: Berth, told: Told) -> Came
+    ensures { λ r. ⌜ ((d : List ℕ) → Comes r d (toldBy berth (toldOf told))) ⌝ }
+{
+    let rx = berth.rx;
+    let tx = told.tx;
+    let word = told.word;
+    let after = Berth {
+        rx: rx,
+        last: berth.last,
+        tx: tx,
+    };
+    Came {
+        berth: after,
+        old: 0,
+        word: word,
+        place: 0,
+        from: 0,
+        count: 0,
+    }
+}
+
+fn by_kind(settings: Settings, berth: Berth, frame: &[u8]) -> Came
+    requires { ⌜ (0 < length (now frame)) × BerthRange settings berth ⌝ }
+    ensures { λ r. ⌜ Comes r (now (frame .entry)) (byKind settings berth (now (frame .entry))) ⌝ }
+{
+    let rx = berth.rx;
+    let tx = berth.tx;
+    let last = berth.last;
+    let kind = frames::kind(frame);
+    if kind == rules::SINGLE_KIND {
+        return heard_by(berth, single_came(rx, last, frame));
+    }
+    if kind == rules::FIRST_KIND {
+        return heard_by(berth, first_came(settings, rx, last, frame));
+    }
+    if kind == rules::CONSECUTIVE_KIND {
+        return heard_by(berth, consecutive_came(settings, rx, last, frame));
+    }
+    if kind == rules::FLOW_KIND {
+        return told_by(berth, flow_came(tx, frame));
+    }
+    heard_by(berth, ignored(rules::OTHER_KIND, rx, last))
+}
+
+pub fn frame_came(settings: Settings, berth: Berth, frame: &[u8]) -> Came
+    requires { ⌜ BerthRange settings berth ⌝ }
+    ensures { λ r. ⌜ Comes r (now (frame .entry)) (frameCame settings berth (now (frame .entry))) ⌝ }
+{
+    let rx = berth.rx;
+    let last = berth.last;
+    if frame.len() == 0 {
+        return heard_by(berth, ignored(rules::NO_DATA, rx, last));
+    }
+    by_kind(settings, berth, frame)
+}

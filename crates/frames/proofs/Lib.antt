@@ -1,0 +1,3 @@
+-- Facts that several proofs cite.
+pub mod Fits
+pub mod Puts
