@@ -9,7 +9,7 @@ ghost use lib.ListN.{length};
 ghost use Rattle.rules.specs.Numbers.{frameLength, leastFlow, consecutiveMost};
 ghost use Rattle.rules.specs.Frames.{share};
 ghost use Rattle.rules.specs.Ranges.{TakingRange, RxRange, BerthRange};
-ghost use Rattle.rules.specs.Arrivals.{Heard as HeardRule, ignored, oldCode, singleCame, turnedAway, taking, begun, firstCame, missing, piece, grown, completed, afterTook, took, wrongSn, awaitedCame, consecutiveCame, granted, byStatus, flowIgnored, flowCame, heardBy, toldBy, byKind, frameCame};
+ghost use Rattle.rules.specs.Arrivals.{Heard as HeardRule, ignored, oldCode, singleCame, turnedAway, taking, begun, firstCame, missing, piece, grown, afterTook, awaitedCame, consecutiveCame, granted, byStatus, flowIgnored, flowCame, heardBy, toldBy, byKind, frameCame};
 ghost use Rattle.arrivals.specs.Reading.{Hears, Comes, toldOf};
 use rules::Berth;
 use rules::Rx;

@@ -2,13 +2,12 @@
 // length of the message now being sent.
 ghost use mathlib.Core.Path.{_≡_};
 ghost use mathlib.Core.Bool.{true};
-ghost use mathlib.Core.List.{[]};
-ghost use Prim.Native.Nat.{_+_, _≤_, _<_};
+ghost use Prim.Native.Nat.{_≤_, _<_};
 ghost use lib.ListN.{length, take, drop};
 ghost use Rattle.rules.specs.Numbers.{leastArea, largestArea, snCount, frameLength, singleMost, firstBytes, consecutiveMost};
 ghost use Rattle.rules.specs.Frames.{singleFrame, firstFrame, consecutiveFrame, share};
-ghost use Rattle.rules.specs.Ranges.{SendingRange, RxRange, TxRange, BerthRange};
-ghost use Rattle.rules.specs.Turns.{flowDue, messageDue, due, flowFrame, newBlock, afterFlow, toGo, messageFrame, messageCode, opened, moved, afterConsecutive, afterMessage, handOver, beginsWith, sent, lengthSending, busy};
+ghost use Rattle.rules.specs.Ranges.{SendingRange, TxRange, BerthRange};
+ghost use Rattle.rules.specs.Turns.{flowDue, messageDue, due, flowFrame, afterFlow, toGo, messageFrame, messageCode, opened, moved, afterConsecutive, afterMessage, handOver, beginsWith, sent, lengthSending, busy};
 ghost use Rattle.berth.specs.Reading.{handedOf};
 use rules::Berth;
 use rules::Rx;
