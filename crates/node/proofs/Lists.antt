@@ -34,6 +34,14 @@ pub filled-more : {X Y : Type 0} (f : X → Y) (l : List X) (r : List Y) (i : �
     set (filled f l r i) i (f (getD l i d)) ≡ filled f l r (i + 1)
 filled-more f l r i d h k = rw add-one (filled-suc f l r i d h k)
 
+-- the next to be filled is still what it was
+pub filled-next : {X Y : Type 0} (f : X → Y) (l : List X) (r : List Y) (i : ℕ) (d : Y) → i < length l → i < length r →
+    getD (filled f l r i) i d ≡ getD r i d
+filled-next f [] r i d h k = absurd (not-suc-le-zero h)
+filled-next f (x ∷ l) [] i d h k = absurd (not-suc-le-zero k)
+filled-next f (x ∷ l) (y ∷ r) zero d h k = refl
+filled-next f (x ∷ l) (y ∷ r) (suc i) d h k = filled-next f l r i d (le-of-suc-le-suc h) (le-of-suc-le-suc k)
+
 pub filled-all : {X Y : Type 0} (f : X → Y) (l : List X) (r : List Y) (i : ℕ) → length l ≤ i → length r ≤ i →
     filled f l r i ≡ map f l
 filled-all f l r i h k = rw (take-all i l h, drop-of-length-le r k, append-nil)

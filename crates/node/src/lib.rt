@@ -155,7 +155,7 @@ fn ticked(node: Node) -> TickOut
     }; 10];
     let mut i: usize = 0;
     while i < 10 {
-        let one = node.berths[i];
+        let one = n.berths[i];
         codes[i] = berth::ticks::codes_of(one);
         n.berths[i] = berth::ticks::ticked(one);
         i += 1;

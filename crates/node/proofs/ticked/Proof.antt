@@ -1,33 +1,39 @@
 -- The invariant: the first i berths and codes are those after the tick, the others as they were.
-use Prim.Native.Nat.{_≤_, _-_}
-use native.Mathlib.Omega.{arith}
-use mathlib.Core.Path.{sym, _∙_, refl, _≡_}
-use lib.ListN.{length-map, length}
-use borrow.Author.Needs.{needs}
 use Rattle.rules.specs.Answers.{tickSays}
+use mathlib.Core.Path.{sym, _∙_}
+use lib.ListN.{length-map}
+use native.Mathlib.Omega.{arith}
+use Rattle.rules.specs.declared.Berth.{Berth}
 use Rattle.rules.specs.Ranges.{fresh}
+use Rattle.node.proofs.Lists.{filled-more, filled-next, filled-all}
+use Rattle.node.proofs.Outcomes.{meets, all-met, does}
 use Rattle.rules.specs.Refusals.{refusal, needs as needsOf, tick}
 use Rattle.rules.specs.Stores.{tickedNode}
-use Rattle.rules.specs.Calls.{done, reply, written, codesOf}
+use Rattle.rules.specs.Calls.{done, reply, written}
+use Rattle.node.specs.Promises.{lent}
+use borrow.Author.Needs.{needs}
+use mathlib.Core.Path.{refl, _≡_}
+use Prim.Native.Nat.{ℕ, _≤_, _<_, _-_}
+use Rattle.node.proofs.Lists.{filled}
 use Rattle.rules.specs.Numbers.{berthCount}
+use lib.ListN.{length}
+use Rattle.node.specs.Promises.{noCodes}
 use Rattle.rules.specs.Ticks.{ticked}
-use Rattle.node.proofs.Lists.{filled-more, filled-all, filled}
-use Rattle.node.proofs.Outcomes.{meets, all-met, does}
-use Rattle.node.specs.Promises.{lent, noCodes}
+use Rattle.rules.specs.Calls.{codesOf}
 use Rattle.node.proofs.ticked.Statement.{statement}
 use Rattle.node.proofs.ticked.Tie as tie
 
 abbrev Inv-loop : tie.InvT-loop
-Inv-loop node n₀ codes₀ i₀ n codes i =
+Inv-loop node codes₀ i₀ n codes i =
     (i ≤ berthCount) × (length (node .berths) ≡ berthCount)
     × (n ≡ record { settings = node .settings; served = node .served; berths = filled ticked (node .berths) (node .berths) i })
     × (codes ≡ filled codesOf (node .berths) noCodes i)
 
 abbrev μ-loop : tie.MeasureT-loop
-μ-loop node n₀ codes₀ i₀ n codes i = berthCount - i
+μ-loop node codes₀ i₀ n codes i = berthCount - i
 
 loop-holds : tie.Need-loop-holds Inv-loop μ-loop
-loop-holds c = (search needs, sym (length-map (c .args .t1 .berths) _) ∙ c .good .0 .1 .1 .1 .1 .0 .1 .0 .1, refl, refl)
+loop-holds c = (search needs, sym (length-map (c .args .node .berths) _) ∙ c .good .0 .1 .1 .1 .1 .0 .1 .0 .1, refl, refl)
 
 mul-one : tie.Need-mul-one Inv-loop μ-loop
 mul-one c = search needs
@@ -47,8 +53,8 @@ array-set-from-codes c = search needs
 ticked-requires : tie.Need-ticked-requires Inv-loop μ-loop
 ticked-requires c κs = search needs
 
-mul-t11 : tie.Need-mul-t11 Inv-loop μ-loop
-mul-t11 c = search needs
+mul-t9 : tie.Need-mul-t9 Inv-loop μ-loop
+mul-t9 c = search needs
 
 element-set-from-n : tie.Need-element-set-from-n Inv-loop μ-loop
 element-set-from-n c = search needs
@@ -61,18 +67,19 @@ loop-less c = search needs
 
 loop-again : tie.Need-loop-again Inv-loop μ-loop
 loop-again c = let s = c .before .before .before .before in
-    let node = s .before .args .t1 in
-    let i = s .loop .i in (
+    let node = s .before .args .node in
+    let i = s .loop .i in
+    let next = filled-next ticked (node .berths) (node .berths) i fresh (omega arith) (omega arith) in (
       search needs,
       search needs,
-      rw (s .loop .inv .2, c .ticked .ensures, filled-more ticked (node .berths) (node .berths) i fresh (omega arith) (omega arith)),
-      rw (s .loop .inv .3, c .before .codes-of .ensures) (filled-more codesOf (node .berths) noCodes i fresh (omega arith) (omega arith)),
+      rw (c .ticked .ensures, s .loop .inv .2, next, filled-more ticked (node .berths) (node .berths) i fresh (omega arith) (omega arith)),
+      rw (s .loop .inv .3, c .before .codes-of .ensures, s .loop .inv .2, next) (filled-more codesOf (node .berths) noCodes i fresh (omega arith) (omega arith)),
     )
 
 returns : tie.Need-returns Inv-loop μ-loop
 unfolding refusal needsOf tickedNode tickSays done reply written
 returns c = let s = c .before in
-    let node = s .before .args .t1 in
+    let node = s .before .args .node in
     let i = s .loop .i in
     record {
       agrees = λ incoming outgoing. does (lent node incoming outgoing) tick
@@ -94,7 +101,7 @@ ticked-spec =
     mul-codes
     array-set-from-codes
     ticked-requires
-    mul-t11
+    mul-t9
     element-set-from-n
     add-i
     loop-less

@@ -1,0 +1,54 @@
+-- `bench::by_value::show` is safe and ends: the turns left fall.
+use borrow.Author.Needs.{needs}
+use Prim.Native.Nat.{_-_}
+use Rattle.bench.proofs.by_value.show.Statement.{statement}
+use Rattle.bench.proofs.by_value.show.Tie as tie
+
+abbrev Inv-loop : tie.InvT-loop
+Inv-loop count node incoming outgoing berth sum₀ i₀ sum i = Unit {0}
+
+abbrev μ-loop : tie.MeasureT-loop
+μ-loop count node incoming outgoing berth sum₀ i₀ sum i = count - i
+
+loop-holds : tie.Need-loop-holds Inv-loop μ-loop
+loop-holds c = search needs
+
+show-requires : tie.Need-show-requires Inv-loop μ-loop
+show-requires c κs = search needs
+
+of-node-requires : tie.Need-of-node-requires Inv-loop μ-loop
+of-node-requires c κs = search needs
+
+add-requires : tie.Need-add-requires Inv-loop μ-loop
+add-requires c κs = search needs
+
+add-requires-2 : tie.Need-add-requires-2 Inv-loop μ-loop
+add-requires-2 c κs = search needs
+
+add-i : tie.Need-add-i Inv-loop μ-loop
+add-i c = search needs
+
+loop-less : tie.Need-loop-less Inv-loop μ-loop
+loop-less c = search needs
+
+loop-again : tie.Need-loop-again Inv-loop μ-loop
+loop-again c = search needs
+
+returns : tie.Need-returns Inv-loop μ-loop
+returns c = search needs
+
+pub show-spec : {M : Type 1} → statement M
+show-spec =
+    tie.close
+    (tie.spec
+    Inv-loop
+    μ-loop
+    loop-holds
+    show-requires
+    of-node-requires
+    add-requires
+    add-requires-2
+    add-i
+    loop-less
+    loop-again
+    returns)

@@ -1,0 +1,163 @@
+// The scenes, for tests: the node's calls on any node and any stores, which the exerciser cannot show. Records of sixteen bytes
+// from standard input, a line for each to standard output. The first record is the header, with number 0.
+mod calls;
+mod loads;
+mod looks;
+mod numbers;
+mod output;
+mod scene;
+
+ghost use Prim.Native.Nat.{_≤_, _<_};
+ghost use lib.ListN.{length};
+use crate::scene::Scene;
+use libc::STDIN_FILENO;
+
+// The header's areas are lent whole. A header that is refused or bad leaves the stores empty.
+fn header(before: Scene, record: &[u8; 16], out: &mut [u8]) -> Scene {
+    if !records::record::unused(record, 8, 16) {
+        return scene::bad(before, out);
+    }
+    let area = numbers::four(record[0], record[1], record[2], record[3]);
+    let mut after = calls::set_up(
+        before,
+        area,
+        numbers::two(record[4], record[5]),
+        numbers::two(record[6], record[7]),
+        out,
+    );
+    let node = after.node;
+    let settings = node.settings;
+    after.area = settings.area;
+    after.incoming = 10 * settings.area as usize;
+    after.outgoing = 10 * settings.area as usize;
+    after
+}
+
+// The records that look or load.
+fn other<'a>(
+    before: Scene,
+    record: &[u8; 16],
+    incoming: &'a [u8],
+    outgoing: &'a [u8],
+    out: &mut [u8],
+) -> Scene {
+    match record[0] {
+        5 => looks::show(before, record, incoming, outgoing, out),
+        6 => looks::dump(before, record, incoming, outgoing, out),
+        7 => loads::receive(before, record, out),
+        8 => loads::send(before, record, out),
+        9 => loads::own(before, record, out),
+        10 => looks::state(before, record, out),
+        11 => looks::node(before, record, out),
+        12 => calls::set_up_again(before, record, out),
+        13 => calls::needed(before, record, out),
+        _ => scene::bad(before, out),
+    }
+}
+
+fn run_record(
+    before: Scene,
+    record: &[u8; 16],
+    incoming: &mut [u8],
+    outgoing: &mut [u8],
+    out: &mut [u8],
+) -> Scene {
+    if before.number == 0 {
+        return header(before, record, out);
+    }
+    match record[0] {
+        1 => calls::frame(before, record, incoming, out),
+        2 => calls::tick(before, record, out),
+        3 => calls::send(before, record, outgoing, out),
+        4 => calls::turn(before, record, outgoing, out),
+        _ => other(before, record, incoming, outgoing, out),
+    }
+}
+
+fn record_at(rest: &[u8]) -> [u8; 16]
+    requires { ⌜ 16 ≤ length (now rest) ⌝ }
+{
+    let mut record = [0u8; 16];
+    let mut i = 0;
+    while i < 16 {
+        record[i] = rest[i];
+        i += 1;
+    }
+    record
+}
+
+// The record at the start of what is left of a piece. A piece ends inside a record only where the input does.
+fn step(
+    rest: &[u8],
+    before: Scene,
+    incoming: &mut [u8],
+    outgoing: &mut [u8],
+    out: &mut [u8],
+) -> Scene {
+    if rest.len() < 16 {
+        return scene::say(before, records::line::short(before.number), out);
+    }
+    let record = record_at(rest);
+    let mut after = run_record(before, &record, incoming, outgoing, out);
+    after.number = std::num::wrapping_add_u64(before.number, 1);
+    after
+}
+
+// Where the next record starts.
+fn next(at: usize, length: usize) -> usize
+    requires { ⌜ at < length ⌝ }
+    ensures { λ r. ⌜ (at < r) × (r ≤ length) ⌝ }
+{
+    if length - at < 16 { length } else { at + 16 }
+}
+
+fn run_piece(
+    piece: &[u8],
+    before: Scene,
+    incoming: &mut [u8],
+    outgoing: &mut [u8],
+    out: &mut [u8],
+) -> Scene {
+    let mut scene = before;
+    let mut at = 0;
+    while at < piece.len() {
+        scene = step(&piece[at..], scene, incoming, outgoing, out);
+        at = next(at, piece.len());
+    }
+    scene
+}
+
+// Reads a piece and runs it; a piece that is not full is the last one.
+fn run_some(
+    input: &mut [u8],
+    before: Scene,
+    incoming: &mut [u8],
+    outgoing: &mut [u8],
+    out: &mut [u8],
+) -> Scene {
+    let got = io::read_full(STDIN_FILENO, input);
+    let mut after = run_piece(&input[..got], before, incoming, outgoing, out);
+    after.more = got == input.len();
+    after
+}
+
+// A proved loop has to end, and nothing says that the input does. So the loop counts its turns down, from a number that no run
+// uses up.
+fn run(input: &mut [u8], incoming: &mut [u8], outgoing: &mut [u8], out: &mut [u8]) {
+    let mut scene = scene::first();
+    let mut turns = u64::MAX;
+    while turns > 0 && scene.more {
+        scene = run_some(input, scene, incoming, outgoing, out);
+        turns -= 1;
+    }
+    output::flush(out, scene.waiting);
+}
+
+// A store has room for ten areas of the largest size and the most that a record lends beyond them.
+fn main() {
+    let mut input = io::large_buffer();
+    let mut out = io::large_buffer();
+    let mut incoming = [0u8; 41077];
+    let mut outgoing = [0u8; 41077];
+    run(&mut input, &mut incoming, &mut outgoing, &mut out);
+}
