@@ -1,4 +1,4 @@
--- `carumpek::turn` meets its contract: a walk of its MIR, as the tool `walk` writes it. The node's borrow is opened, the node is copied out, the covered `turn` is called, the node that it returned is stored over the old one, and the borrow is closed there.
+-- `carumpek::turn` meets its contract: a walk of its MIR. The node's borrow is opened, the node is copied out, the covered `turn` is called, the node that it returned is stored over the old one, and the borrow is closed there.
 -- All that the proof knows of `turn` is that it meets its contract.
 -- Assumes nothing.
 use mathlib.Core.Path.{_≡_, refl, sym, _∙_, ap}
