@@ -21,7 +21,7 @@ pub struct Line {
 }
 
 impl Line {
-    fn empty() -> Line
+    pub fn empty() -> Line
         ensures { λ r. ⌜ textOf r ≡ [] ⌝ }
     {
         Line {
@@ -31,7 +31,7 @@ impl Line {
     }
 
     // A full line stays as it is, so that every part can be put to every line.
-    fn put(mut self, b: u8) -> Line
+    pub fn put(mut self, b: u8) -> Line
         ensures { λ r. ⌜ textOf r ≡ clipped (textOf self ++ (b ∷ [])) ⌝ }
     {
         let at = self.length;
@@ -42,7 +42,7 @@ impl Line {
         self
     }
 
-    fn text(self, bytes: &[u8]) -> Line
+    pub fn text(self, bytes: &[u8]) -> Line
         ensures { λ r. ⌜ textOf r ≡ clipped (textOf self ++ now (bytes .entry)) ⌝ }
     {
         let mut line = self;
@@ -55,7 +55,7 @@ impl Line {
     }
 
     // Decimal, in at most so many places.
-    fn decimal(self, n: u64, places: u32) -> Line
+    pub fn decimal(self, n: u64, places: u32) -> Line
         ensures { λ r. ⌜ textOf r ≡ clipped (textOf self ++ decimal places n) ⌝ }
     {
         if places == 0 {
@@ -79,7 +79,7 @@ impl Line {
         self.decimal(n as u64, 10)
     }
 
-    fn hex_byte(self, b: u8) -> Line
+    pub fn hex_byte(self, b: u8) -> Line
         ensures { λ r. ⌜ textOf r ≡ clipped (textOf self ++ hexText (b ∷ [])) ⌝ }
     {
         self.put(hex_digit(b / 16)).put(hex_digit(b % 16))
@@ -192,13 +192,13 @@ pub fn hex_digit(d: u8) -> u8
 }
 
 // The record's number and a space.
-fn numbered(number: u64) -> Line
+pub fn numbered(number: u64) -> Line
     ensures { λ r. ⌜ textOf r ≡ clipped (decimal 20 number ++ (32 ∷ [])) ⌝ }
 {
     Line::empty().decimal(number, 20).put(b' ')
 }
 
-fn refused(number: u64, refusal: u8) -> Line
+pub fn refused(number: u64, refusal: u8) -> Line
     ensures { λ r. ⌜ textOf r ≡ lineOf number (Answers·refused refusal) ⌝ }
 {
     numbered(number).text(b"refused ").small(refusal).put(b'\n')

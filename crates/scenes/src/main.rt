@@ -1,9 +1,9 @@
 // The scenes, for tests: the node's calls on any node and any stores, which the exerciser cannot show. Records of sixteen bytes
 // from standard input, a line for each to standard output. The first record is the header, with number 0.
 mod calls;
+mod judged;
 mod loads;
 mod looks;
-mod numbers;
 mod output;
 mod scene;
 
@@ -15,16 +15,9 @@ use libc::STDIN_FILENO;
 // The header's areas are lent whole. A header that is refused or bad leaves the stores empty.
 fn header(before: Scene, record: &[u8; 16], out: &mut [u8]) -> Scene {
     if !records::record::unused(record, 8, 16) {
-        return scene::bad(before, out);
+        return scene::say(before, records::line::bad(0), out);
     }
-    let area = numbers::four(record[0], record[1], record[2], record[3]);
-    let mut after = calls::set_up(
-        before,
-        area,
-        numbers::two(record[4], record[5]),
-        numbers::two(record[6], record[7]),
-        out,
-    );
+    let mut after = calls::set_up(before, record, 0, out);
     let node = after.node;
     let settings = node.settings;
     after.area = settings.area;
@@ -33,25 +26,24 @@ fn header(before: Scene, record: &[u8; 16], out: &mut [u8]) -> Scene {
     after
 }
 
-// The records that look or load.
-fn other<'a>(
+// A record whose kind and fields were judged.
+fn run_kind(
     before: Scene,
     record: &[u8; 16],
-    incoming: &'a [u8],
-    outgoing: &'a [u8],
+    incoming: &mut [u8],
+    outgoing: &mut [u8],
     out: &mut [u8],
 ) -> Scene {
     match record[0] {
-        5 => looks::show(before, record, incoming, outgoing, out),
-        6 => looks::dump(before, record, incoming, outgoing, out),
+        1 => calls::frame(before, record, incoming, out),
+        2 => calls::tick(before, out),
+        3 => calls::send(before, record, outgoing, out),
+        4 => calls::turn(before, record, outgoing, out),
         7 => loads::receive(before, record, out),
         8 => loads::send(before, record, out),
         9 => loads::own(before, record, out),
-        10 => looks::state(before, record, out),
-        11 => looks::node(before, record, out),
-        12 => calls::set_up_again(before, record, out),
-        13 => calls::needed(before, record, out),
-        _ => scene::bad(before, out),
+        12 => calls::set_up(before, record, 1, out),
+        _ => looks::look(before, record, incoming, outgoing, out),
     }
 }
 
@@ -65,13 +57,10 @@ fn run_record(
     if before.number == 0 {
         return header(before, record, out);
     }
-    match record[0] {
-        1 => calls::frame(before, record, incoming, out),
-        2 => calls::tick(before, record, out),
-        3 => calls::send(before, record, outgoing, out),
-        4 => calls::turn(before, record, outgoing, out),
-        _ => other(before, record, incoming, outgoing, out),
+    if judged::is_good(record) {
+        return run_kind(before, record, incoming, outgoing, out);
     }
+    scene::say(before, records::line::bad(before.number), out)
 }
 
 fn record_at(rest: &[u8]) -> [u8; 16]

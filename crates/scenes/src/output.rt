@@ -20,80 +20,41 @@ pub(crate) fn flush(output: &[u8], waiting: usize) {
     io::write_all(STDOUT_FILENO, &output[..n]);
 }
 
-pub(crate) fn put(output: &mut [u8], waiting: usize, b: u8) -> usize {
+pub(crate) fn put(output: &mut [u8], waiting: usize, line: Line) -> usize {
     if waiting < output.len() {
-        output[waiting] = b;
-        return waiting + 1;
+        if line.length < output.len() - waiting {
+            return records::line::copy(line, output, waiting);
+        }
     }
     flush(output, waiting);
-    if output.len() == 0 {
-        return 0;
-    }
-    output[0] = b;
-    1
+    records::line::copy(line, output, 0)
 }
 
-pub(crate) fn text(output: &mut [u8], waiting: usize, bytes: &[u8]) -> usize {
-    let mut at = waiting;
-    let mut i = 0;
-    while i < bytes.len() {
-        at = put(output, at, bytes[i]);
-        i += 1;
+// A line that goes on: without its LF.
+pub(crate) fn open(line: Line) -> Line {
+    let mut open = line;
+    if 0 < open.length {
+        open.length = open.length - 1;
     }
-    at
-}
-
-fn hex_byte(output: &mut [u8], waiting: usize, b: u8) -> usize {
-    let at = put(output, waiting, records::line::hex_digit(b / 16));
-    put(output, at, records::line::hex_digit(b))
+    open
 }
 
 fn hex(output: &mut [u8], waiting: usize, bytes: &[u8]) -> usize {
     let mut at = waiting;
     let mut i = 0;
     while i < bytes.len() {
-        at = hex_byte(output, at, bytes[i]);
+        at = put(output, at, Line::empty().hex_byte(bytes[i]));
         i += 1;
     }
     at
 }
 
-// A word and its bytes; the bare word where there are none.
-pub(crate) fn shown(output: &mut [u8], waiting: usize, word: &[u8], bytes: &[u8]) -> usize {
-    let at = text(output, waiting, word);
+// A line that ends with bytes; without a space where there are none.
+pub(crate) fn put_bytes(output: &mut [u8], waiting: usize, line: Line, bytes: &[u8]) -> usize {
     if bytes.len() == 0 {
-        return at;
+        return put(output, waiting, line.put(b'\n'));
     }
-    let next = put(output, at, b' ');
-    hex(output, next, bytes)
-}
-
-pub(crate) fn decimal(output: &mut [u8], waiting: usize, n: u64) -> usize {
-    let mut digits = [0u8; 20];
-    let k = io::decimal(n, &mut digits);
-    text(output, waiting, &digits[..k])
-}
-
-// A space and a number.
-pub(crate) fn number(output: &mut [u8], waiting: usize, n: u64) -> usize {
-    let at = put(output, waiting, b' ');
-    decimal(output, at, n)
-}
-
-pub(crate) fn line(output: &mut [u8], waiting: usize, line: Line) -> usize {
-    let bytes = line.bytes;
-    let length = line.length;
-    let n = lent(&bytes, length);
-    text(output, waiting, &bytes[..n])
-}
-
-// A line that goes on: without its LF.
-pub(crate) fn line_start(output: &mut [u8], waiting: usize, line: Line) -> usize {
-    let bytes = line.bytes;
-    let length = line.length;
-    if length == 0 {
-        return waiting;
-    }
-    let n = lent(&bytes, length - 1);
-    text(output, waiting, &bytes[..n])
+    let at = put(output, waiting, line.put(b' '));
+    let end = hex(output, at, bytes);
+    put(output, end, Line::empty().put(b'\n'))
 }

@@ -18,7 +18,7 @@ pub struct Scene {
     pub more: bool,
 }
 
-fn blank_node() -> Node {
+pub(crate) fn first() -> Scene {
     let idle = Berth {
         rx: Rx::Idle,
         last: 0,
@@ -30,15 +30,11 @@ fn blank_node() -> Node {
         block: 0,
         stmin: 0,
     };
-    Node {
+    let node = Node {
         settings: settings,
         served: 0,
         berths: berths,
-    }
-}
-
-pub(crate) fn first() -> Scene {
-    let node = blank_node();
+    };
     Scene {
         node: node,
         area: 0,
@@ -50,55 +46,16 @@ pub(crate) fn first() -> Scene {
     }
 }
 
-pub(crate) fn with_waiting(scene: Scene, waiting: usize) -> Scene {
-    let mut after = scene;
-    after.waiting = waiting;
+pub(crate) fn say(before: Scene, line: Line, out: &mut [u8]) -> Scene {
+    let mut after = before;
+    after.waiting = output::put(out, before.waiting, line);
     after
 }
 
-pub(crate) fn with_node(scene: Scene, node: Node) -> Scene {
-    let mut after = scene;
+// A record that did something to the node: its line, and the node after it.
+pub(crate) fn say_after(before: Scene, node: Node, line: Line, out: &mut [u8]) -> Scene {
+    let mut after = before;
     after.node = node;
+    after.waiting = output::put(out, before.waiting, line);
     after
-}
-
-// The record's line is the one that records makes.
-pub(crate) fn say(scene: Scene, line: Line, output: &mut [u8]) -> Scene {
-    let at = output::line(output, scene.waiting, line);
-    with_waiting(scene, at)
-}
-
-pub(crate) fn bad(scene: Scene, output: &mut [u8]) -> Scene {
-    say(scene, records::line::bad(scene.number), output)
-}
-
-// The record's number and a space, before words of the scenes alone.
-pub(crate) fn begin(scene: Scene, output: &mut [u8]) -> usize {
-    let at = output::decimal(output, scene.waiting, scene.number);
-    output::put(output, at, b' ')
-}
-
-// The record's number and one text to the line's end.
-pub(crate) fn say_text(scene: Scene, bytes: &[u8], output: &mut [u8]) -> Scene {
-    let at = begin(scene, output);
-    let next = output::text(output, at, bytes);
-    let end = output::put(output, next, b'\n');
-    with_waiting(scene, end)
-}
-
-// The record's number, a word and a number.
-pub(crate) fn say_number(scene: Scene, word: &[u8], n: u64, output: &mut [u8]) -> Scene {
-    let at = begin(scene, output);
-    let next = output::text(output, at, word);
-    let last = output::number(output, next, n);
-    let end = output::put(output, last, b'\n');
-    with_waiting(scene, end)
-}
-
-// The record's number, a word and bytes.
-pub(crate) fn say_bytes(scene: Scene, word: &[u8], bytes: &[u8], output: &mut [u8]) -> Scene {
-    let at = begin(scene, output);
-    let next = output::shown(output, at, word, bytes);
-    let end = output::put(output, next, b'\n');
-    with_waiting(scene, end)
 }
