@@ -4,8 +4,7 @@
 // Its words: FORM CALL SITUATION A LENGTH BUSY COUNT.
 // FORM: value, lent. CALL: frame, tick, send, turn, show, or nothing, a turn of the same loop without a call.
 // SITUATION: idle, busy, refused. LENGTH: of each message under way, and of the one that is sent. BUSY: how many berths are busy.
-mod by_value;
-mod lent;
+mod calls;
 mod loads;
 mod sums;
 mod words;
@@ -13,9 +12,9 @@ mod words;
 ghost use Prim.Native.Nat.{_≤_};
 use rules::Node;
 
-// So many calls; each form and call has a loop of its own.
-fn calls(
-    form: u8,
+// So many calls of one kind.
+fn made(
+    lent: bool,
     call: u8,
     count: u64,
     node: Node,
@@ -26,22 +25,12 @@ fn calls(
     message: &[u8],
     buffer: &mut [u8],
 ) -> u64 {
-    if form == b'l' {
-        return match call {
-            b'r' => lent::frame(count, node, incoming, berth, payload),
-            b'i' => lent::tick(count, node),
-            b'e' => lent::send(count, node, outgoing, berth, message),
-            b'u' => lent::turn(count, node, outgoing, buffer),
-            b'h' => lent::show(count, node, incoming, outgoing, berth),
-            _ => sums::nothing(count, node),
-        };
-    }
     match call {
-        b'r' => by_value::frame(count, node, incoming, berth, payload),
-        b'i' => by_value::tick(count, node),
-        b'e' => by_value::send(count, node, outgoing, berth, message),
-        b'u' => by_value::turn(count, node, outgoing, buffer),
-        b'h' => by_value::show(count, node, incoming, outgoing, berth),
+        b'r' => calls::frame(count, lent, node, incoming, berth, payload),
+        b'i' => calls::tick(count, lent, node),
+        b'e' => calls::send(count, lent, node, outgoing, berth, message),
+        b'u' => calls::turn(count, lent, node, outgoing, buffer),
+        b'h' => calls::show(count, lent, node, incoming, outgoing, berth),
         _ => sums::nothing(count, node),
     }
 }
@@ -59,8 +48,8 @@ fn run(form: u8, call: u8, situation: u8, count: u64, node: Node, load: loads::L
     let sending = load.sending;
     let came = load.came;
     let room = load.room;
-    calls(
-        form,
+    made(
+        form == b'l',
         call,
         count,
         node,

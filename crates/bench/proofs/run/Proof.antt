@@ -20,35 +20,35 @@ payload-requires c κs = search needs
 array-borrow-prefix-incoming : tie.Need-array-borrow-prefix-incoming
 array-borrow-prefix-incoming c = search needs
 
-slice-aggregate-calls : tie.Need-slice-aggregate-calls
-slice-aggregate-calls c = sym (length-take-le _ _ (array-borrow-prefix-incoming (c .before)))
+slice-aggregate-made : tie.Need-slice-aggregate-made
+slice-aggregate-made c = sym (length-take-le _ _ (array-borrow-prefix-incoming (c .before)))
 
 array-borrow-prefix-outgoing : tie.Need-array-borrow-prefix-outgoing
 array-borrow-prefix-outgoing c = search needs
 
-slice-aggregate-calls-2 : tie.Need-slice-aggregate-calls-2
-slice-aggregate-calls-2 c = sym (length-take-le _ _ (array-borrow-prefix-outgoing (c .before)))
+slice-aggregate-made-2 : tie.Need-slice-aggregate-made-2
+slice-aggregate-made-2 c = sym (length-take-le _ _ (array-borrow-prefix-outgoing (c .before)))
 
 array-share-prefix-payload : tie.Need-array-share-prefix-payload
 array-share-prefix-payload c = search needs
 
-slice-aggregate-calls-3 : tie.Need-slice-aggregate-calls-3
-slice-aggregate-calls-3 c = sym (length-take-le _ _ (array-share-prefix-payload (c .before)))
+slice-aggregate-made-3 : tie.Need-slice-aggregate-made-3
+slice-aggregate-made-3 c = sym (length-take-le _ _ (array-share-prefix-payload (c .before)))
 
 array-share-prefix-message : tie.Need-array-share-prefix-message
 array-share-prefix-message c = search needs
 
-slice-aggregate-calls-4 : tie.Need-slice-aggregate-calls-4
-slice-aggregate-calls-4 c = sym (length-take-le _ _ (array-share-prefix-message (c .before)))
+slice-aggregate-made-4 : tie.Need-slice-aggregate-made-4
+slice-aggregate-made-4 c = sym (length-take-le _ _ (array-share-prefix-message (c .before)))
 
 array-borrow-prefix-buffer : tie.Need-array-borrow-prefix-buffer
 array-borrow-prefix-buffer c = search needs
 
-slice-aggregate-calls-5 : tie.Need-slice-aggregate-calls-5
-slice-aggregate-calls-5 c = sym (length-take-le _ _ (array-borrow-prefix-buffer (c .before)))
+slice-aggregate-made-5 : tie.Need-slice-aggregate-made-5
+slice-aggregate-made-5 c = sym (length-take-le _ _ (array-borrow-prefix-buffer (c .before)))
 
-calls-requires : tie.Need-calls-requires
-calls-requires c κs = search needs
+made-requires : tie.Need-made-requires
+made-requires c κs = search needs
 
 returns : tie.Need-returns
 returns c = search needs
@@ -62,14 +62,14 @@ run-spec =
     rising-requires
     payload-requires
     array-borrow-prefix-incoming
-    slice-aggregate-calls
+    slice-aggregate-made
     array-borrow-prefix-outgoing
-    slice-aggregate-calls-2
+    slice-aggregate-made-2
     array-share-prefix-payload
-    slice-aggregate-calls-3
+    slice-aggregate-made-3
     array-share-prefix-message
-    slice-aggregate-calls-4
+    slice-aggregate-made-4
     array-borrow-prefix-buffer
-    slice-aggregate-calls-5
-    calls-requires
+    slice-aggregate-made-5
+    made-requires
     returns)

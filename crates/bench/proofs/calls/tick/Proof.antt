@@ -1,14 +1,14 @@
--- `bench::lent::tick` is safe and ends: the turns left fall.
+-- The calls left fall.
 use borrow.Author.Needs.{needs}
 use Prim.Native.Nat.{_-_}
-use Rattle.bench.proofs.lent.tick.Statement.{statement}
-use Rattle.bench.proofs.lent.tick.Tie as tie
+use Rattle.bench.proofs.calls.tick.Statement.{statement}
+use Rattle.bench.proofs.calls.tick.Tie as tie
 
 abbrev Inv-loop : tie.InvT-loop
-Inv-loop count node sum₀ i₀ sum i = Unit {0}
+Inv-loop count lent node sum₀ i₀ sum i = Unit {0}
 
 abbrev μ-loop : tie.MeasureT-loop
-μ-loop count node sum₀ i₀ sum i = count - i
+μ-loop count lent node sum₀ i₀ sum i = count - i
 
 loop-holds : tie.Need-loop-holds Inv-loop μ-loop
 loop-holds c = search needs
@@ -27,6 +27,21 @@ add-requires c κs = search needs
 
 add-requires-2 : tie.Need-add-requires-2 Inv-loop μ-loop
 add-requires-2 c κs = search needs
+
+tick-requires-2 : tie.Need-tick-requires-2 Inv-loop μ-loop
+tick-requires-2 c κs = search needs
+
+of-tick-requires-2 : tie.Need-of-tick-requires-2 Inv-loop μ-loop
+of-tick-requires-2 c κs = search needs
+
+of-node-requires-2 : tie.Need-of-node-requires-2 Inv-loop μ-loop
+of-node-requires-2 c κs = search needs
+
+add-requires-3 : tie.Need-add-requires-3 Inv-loop μ-loop
+add-requires-3 c κs = search needs
+
+add-requires-4 : tie.Need-add-requires-4 Inv-loop μ-loop
+add-requires-4 c κs = search needs
 
 add-i : tie.Need-add-i Inv-loop μ-loop
 add-i c = search needs
@@ -52,6 +67,11 @@ tick-spec =
     of-node-requires
     add-requires
     add-requires-2
+    tick-requires-2
+    of-tick-requires-2
+    of-node-requires-2
+    add-requires-3
+    add-requires-4
     add-i
     loop-less
     loop-again

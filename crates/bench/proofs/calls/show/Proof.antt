@@ -1,25 +1,20 @@
--- `bench::by_value::turn` is safe and ends: the turns left fall, and what is lent keeps its length.
+-- The calls left fall.
 use borrow.Author.Needs.{needs}
 use Prim.Native.Nat.{_-_}
-use mathlib.Core.Path.{_≡_}
-use lib.ListN.{length}
-use Rattle.bench.proofs.by_value.turn.Statement.{statement}
-use Rattle.bench.proofs.by_value.turn.Tie as tie
+use Rattle.bench.proofs.calls.show.Statement.{statement}
+use Rattle.bench.proofs.calls.show.Tie as tie
 
 abbrev Inv-loop : tie.InvT-loop
-Inv-loop count node outgoing buffer₀ sum₀ i₀ buffer sum i = (length buffer ≡ length buffer₀)
+Inv-loop count lent node incoming outgoing berth sum₀ i₀ sum i = Unit {0}
 
 abbrev μ-loop : tie.MeasureT-loop
-μ-loop count node outgoing buffer₀ sum₀ i₀ buffer sum i = count - i
+μ-loop count lent node incoming outgoing berth sum₀ i₀ sum i = count - i
 
 loop-holds : tie.Need-loop-holds Inv-loop μ-loop
 loop-holds c = search needs
 
-turn-requires : tie.Need-turn-requires Inv-loop μ-loop
-turn-requires c κs = search needs
-
-of-turn-requires : tie.Need-of-turn-requires Inv-loop μ-loop
-of-turn-requires c κs = search needs
+show-requires : tie.Need-show-requires Inv-loop μ-loop
+show-requires c κs = search needs
 
 of-node-requires : tie.Need-of-node-requires Inv-loop μ-loop
 of-node-requires c κs = search needs
@@ -30,6 +25,18 @@ add-requires c κs = search needs
 add-requires-2 : tie.Need-add-requires-2 Inv-loop μ-loop
 add-requires-2 c κs = search needs
 
+show-requires-2 : tie.Need-show-requires-2 Inv-loop μ-loop
+show-requires-2 c κs = search needs
+
+of-node-requires-2 : tie.Need-of-node-requires-2 Inv-loop μ-loop
+of-node-requires-2 c κs = search needs
+
+add-requires-3 : tie.Need-add-requires-3 Inv-loop μ-loop
+add-requires-3 c κs = search needs
+
+add-requires-4 : tie.Need-add-requires-4 Inv-loop μ-loop
+add-requires-4 c κs = search needs
+
 add-i : tie.Need-add-i Inv-loop μ-loop
 add-i c = search needs
 
@@ -39,26 +46,25 @@ loop-less c = search needs
 loop-again : tie.Need-loop-again Inv-loop μ-loop
 loop-again c = search needs
 
-same-length : tie.Need-same-length Inv-loop μ-loop
-same-length c = search needs
-
 returns : tie.Need-returns Inv-loop μ-loop
 returns c = search needs
 
-pub turn-spec : {M : Type 1} → statement M
-turn-spec =
+pub show-spec : {M : Type 1} → statement M
+show-spec =
     tie.close
     (tie.spec
     Inv-loop
     μ-loop
     loop-holds
-    turn-requires
-    of-turn-requires
+    show-requires
     of-node-requires
     add-requires
     add-requires-2
+    show-requires-2
+    of-node-requires-2
+    add-requires-3
+    add-requires-4
     add-i
     loop-less
     loop-again
-    same-length
     returns)
