@@ -61,7 +61,7 @@ module _ (k : ℕ) where
       go : Tested (eqb (senderOf id) k) (senderOf id ≡ k) (senderOf id ≡ k → ⊥)
           → partOf k (done h (frame id d)) ≡ alone (h .node .settings) (partOf k h) (ownDone k h (frame id d))
       go (holds t e) =
-          rw t (part-path (berth-same k (h .node) (senderOf id) (cameAt h (senderOf id) d .berth) (ten (h .node) (ok .order)) (ok .mine) e ∙ rw e)
+          rw t (part-path (berth-same k (h .node) (senderOf id) (cameAt h (senderOf id) d .berth) (ten (h .node) (ok .heard .order)) (ok .heard .mine) e ∙ rw e)
           (rw e (area-same (h .node .settings .area) k _ _ (h .incoming) (rw e at (ok .fits)))) refl)
       go (fails t ne) =
           rw t (part-path (berth-other k (h .node) (senderOf id) (cameAt h (senderOf id) d .berth) ne)

@@ -3,36 +3,55 @@ use mathlib.Core.Path.{_≡_}
 use Prim.Native.Nat.{ℕ, _+_, _*_, _≤_, _<_}
 use native.Mathlib.Omega.{arith}
 use mathlib.Core.Bool.{not}
-use mathlib.Core.List.{List}
+use mathlib.Core.List.{List, _++_}
 use lib.ListN.{length}
 use lib.Dec.{T, ltb, leb}
 use mir.Facts.{leb-yes, ltb-yes, eqb-yes}
+use Rattle.rules.specs.Tests.{Need, firstUnmet}
 use Rattle.rules.specs.Numbers.{berthCount, fromBerth, frameLength}
 use Rattle.rules.specs.Ranges.{inOrder, berthAt}
 use Rattle.rules.specs.Turns.{busy}
 use Rattle.rules.specs.Stores.{Held, rightStore, inside, cameAt}
-use Rattle.rules.specs.Refusals.{Call, senderOf, needs, refusal}
+use Rattle.rules.specs.Refusals.{Call, senderOf, orderAndStore, toHear, needs, refusal}
+use Rattle.rules.specs.declared.Node.{Node}
 use Rattle.rules.proofs.Cases.{met, and-left, and-right}
 
-pub record FrameAnswered (h : Held) (id : ℕ) (d : List ℕ) : Type 0 where
-  pub order : T (inOrder (h .node))
-  pub store : length (h .incoming) ≡ berthCount * h .node .settings .area
+-- the needs that frame, send and turn share; what is left is that no other is unmet
+first-two : (n : Node) (store : List ℕ) (ns : List Need) → firstUnmet (orderAndStore n store ++ ns) ≡ 0
+    → T (inOrder n) × (length store ≡ berthCount * n .settings .area) × (firstUnmet ns ≡ 0)
+unfolding rightStore
+first-two n store ns e =
+    let (r1, e1) = met _ _ _ e in
+    let (r2, e2) = met _ _ _ e1 in
+    (r1, eqb-yes r2, e2)
+
+-- a frame that no refusal below 11 holds back
+pub record MayHear (n : Node) (incoming : List ℕ) (id : ℕ) (d : List ℕ) : Type 0 where
+  pub order : T (inOrder n)
+  pub store : length incoming ≡ berthCount * n .settings .area
   pub known : fromBerth ≤ id
   pub mine : senderOf id < berthCount
   pub short : length d ≤ frameLength
+
+pub may-hear : (n : Node) (incoming : List ℕ) (id : ℕ) (d : List ℕ) (ns : List Need) → firstUnmet (toHear n incoming id d ++ ns) ≡ 0
+    → MayHear n incoming id d × (firstUnmet ns ≡ 0)
+may-hear n incoming id d ns e =
+    let (r1, r2, e2) = first-two n incoming _ e in
+    let (r3, e3) = met _ _ _ e2 in
+    let (r4, e4) = met _ _ _ e3 in
+    let from : fromBerth ≤ id = leb-yes (and-left (leb fromBerth id) (ltb id (fromBerth + berthCount)) r3) in
+    let below : id < fromBerth + berthCount = ltb-yes (and-right (leb fromBerth id) (ltb id (fromBerth + berthCount)) r3) in
+    (record { order = r1; store = r2; known = from; mine = omega arith; short = leb-yes r4 }, e4)
+
+pub record FrameAnswered (h : Held) (id : ℕ) (d : List ℕ) : Type 0 where
+  pub heard : MayHear (h .node) (h .incoming) id d
   pub fits : cameAt h (senderOf id) d .place + length (cameAt h (senderOf id) d .bytes) ≤ h .node .settings .area
 
 pub frame-answered : (h : Held) (id : ℕ) (d : List ℕ) → refusal h (Call.frame id d) ≡ 0 → FrameAnswered h id d
-unfolding refusal needs rightStore inside
+unfolding refusal needs inside
 frame-answered h id d e =
-    let (r1, e1) = met _ _ _ e in
-    let (r2, e2) = met _ _ _ e1 in
-    let (r3, e3) = met _ _ _ e2 in
-    let (r4, e4) = met _ _ _ e3 in
-    let (r5, e5) = met _ _ _ e4 in
-    let from : fromBerth ≤ id = leb-yes (and-left (leb fromBerth id) (ltb id (fromBerth + berthCount)) r3) in
-    let below : id < fromBerth + berthCount = ltb-yes (and-right (leb fromBerth id) (ltb id (fromBerth + berthCount)) r3) in
-    record { order = r1; store = eqb-yes r2; known = from; mine = omega arith; short = leb-yes r4; fits = leb-yes r5 }
+    let (may, e4) = may-hear (h .node) (h .incoming) id d _ e in
+    record { heard = may; fits = leb-yes (met _ _ _ e4 .0) }
 
 pub record SendAnswered (h : Held) (k : ℕ) (m : List ℕ) : Type 0 where
   pub order : T (inOrder (h .node))
@@ -43,15 +62,14 @@ pub record SendAnswered (h : Held) (k : ℕ) (m : List ℕ) : Type 0 where
   pub free : T (not (busy (berthAt (h .node) k .tx)))
 
 pub send-answered : (h : Held) (k : ℕ) (m : List ℕ) → refusal h (Call.send k m) ≡ 0 → SendAnswered h k m
-unfolding refusal needs rightStore
+unfolding refusal needs
 send-answered h k m e =
-    let (r1, e1) = met _ _ _ e in
-    let (r2, e2) = met _ _ _ e1 in
+    let (r1, r2, e2) = first-two (h .node) (h .outgoing) _ e in
     let (r3, e3) = met _ _ _ e2 in
     let (r4, e4) = met _ _ _ e3 in
     let (r5, e5) = met _ _ _ e4 in
     let (r6, e6) = met _ _ _ e5 in
-    record { order = r1; store = eqb-yes r2; mine = ltb-yes r3; some = ltb-yes r4; fits = leb-yes r5; free = r6 }
+    record { order = r1; store = r2; mine = ltb-yes r3; some = ltb-yes r4; fits = leb-yes r5; free = r6 }
 
 pub record TurnAnswered (h : Held) (buffer : List ℕ) : Type 0 where
   pub order : T (inOrder (h .node))
@@ -59,12 +77,10 @@ pub record TurnAnswered (h : Held) (buffer : List ℕ) : Type 0 where
   pub room : frameLength ≤ length buffer
 
 pub turn-answered : (h : Held) (buffer : List ℕ) → refusal h (Call.turn buffer) ≡ 0 → TurnAnswered h buffer
-unfolding refusal needs rightStore
+unfolding refusal needs
 turn-answered h buffer e =
-    let (r1, e1) = met _ _ _ e in
-    let (r2, e2) = met _ _ _ e1 in
-    let (r3, e3) = met _ _ _ e2 in
-    record { order = r1; store = eqb-yes r2; room = leb-yes r3 }
+    let (r1, r2, e2) = first-two (h .node) (h .outgoing) _ e in
+    record { order = r1; store = r2; room = leb-yes (met _ _ _ e2 .0) }
 
 pub tick-answered : (h : Held) → refusal h Call.tick ≡ 0 → T (inOrder (h .node))
 unfolding refusal needs

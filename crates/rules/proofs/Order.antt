@@ -418,7 +418,7 @@ unfolding done afterFrame withBerth servedNode cameAt handedAt
 done-ok h (Call.frame id d) e o =
     let a = frame-answered h id d e in
     with-ok (h .node) (senderOf id) (h .node .served) _ (o .served)
-    (came-ok (h .node .settings) (o .settings) _ d (o .berth (senderOf id) (a .mine)) .berth) o
+    (came-ok (h .node .settings) (o .settings) _ d (o .berth (senderOf id) (a .heard .mine)) .berth) o
 done-ok h Call.tick e o = tick-ok (h .node) o
 done-ok h (Call.send k m) e o =
     let a = send-answered h k m e in

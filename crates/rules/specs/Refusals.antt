@@ -4,7 +4,7 @@ use Prim.Native.Nat.{ℕ, _+_, _-_, _*_, _≤_, _<_}
 use mathlib.Core.Path.{_≡_}
 use mathlib.Core.Logic.{_⊎_}
 use mathlib.Core.Bool.{Bool, true, not, _&&_}
-use mathlib.Core.List.{List, [], _∷_}
+use mathlib.Core.List.{List, [], _∷_, _++_}
 use lib.ListN.{length}
 use lib.Dec.{ltb, leb}
 use Rattle.rules.specs.Tests.{Need, need, firstUnmet}
@@ -12,6 +12,7 @@ use Rattle.rules.specs.Numbers.{berthCount, fromBerth, frameLength, outO
 use Rattle.rules.specs.Ranges.{settingsAllowed, SettingsRange, berthAt, inOrder, InOrder}
 use Rattle.rules.specs.Turns.{busy}
 use Rattle.rules.specs.Stores.{Held, rightStore, inside, cameAt}
+use Rattle.rules.specs.declared.Node.{Node}
 
 -- the five calls: a frame came in on an identifier; a tick; send a message to a berth; call for a frame with a buffer; show a
 -- berth's message, of the outgoing store if the choice is true
@@ -26,29 +27,30 @@ pub data Call : Type 0 where
 abbrev pub senderOf : ℕ → ℕ
 senderOf id = id - fromBerth
 
+-- what frame, send and turn need first: the node is in order, and the store has ten areas
+abbrev pub orderAndStore : Node → List ℕ → List Need
+orderAndStore n store = need outOfOrder (inOrder n) ∷ need wrongStore (rightStore n store) ∷ []
+
+-- what a frame needs before it is looked into: an identifier of the ten, and at most eight bytes
+abbrev pub toHear : Node → List ℕ → ℕ → List ℕ → List Need
+toHear n incoming id d =
+    orderAndStore n incoming
+    ++ (need wrongIdentifier (leb fromBerth id && ltb id (fromBerth + berthCount)) ∷ need tooManyBytes (leb (length d) frameLength) ∷ [])
+
 -- the needs of each call; show has none, it answers with an empty part
 unfoldable pub needs : Held → Call → List Need
 needs h (frame id d) =
-    need outOfOrder (inOrder (h .node))
-    ∷ need wrongStore (rightStore (h .node) (h .incoming))
-    ∷ need wrongIdentifier (leb fromBerth id && ltb id (fromBerth + berthCount))
-    ∷ need tooManyBytes (leb (length d) frameLength)
-    ∷ need outsideArea (inside (h .node .settings .area) (cameAt h (senderOf id) d .place) (length (cameAt h (senderOf id) d .bytes)))
-    ∷ []
+    toHear (h .node) (h .incoming) id d
+    ++ (need outsideArea (inside (h .node .settings .area) (cameAt h (senderOf id) d .place) (length (cameAt h (senderOf id) d .bytes))) ∷ [])
 needs h tick = need outOfOrder (inOrder (h .node)) ∷ []
 needs h (send k m) =
-    need outOfOrder (inOrder (h .node))
-    ∷ need wrongStore (rightStore (h .node) (h .outgoing))
-    ∷ need noSuchBerth (ltb k berthCount)
+    orderAndStore (h .node) (h .outgoing)
+    ++ (need noSuchBerth (ltb k berthCount)
     ∷ need emptyMessage (ltb 0 (length m))
     ∷ need messageTooLong (leb (length m) (h .node .settings .area))
     ∷ need alreadySending (not (busy (berthAt (h .node) k .tx)))
-    ∷ []
-needs h (turn buffer) =
-    need outOfOrder (inOrder (h .node))
-    ∷ need wrongStore (rightStore (h .node) (h .outgoing))
-    ∷ need shortBuffer (leb frameLength (length buffer))
-    ∷ []
+    ∷ [])
+needs h (turn buffer) = orderAndStore (h .node) (h .outgoing) ++ (need shortBuffer (leb frameLength (length buffer)) ∷ [])
 needs h (show k choice) = []
 
 unfoldable pub refusal : Held → Call → ℕ
