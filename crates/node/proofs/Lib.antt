@@ -1,6 +1,5 @@
 -- Facts that several proofs of this crate cite, and what the promises determine.
 pub mod Lists
-pub mod InRange
 pub mod Distances
 pub mod Outcomes
 pub mod Parts

@@ -1,31 +1,38 @@
 -- What can be shown lies within its berth's area, so the part of the store is the part of the area.
-use Prim.Native.Nat.{ℕ, _+_, _-_, _*_, _≤_}
+use Prim.Native.Nat.{ℕ, _+_, _-_, _*_, _≤_, _<_}
 use native.Mathlib.Omega.{arith}
-use mathlib.Core.Path.{_≡_}
+use mathlib.Core.Path.{_≡_, refl}
 use mathlib.Core.Bool.{Bool, true, false}
 use mathlib.Core.List.{List, []}
-use lib.ListN.{take, drop}
+use lib.ListN.{length, take, drop}
 use lib.Seq.{take-take}
+use mir.Facts.{eqb-yes, ltb-yes}
+use Rattle.rules.specs.Numbers.{berthCount, leastArea}
 use Rattle.rules.specs.Tests.{pick}
-use Rattle.rules.specs.Ranges.{RxRange, TxRange, berthAt}
+use Rattle.rules.specs.Ranges.{RxRange, TxRange, InOrder, BerthRange, inOrder, berthAt}
 use Rattle.rules.specs.Turns.{lengthSending}
-use Rattle.rules.specs.Stores.{areaOf}
+use Rattle.rules.specs.Stores.{rightStore, areaOf}
 use Rattle.rules.specs.Refusals.{show, needs, refusal}
 use Rattle.rules.specs.Calls.{showable, shownLength, showing, done, reply, written}
 use Rattle.rules.specs.declared.Settings.{Settings}
 use Rattle.rules.specs.declared.Rx.{Rx}
 use Rattle.rules.specs.declared.Tx.{Tx}
+use Rattle.rules.specs.declared.Berth.{Berth}
 use Rattle.rules.specs.declared.Node.{Node}
+use Rattle.rules.proofs.Cases.{yes-of, and-left, and-right}
+use Rattle.rules.proofs.Ranges.{in-order-range}
 use Rattle.node.specs.Promises.{lent, ShowPromise}
 use Rattle.node.proofs.Outcomes.{all-met, does}
 
-pub last-fits : (s : Settings) (last : ℕ) (rx : Rx) → RxRange s last rx → last ≤ s .area
+-- ---- a length that can be shown is at most A
+
+last-fits : (s : Settings) (last : ℕ) (rx : Rx) → RxRange s last rx → last ≤ s .area
 last-fits s last Rx.Idle h = h
 last-fits s last (Rx.OwesOverflow t) h = h .0
 last-fits s last (Rx.OwesGo p t) h = omega arith
 last-fits s last (Rx.Awaits p t) h = omega arith
 
-pub sending-fits : (s : Settings) (tx : Tx) → 8 ≤ s .area → TxRange s tx → lengthSending tx ≤ s .area
+sending-fits : (s : Settings) (tx : Tx) → leastArea ≤ s .area → TxRange s tx → lengthSending tx ≤ s .area
 unfolding lengthSending
 sending-fits s Tx.Idle l h = omega arith
 sending-fits s (Tx.SingleDue n t) l h = omega arith
@@ -33,25 +40,50 @@ sending-fits s (Tx.FirstDue n t) l h = omega arith
 sending-fits s (Tx.AwaitsFlow o t) l h = h .0 .length-most
 sending-fits s (Tx.Consecutive o t) l h = h .0 .length-most
 
+pub shown-fits : (s : Settings) (b : Berth) (choice : Bool) → leastArea ≤ s .area → BerthRange s b
+    → pick choice (lengthSending (b .tx)) (b .last) ≤ s .area
+shown-fits s b true l h = sending-fits s (b .tx) l (h .send)
+shown-fits s b false l h = last-fits s (b .last) (b .rx) (h .receive)
+
+-- ---- what is known where a part can be shown, and what is shown where it can and where it cannot
+
+pub record Able (n : Node) (incoming outgoing : List ℕ) (k : ℕ) : Type 0 where
+  pub order : InOrder n
+  pub incoming-right : length incoming ≡ berthCount * n .settings .area
+  pub outgoing-right : length outgoing ≡ berthCount * n .settings .area
+  pub mine : k < berthCount
+
+module _ (n : Node) (incoming outgoing : List ℕ) (k : ℕ) where
+  pub able : showable (lent n incoming outgoing) k ≡ true → Able n incoming outgoing k
+  unfolding showable rightStore
+  able e =
+      let t = and-right (inOrder n) _ (yes-of e) in
+      let u = and-right (rightStore n incoming) _ t in
+      record {
+        order = in-order-range n (and-left (inOrder n) _ (yes-of e));
+        incoming-right = eqb-yes (and-left (rightStore n incoming) _ t);
+        outgoing-right = eqb-yes (and-left (rightStore n outgoing) _ u);
+        mine = ltb-yes (and-right (rightStore n outgoing) _ u);
+      }
+
 module _ (n : Node) (incoming outgoing : List ℕ) (k : ℕ) (in-at out-at : ℕ × ℕ) where
   pub shows-none : (choice : Bool) → showable (lent n incoming outgoing) k ≡ false
       → ShowPromise n incoming outgoing k choice [] in-at out-at in-at
   unfolding refusal needs reply done written showing shownLength
   shows-none choice e =
-      record { agrees = does (lent n incoming outgoing) (show k choice) all-met (simp e); starts = simp e }
+      record { agrees = does (lent n incoming outgoing) (show k choice) refl all-met (simp e); starts = simp e }
 
-  -- the part that the code takes, from the area's start to its end
-  pub shows : (choice : Bool) (shown : ℕ) → showable (lent n incoming outgoing) k ≡ true
+  -- the part that the code takes of the store that it chose, from the area's start to its end
+  pub shows : (choice b : Bool) (lo shown : ℕ) → choice ≡ b → lo ≡ k * n .settings .area → showable (lent n incoming outgoing) k ≡ true
       → shown ≡ pick choice (lengthSending (berthAt n k .tx)) (berthAt n k .last) → shown ≤ n .settings .area
-      → ShowPromise n incoming outgoing k choice
-      (take (k * n .settings .area + shown - k * n .settings .area) (drop (k * n .settings .area) (pick choice outgoing incoming)))
-      in-at out-at (pick choice out-at in-at .0, k * n .settings .area + pick choice out-at in-at .1)
+      → ShowPromise n incoming outgoing k choice (take (lo + shown - lo) (drop lo (pick b outgoing incoming)))
+      in-at out-at (pick b out-at in-at .0, lo + pick b out-at in-at .1)
   unfolding refusal needs reply done written showing shownLength areaOf
-  shows choice shown e is fits =
-      let lo = k * n .settings .area in
+  shows choice b lo shown chosen starts e is fits =
+      let length-is = rw chosen at is in
       let part : lo + shown - lo ≡ shown = omega arith in
-      let same = take-take shown (n .settings .area) (drop lo (pick choice outgoing incoming)) fits in
-      record {
-        agrees = does (lent n incoming outgoing) (show k choice) all-met (simp (e, ← is, part, same));
-        starts = simp e;
-      }
+      let same = take-take shown (n .settings .area) (drop lo (pick b outgoing incoming)) fits in
+      rw chosen (record {
+        agrees = does (lent n incoming outgoing) (show k b) refl all-met (simp (e, ← length-is, ← starts, part, same));
+        starts = simp (e, starts);
+      })

@@ -1,16 +1,22 @@
 // The node of ten berths by value: the calls of paper 01. Stores and buffer are lent; the node goes in and comes back beside the
 // answer. Whatever a call is given it answers: bad input is refused, by the numbers of the paper and in their order.
 mod order;
+mod places;
+mod refusals;
 mod round;
 
 ghost use Rattle.node.specs.Promises.{SetUpPromise, FramePromise, TickPromise, SendPromise, TurnPromise, ShowPromise, NeededPromise};
 ghost use mathlib.Core.Path.{_≡_};
 ghost use mathlib.Core.Bool.{true};
-ghost use Prim.Native.Nat.{_+_, _≤_, _<_};
-ghost use lib.ListN.{length};
-ghost use Rattle.rules.specs.Numbers.{berthCount, fromBerth, frameLength};
+ghost use mathlib.Core.List.{List};
+ghost use Prim.Native.Nat.{ℕ, _<_};
+ghost use Rattle.rules.specs.Numbers.{berthCount};
+ghost use Rattle.rules.specs.Tests.{pick, firstUnmet};
 ghost use Rattle.rules.specs.Ranges.{inOrder};
-ghost use Rattle.rules.specs.Stores.{rightStore, passedOver};
+ghost use Rattle.rules.specs.Turns.{lengthSending};
+ghost use Rattle.rules.specs.Stores.{passedOver};
+ghost use Rattle.rules.specs.Refusals.{toHear, turn, refusal};
+ghost use Rattle.node.specs.Promises.{lent};
 use rules::Berth;
 use rules::Codes;
 use rules::FrameAnswer;
@@ -91,7 +97,7 @@ fn frame_refused(number: u8, node: Node) -> FrameOut
 
 // A frame that no refusal below 11 holds back. Refusal 11 is tested before anything is stored.
 fn heard(node: Node, incoming: &mut [u8], identifier: u32, payload: &[u8]) -> FrameOut
-    requires { ⌜ (inOrder node ≡ true) × (rightStore node (now incoming) ≡ true) × (fromBerth ≤ identifier) × (identifier < fromBerth + berthCount) × (length (now payload) ≤ frameLength) ⌝ }
+    requires { ⌜ firstUnmet (toHear node (now incoming) identifier (now payload)) ≡ 0 ⌝ }
     ensures { λ r. ⌜ FramePromise node (now (incoming .entry)) identifier (now (payload .entry)) (r .answer) (r .node) (now (incoming .exit)) ⌝ }
 {
     let settings = node.settings;
@@ -100,9 +106,8 @@ fn heard(node: Node, incoming: &mut [u8], identifier: u32, payload: &[u8]) -> Fr
     let one = node.berths[at];
     let came = arrivals::frame_came(settings, one, payload);
     if arrivals::areas::inside(settings.area, came.place, came.count) {
-        let a = settings.area as usize;
-        let lo = at * a;
-        let hi = lo + a;
+        let lo = places::of_area(at, settings.area);
+        let hi = lo + settings.area as usize;
         arrivals::areas::keep(
             &mut incoming[lo..hi],
             came.place,
@@ -125,22 +130,17 @@ fn heard(node: Node, incoming: &mut [u8], identifier: u32, payload: &[u8]) -> Fr
 pub fn frame(node: Node, incoming: &mut [u8], identifier: u32, payload: &[u8]) -> FrameOut
     ensures { λ r. ⌜ FramePromise node (now (incoming .entry)) identifier (now (payload .entry)) (r .answer) (r .node) (now (incoming .exit)) ⌝ }
 {
-    if order::in_order(node) {
-        if incoming.len() != order::store_length(node) {
-            return frame_refused(rules::WRONG_STORE, node);
-        }
-        if identifier < rules::FROM_BERTH {
-            return frame_refused(rules::WRONG_IDENTIFIER, node);
-        }
-        if rules::FROM_BERTH + rules::BERTH_COUNT as u32 <= identifier {
-            return frame_refused(rules::WRONG_IDENTIFIER, node);
-        }
-        if rules::FRAME_LENGTH < payload.len() {
-            return frame_refused(rules::TOO_MANY_BYTES, node);
-        }
-        return heard(node, &mut incoming[..], identifier, payload);
+    let number = refusals::frame(
+        order::in_order(node),
+        node,
+        &incoming[..],
+        identifier,
+        payload,
+    );
+    if number != 0 {
+        return frame_refused(number, node);
     }
-    frame_refused(rules::OUT_OF_ORDER, node)
+    heard(node, &mut incoming[..], identifier, payload)
 }
 
 // A tick of each berth of a node in order.
@@ -202,37 +202,28 @@ fn send_refused(number: u8, node: Node) -> SendOut
 pub fn send(node: Node, outgoing: &mut [u8], berth: u32, message: &[u8]) -> SendOut
     ensures { λ r. ⌜ SendPromise node (now (outgoing .entry)) berth (now (message .entry)) (r .answer) (r .node) (now (outgoing .exit)) ⌝ }
 {
-    if order::in_order(node) {
-        if outgoing.len() != order::store_length(node) {
-            return send_refused(rules::WRONG_STORE, node);
-        }
-        if rules::BERTH_COUNT as u32 <= berth {
-            return send_refused(rules::NO_SUCH_BERTH, node);
-        }
-        if message.len() == 0 {
-            return send_refused(rules::EMPTY_MESSAGE, node);
-        }
-        let a = node.settings.area as usize;
-        if a < message.len() {
-            return send_refused(rules::MESSAGE_TOO_LONG, node);
-        }
-        let at = berth as usize;
-        let one = node.berths[at];
-        let tx = one.tx;
-        if berth::turns::busy(tx) {
-            return send_refused(rules::ALREADY_SENDING, node);
-        }
-        let lo = at * a;
-        let hi = lo + a;
-        bytes::copy(message, &mut outgoing[lo..hi]);
-        let mut n = node;
-        n.berths[at] = berth::turns::sent(one, message.len() as u32);
-        return SendOut {
-            answer: SendAnswer::Sent(berth as u8),
-            node: n,
-        };
+    let at = places::of_berth(berth);
+    let one = node.berths[at];
+    let number = refusals::send(
+        order::in_order(node),
+        node,
+        one,
+        &outgoing[..],
+        berth,
+        message,
+    );
+    if number != 0 {
+        return send_refused(number, node);
     }
-    send_refused(rules::OUT_OF_ORDER, node)
+    let lo = places::of_area(at, node.settings.area);
+    let hi = lo + node.settings.area as usize;
+    let mut n = node;
+    bytes::copy(message, &mut outgoing[lo..hi]);
+    n.berths[at] = berth::turns::sent(one, message.len() as u32);
+    SendOut {
+        answer: SendAnswer::Sent(berth as u8),
+        node: n,
+    }
 }
 
 fn turn_answered(answer: TurnAnswer, node: Node) -> TurnOut
@@ -246,15 +237,14 @@ fn turn_answered(answer: TurnAnswer, node: Node) -> TurnOut
 
 // The berth that is passed to after so many hands over its frame.
 fn hand_over_at(node: Node, outgoing: &[u8], buffer: &mut [u8], passed: u8) -> TurnOut
-    requires { ⌜ (inOrder node ≡ true) × (rightStore node (now outgoing) ≡ true) × (frameLength ≤ length (now buffer)) × (passed ≡ passedOver node) × (passed < berthCount) ⌝ }
+    requires { ⌜ ((incoming : List ℕ) → refusal (lent node incoming (now outgoing)) (turn (now buffer)) ≡ 0) × (passed ≡ passedOver node) × (passed < berthCount) ⌝ }
     ensures { λ r. ⌜ TurnPromise node (now (outgoing .entry)) (now (buffer .entry)) (r .answer) (r .node) (now (buffer .exit)) ⌝ }
 {
     let settings = node.settings;
     let k = (node.served + 1 + passed) % rules::BERTH_COUNT;
     let at = k as usize;
-    let a = settings.area as usize;
-    let lo = at * a;
-    let hi = lo + a;
+    let lo = places::of_area(at, settings.area);
+    let hi = lo + settings.area as usize;
     let one = node.berths[at];
     let handed = berth::turns::hand_over(settings, one, &outgoing[lo..hi], &mut buffer[..8]);
     let after = handed.berth;
@@ -274,20 +264,25 @@ fn hand_over_at(node: Node, outgoing: &[u8], buffer: &mut [u8], passed: u8) -> T
 pub fn turn(node: Node, outgoing: &[u8], buffer: &mut [u8]) -> TurnOut
     ensures { λ r. ⌜ TurnPromise node (now (outgoing .entry)) (now (buffer .entry)) (r .answer) (r .node) (now (buffer .exit)) ⌝ }
 {
-    if order::in_order(node) {
-        if outgoing.len() != order::store_length(node) {
-            return turn_answered(TurnAnswer::Refused(rules::WRONG_STORE), node);
-        }
-        if buffer.len() < rules::FRAME_LENGTH {
-            return turn_answered(TurnAnswer::Refused(rules::SHORT_BUFFER), node);
-        }
-        let passed = round::passed_over(node);
-        if rules::BERTH_COUNT <= passed {
-            return turn_answered(TurnAnswer::None(rules::BERTH_COUNT), node);
-        }
-        return hand_over_at(node, outgoing, &mut buffer[..], passed);
+    let number = refusals::turn(order::in_order(node), node, outgoing, &buffer[..]);
+    if number != 0 {
+        return turn_answered(TurnAnswer::Refused(number), node);
     }
-    turn_answered(TurnAnswer::Refused(rules::OUT_OF_ORDER), node)
+    let passed = round::passed_over(node);
+    if rules::BERTH_COUNT <= passed {
+        return turn_answered(TurnAnswer::None(rules::BERTH_COUNT), node);
+    }
+    hand_over_at(node, outgoing, &mut buffer[..], passed)
+}
+
+fn length_shown(berth: Berth, choice: bool) -> u32
+    ensures { λ r. ⌜ r ≡ pick choice (lengthSending (berth .tx)) (berth .last) ⌝ }
+{
+    if choice {
+        let tx = berth.tx;
+        return berth::turns::length_sending(tx);
+    }
+    berth.last
 }
 
 // The part of the incoming store that holds the last message arrived or, if the choice is true, the part of the outgoing store
@@ -301,25 +296,14 @@ pub fn show<'a>(
 ) -> &'a [u8]
     ensures { λ r. ⌜ ShowPromise node (now (incoming .entry)) (now (outgoing .entry)) berth choice (now r) (incoming .entry .ptr) (outgoing .entry .ptr) (r .ptr) ⌝ }
 {
-    if order::in_order(node) {
-        if incoming.len() != order::store_length(node) {
-            return &incoming[..0];
-        }
-        if outgoing.len() != order::store_length(node) {
-            return &incoming[..0];
-        }
-        if rules::BERTH_COUNT as u32 <= berth {
-            return &incoming[..0];
-        }
-        let at = berth as usize;
-        let lo = at * node.settings.area as usize;
+    if refusals::showable(order::in_order(node), node, incoming, outgoing, berth) {
+        let at = places::of_berth(berth);
         let one = node.berths[at];
+        let lo = places::of_area(at, node.settings.area);
+        let hi = lo + length_shown(one, choice) as usize;
         if choice {
-            let tx = one.tx;
-            let hi = lo + berth::turns::length_sending(tx) as usize;
             return &outgoing[lo..hi];
         }
-        let hi = lo + one.last as usize;
         return &incoming[lo..hi];
     }
     &incoming[..0]

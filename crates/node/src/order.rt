@@ -1,8 +1,5 @@
-// Whether a node is in order, and the length of its stores. Order is tested before a length is computed: in a bad node the area may
-// be huge.
+// Whether a node is in order.
 ghost use mathlib.Core.Path.{_≡_};
-ghost use Prim.Native.Nat.{_*_};
-ghost use Rattle.rules.specs.Numbers.{berthCount};
 ghost use Rattle.rules.specs.Tests.{each};
 ghost use Rattle.rules.specs.Ranges.{berthInOrder, inOrder};
 use rules::Node;
@@ -38,10 +35,4 @@ pub(crate) fn in_order(node: Node) -> bool
         return each_in_order(node);
     }
     false
-}
-
-pub(crate) fn store_length(node: Node) -> usize
-    ensures { λ r. ⌜ r ≡ berthCount * node .settings .area ⌝ }
-{
-    rules::BERTH_COUNT as usize * node.settings.area as usize
 }

@@ -1,62 +1,75 @@
 -- The berth is in order. Where refusal 11 does not hold, the bytes put down in the berth's area are bytes put down in the store
 -- (`put-in-part`).
-use Prim.Native.Nat.{_+_, _-_, _*_, _<_}
+use Prim.Native.Nat.{ℕ, _+_, _-_, _*_, _≤_, _<_}
 use native.Mathlib.Omega.{arith}
-use mathlib.Core.Path.{sym, ap, _∙_, _≡_}
-use mathlib.Core.Bool.{true, false}
+use mathlib.Core.Path.{sym, refl, _∙_, _≡_}
+use mathlib.Core.Bool.{Bool, true, false}
+use mathlib.Core.List.{List, []}
 use lib.ListN.{take, drop, length-take, length-drop}
 use denote.Ref.{now}
 use borrow.Author.Needs.{needs}
-use Rattle.rules.specs.Numbers.{berthCount, fromBerth, outsideArea}
+use Rattle.rules.specs.Numbers.{berthCount, outsideArea}
+use Rattle.rules.specs.Tests.{pick}
 use Rattle.rules.specs.Ranges.{berthAt}
 use Rattle.rules.specs.Stores.{inside, cameAt, withBerth, stored}
 use Rattle.rules.specs.Calls.{done, afterFrame, reply, written}
 use Rattle.rules.specs.Answers.{frameSays}
-use Rattle.rules.specs.Refusals.{frame}
+use Rattle.rules.specs.Refusals.{frame, senderOf, refusal}
+use Rattle.rules.specs.declared.FrameAnswer.{FrameAnswer}
+use Rattle.rules.proofs.Answered.{MayHear, may-hear}
+use Rattle.rules.proofs.Ranges.{in-order-range}
 use Rattle.arrivals.specs.Reading.{cameOf}
 use Rattle.frames.proofs.Puts.{put-in-part}
-use Rattle.node.proofs.Parts.{inside-fits, right-length, area-within, counted, last-need}
-use Rattle.node.proofs.InRange.{in-order}
-use Rattle.node.proofs.Outcomes.{does, refuses}
+use Rattle.node.proofs.Parts.{inside-fits, counted, last-need}
+use Rattle.node.proofs.Outcomes.{does, refused-as}
 use Rattle.node.specs.Promises.{lent}
 use Rattle.node.proofs.heard.Statement.{statement}
 use Rattle.node.proofs.heard.Tie as tie
 
+may : (s : tie.Start) → let a = s .args in MayHear (a .t1) (now (a .incoming)) (a .identifier) (now (a .payload))
+may s = let a = s .args in may-hear (a .t1) (now (a .incoming)) (a .identifier) (now (a .payload)) [] (s .pre) .0
+
+abbrev start : tie.After-inside → tie.Start
+start c = c .before .before .before .before .before .before
+
+-- the test of refusal 11 decides
+decides : (c : tie.After-inside) (b : Bool) → c .inside .result ≡ b → (outgoing : List ℕ) → let a = start c .args in
+    pick b 0 outsideArea ≡ refusal (lent (a .t1) (now (a .incoming)) outgoing) (frame (a .identifier) (now (a .payload)))
+unfolding berthAt
+decides c b e outgoing = let a = start c .args in
+    last-need (a .t1) (now (a .incoming)) (a .identifier) (now (a .payload)) (c .before .frame-came .result) (c .before .frame-came .ensures) (start c .pre) b (sym (c .inside .ensures) ∙ e) outgoing
+
+fits : (c : tie.Then1) → let came = c .before .before .frame-came .result in came .place + came .count ≤ start (c .before) .args .t1 .settings .area
+fits c = inside-fits _ _ _ (sym (c .before .inside .ensures) ∙ c .if1 .taken)
+
 sub-k : tie.Need-sub-k
-sub-k c = search needs
+sub-k c = omega (arith, may (c .before .before .before) .known)
 
 cast-at : tie.Need-cast-at
 cast-at c = search needs
 
 mul-one : tie.Need-mul-one
-mul-one c = search needs
+mul-one c = omega (arith, may (c .before .before .before) .mine)
 
 element-copy-out-one : tie.Need-element-copy-out-one
-element-copy-out-one c = search needs
+element-copy-out-one c = omega (arith, may (c .before .before .before) .mine)
 
 frame-came-requires : tie.Need-frame-came-requires
 unfolding berthAt
-frame-came-requires c κs = let a = c .before .before .before .before .args in in-order (a .t1) (c .before .before .before .before .pre .0) .berth (a .identifier - fromBerth) (omega (arith, c .before .before .before .before .pre))
+frame-came-requires c κs = let s = c .before .before .before .before in
+    in-order-range (s .args .t1) (may s .order) .berth (senderOf (s .args .identifier)) (may s .mine)
 
 inside-requires : tie.Need-inside-requires
 inside-requires c κs = search needs
 
-cast-a : tie.Need-cast-a
-cast-a c = search needs
+of-area-requires : tie.Need-of-area-requires
+of-area-requires c κs = may (start (c .before)) .mine
 
-mul-lo : tie.Need-mul-lo
-mul-lo c = let a = c .before .before .before .before .before .before .before .before .args in
-    let k : a .identifier - fromBerth < berthCount = omega (arith, c .before .before .before .before .before .before .before .before .pre) in
-    let most = in-order (a .t1) (c .before .before .before .before .before .before .before .before .pre .0) .settings .area-most in
-    let end = area-within (a .identifier - fromBerth) (a .t1 .settings .area) k in
-    omega arith
+cast-hi : tie.Need-cast-hi
+cast-hi c = search needs
 
 add-hi : tie.Need-add-hi
-add-hi c = let a = c .before .before .before .before .before .before .before .before .args in
-    let k : a .identifier - fromBerth < berthCount = omega (arith, c .before .before .before .before .before .before .before .before .pre) in
-    let most = in-order (a .t1) (c .before .before .before .before .before .before .before .before .pre .0) .settings .area-most in
-    let end = area-within (a .identifier - fromBerth) (a .t1 .settings .area) k in
-    omega arith
+add-hi c = search needs
 
 sub-keep : tie.Need-sub-keep
 sub-keep c = search needs
@@ -65,71 +78,53 @@ part-keep-start : tie.Need-part-keep-start
 part-keep-start c = search needs
 
 part-keep-end : tie.Need-part-keep-end
-part-keep-end c = let a = c .before .before .before .before .before .before .before .before .args in
-    let k : a .identifier - fromBerth < berthCount = omega (arith, c .before .before .before .before .before .before .before .before .pre) in
-    let most = in-order (a .t1) (c .before .before .before .before .before .before .before .before .pre .0) .settings .area-most in
-    let end = area-within (a .identifier - fromBerth) (a .t1 .settings .area) k in
-    omega (arith, right-length (a .t1) (now (a .incoming)) (c .before .before .before .before .before .before .before .before .pre .1))
+part-keep-end c = let t = c .before .before in
+    omega (arith, c .before .of-area .ensures, may (start (t .before)) .store)
 
 keep-requires : tie.Need-keep-requires
-keep-requires c κs = let a = c .before .before .before .before .before .before .before .before .before .args in
-    let k : a .identifier - fromBerth < berthCount = omega (arith, c .before .before .before .before .before .before .before .before .before .pre) in
-    let most = in-order (a .t1) (c .before .before .before .before .before .before .before .before .before .pre .0) .settings .area-most in
-    let end = area-within (a .identifier - fromBerth) (a .t1 .settings .area) k in
-    let right = right-length (a .t1) (now (a .incoming)) (c .before .before .before .before .before .before .before .before .before .pre .1) in
-    let came = c .before .before .before .before .frame-came .result in
-    let fits = inside-fits (a .t1 .settings .area) (came .place) (came .count) (sym (c .before .before .before .inside .ensures) ∙ c .before .before .if1 .taken) in
-    (simp (length-take, length-drop) (omega (arith, fits)), c .before .before .before .before .frame-came .ensures .within)
+keep-requires c κs = let t = c .before .before .before in
+    let came = t .before .before .frame-came .ensures in
+    (simp (length-take, length-drop) (omega (arith, fits t, c .before .before .of-area .ensures, may (start (t .before)) .store)), came .within)
+
+mine : (c : tie.After-after) → senderOf (start (c .before .before .before .before .before .before .before .before) .args .identifier) < berthCount
+mine c = may (start (c .before .before .before .before .before .before .before .before)) .mine
 
 mul-after : tie.Need-mul-after
-mul-after c = search needs
+mul-after c = omega (arith, mine c)
 
 element-set-from-after : tie.Need-element-set-from-after
-element-set-from-after c = search needs
+element-set-from-after c = omega (arith, mine c)
 
-cast-t30 : tie.Need-cast-t30
-cast-t30 c = search needs
+cast-t29 : tie.Need-cast-t29
+cast-t29 c = omega (arith, mine c)
 
 same-length : tie.Need-same-length
 same-length c = search needs
 
 returns : tie.Need-returns
 unfolding done afterFrame reply written withBerth stored cameAt cameOf frameSays berthAt
-returns c = let a = c .before .before .before .before .before .before .before .before .before .before .before .before .before .args in
-    let node = a .t1 in
-    let pre = c .before .before .before .before .before .before .before .before .before .before .before .before .before .pre in
+returns c = let area-known = c .before .before .before .before .before .before in
+    let t = area-known .before in
+    let a = start (t .before) .args in
+    let area = a .t1 .settings .area in
     let incoming = now (a .incoming) in
-    let d = now (a .payload) in
-    let came = c .before .before .before .before .before .before .before .before .frame-came in
-    let k : a .identifier - fromBerth < berthCount = omega (arith, pre) in
-    let area = node .settings .area in
-    let lo = (a .identifier - fromBerth) * area in
-    let end = area-within (a .identifier - fromBerth) area k in
-    let right = right-length node incoming (pre .1) in
-    let there = sym (c .before .before .before .before .before .before .before .inside .ensures) ∙ c .before .before .before .before .before .before .if1 .taken in
-    let count = counted node incoming (a .identifier) d (came .result) (came .ensures) in
+    let came = t .before .before .frame-came in
+    let bytes = take (came .result .count) (drop (came .result .from) (now (a .payload))) in
+    let lo = senderOf (a .identifier) * area in
     let part : lo + area - lo ≡ area = omega arith in
-    let bytes = take (came .result .count) (drop (came .result .from) d) in
-    let fits = inside-fits area (came .result .place) (came .result .count) there in
-    let kept = put-in-part incoming lo area bytes (omega arith) (came .result .place) (omega (arith, fits)) in
-    λ outgoing. does (lent node incoming outgoing) (frame (a .identifier) d)
-    (last-need node incoming (a .identifier) d (came .result) (came .ensures) (pre .0) (pre .1) (pre .2) (pre .3) (pre .4) true there outgoing)
-    (rw (← came .ensures .same, c .before .before .before .keep .ensures, part, kept))
+    let count = counted (a .t1) incoming (a .identifier) (now (a .payload)) (came .result) (came .ensures) in
+    let kept = put-in-part incoming lo area bytes (omega (arith, area-known .of-area .ensures, may (start (t .before)) .store)) (came .result .place) (omega (arith, fits t)) in
+    λ outgoing. does (lent (a .t1) incoming outgoing) (frame (a .identifier) (now (a .payload))) refl (decides (t .before) true (t .if1 .taken) outgoing)
+    (rw (← came .ensures .same, c .before .before .before .keep .ensures, area-known .of-area .ensures .0, part, kept))
 
 frame-refused-requires : tie.Need-frame-refused-requires
 frame-refused-requires c κs = search needs
 
 returns-2 : tie.Need-returns-2
-unfolding frameSays berthAt
-returns-2 c = let a = c .before .before .before .before .before .before .before .before .args in
-    let node = a .t1 in
-    let pre = c .before .before .before .before .before .before .before .before .pre in
-    let incoming = now (a .incoming) in
-    let d = now (a .payload) in
-    let came = c .before .before .before .frame-came in
-    λ outgoing. refuses (lent node incoming outgoing) (frame (a .identifier) d) outsideArea (omega arith)
-    (ap frameSays (c .frame-refused .ensures .0)) (ap (λ m. lent m incoming outgoing) (c .frame-refused .ensures .1))
-    (last-need node incoming (a .identifier) d (came .result) (came .ensures) (pre .0) (pre .1) (pre .2) (pre .3) (pre .4) false (sym (c .before .before .inside .ensures) ∙ c .before .if1 .left) outgoing)
+unfolding frameSays
+returns-2 c = let a = start (c .before .before) .args in
+    λ outgoing. refused-as frameSays (FrameAnswer.Refused outsideArea) (λ m. lent m (now (a .incoming)) outgoing) (frame (a .identifier) (now (a .payload))) (a .t1)
+    outsideArea (λ z. omega arith) refl (c .frame-refused .ensures) (decides (c .before .before) false (c .before .if1 .left) outgoing)
 
 pub heard-spec : {M : Type 1} → statement M
 heard-spec =
@@ -141,8 +136,8 @@ heard-spec =
     element-copy-out-one
     frame-came-requires
     inside-requires
-    cast-a
-    mul-lo
+    of-area-requires
+    cast-hi
     add-hi
     sub-keep
     part-keep-start
@@ -150,7 +145,7 @@ heard-spec =
     keep-requires
     mul-after
     element-set-from-after
-    cast-t30
+    cast-t29
     same-length
     returns
     frame-refused-requires

@@ -27,11 +27,11 @@ sub-t10 c = search needs
 
 returns : tie.Need-returns
 unfolding setUpOutcome setUpRefusal setUpSays setUpNode
-returns c = λ incoming outgoing. rw (meets _ _ (sym (c .before .settings-allowed .ensures) ∙ c .if1 .taken) all-met) (agrees refl)
+returns c = λ incoming outgoing. rw (← meets _ _ (sym (c .before .settings-allowed .ensures) ∙ c .if1 .taken) all-met) (agrees refl)
 
 returns-2 : tie.Need-returns-2
 unfolding setUpOutcome setUpRefusal setUpSays refusedOutcome
-returns-2 c = λ incoming outgoing. rw (unmet _ _ (sym (c .before .settings-allowed .ensures) ∙ c .if1 .left)) (agrees refl)
+returns-2 c = λ incoming outgoing. rw (← unmet _ _ (sym (c .before .settings-allowed .ensures) ∙ c .if1 .left)) (agrees refl)
 
 pub set-up-spec : {M : Type 1} → statement M
 set-up-spec =

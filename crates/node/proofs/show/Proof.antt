@@ -1,78 +1,69 @@
--- Each test that fails shows nothing; else the part lies within the berth's area, since a length in order does (`last-fits`,
--- `sending-fits`).
+-- What cannot be shown is nothing; else the part lies within the berth's area, since the length shown does (`shown-fits`).
+use Prim.Native.Nat.{_+_, _-_, _*_, _≤_}
 use native.Mathlib.Omega.{arith}
-use mathlib.Core.Path.{sym, refl, _∙_, _≡_}
-use mathlib.Core.Bool.{true, false}
-use lib.ListN.{getD}
+use mathlib.Core.Path.{sym, ap, _∙_, _≡_}
+use mathlib.Core.Bool.{Bool, true, false}
+use lib.ListN.{take, drop}
 use denote.Ref.{now}
-use borrow.Author.Tests.{le-ltb, lt-ltb}
 use borrow.Author.Needs.{needs}
-use Rattle.rules.specs.Ranges.{InOrder, berthAt, fresh}
+use Rattle.rules.specs.Tests.{pick}
+use Rattle.rules.specs.Ranges.{berthAt}
+use Rattle.rules.specs.Turns.{lengthSending}
 use Rattle.rules.specs.Calls.{showable}
-use Rattle.node.proofs.Parts.{store-right, store-wrong, right-length, area-within}
-use Rattle.node.proofs.InRange.{in-order}
-use Rattle.node.proofs.Shows.{shows, shows-none, last-fits, sending-fits}
-use Rattle.node.specs.Promises.{lent}
+use Rattle.node.proofs.Shows.{shown-fits, Able, able, shows-none, shows}
+use Rattle.node.specs.Promises.{lent, ShowPromise}
 use Rattle.node.proofs.show.Statement.{statement}
 use Rattle.node.proofs.show.Tie as tie
 
--- where all four tests held
-able : (c : tie.Else4) → let a = c .before .before .before .before .before .before .before .before .before .args in showable (lent (a .t1) (now (a .incoming)) (now (a .outgoing))) (a .berth) ≡ true
-unfolding showable
-able c =
-    let a = c .before .before .before .before .before .before .before .before .before .args in
-    let order = sym (c .before .before .before .before .before .before .in-order .ensures) ∙ c .before .before .before .before .before .if1 .taken in
-    let incoming = store-right (a .t1) (now (a .incoming)) _ (c .before .before .before .before .store-length .ensures) (c .before .before .before .if2 .left) in
-    let outgoing = store-right (a .t1) (now (a .outgoing)) _ (c .before .before .store-length2 .ensures) (c .before .if3 .left) in
-    simp (order, incoming, outgoing, lt-ltb _ _ (c .if4 .left))
+says : (c : tie.After-showable) → let a = c .before .before .before .before .args in
+    showable (lent (a .t1) (now (a .incoming)) (now (a .outgoing))) (a .berth) ≡ c .showable .result
+says c = sym (c .showable .ensures)
 
-order : (c : tie.Else4) → InOrder (c .before .before .before .before .before .before .before .before .before .args .t1)
-order c = in-order (c .before .before .before .before .before .before .before .before .before .args .t1) (sym (c .before .before .before .before .before .before .in-order .ensures) ∙ c .before .before .before .before .before .if1 .taken)
+abbrev start : tie.After-length-shown → tie.Start
+start c = c .before .before .before .before .before .before .before .before .before
+
+yes : (c : tie.After-length-shown) → let a = start c .args in showable (lent (a .t1) (now (a .incoming)) (now (a .outgoing))) (a .berth) ≡ true
+yes c = says (c .before .before .before .before .before) ∙ c .before .before .before .before .if1 .taken
+
+can : (c : tie.After-length-shown) → let a = start c .args in Able (a .t1) (now (a .incoming)) (now (a .outgoing)) (a .berth)
+can c = let a = start c .args in able (a .t1) (now (a .incoming)) (now (a .outgoing)) (a .berth) (yes c)
+
+here : (c : tie.After-length-shown) → c .before .before .before .of-berth .result ≡ start c .args .berth
+here c = c .before .before .before .of-berth .ensures .1 (can c .mine)
+
+-- the length shown is that of berth k, and at most A
+shown : (c : tie.After-length-shown) → let a = start c .args in
+    c .length-shown .result ≡ pick (a .choice) (lengthSending (berthAt (a .t1) (a .berth) .tx)) (berthAt (a .t1) (a .berth) .last)
+unfolding berthAt
+shown c = rw (here c) at (c .length-shown .ensures)
+
+fits : (c : tie.After-length-shown) → c .length-shown .result ≤ start c .args .t1 .settings .area
+fits c =
+    let a = start c .args in
+    let o = can c .order in
+    omega (arith, shown c, shown-fits (a .t1 .settings) (berthAt (a .t1) (a .berth)) (a .choice) (o .settings .area-least) (o .berth (a .berth) (can c .mine)))
+
+-- the part of the chosen store, from where the area starts
+part : (c : tie.After-length-shown) (b : Bool) → let a = start c .args in
+    let lo = c .before .of-area .result in
+    let at = pick b (a .outgoing .ptr) (a .incoming .ptr) in
+    a .choice ≡ b →
+    ShowPromise (a .t1) (now (a .incoming)) (now (a .outgoing)) (a .berth) (a .choice)
+    (take (lo + c .length-shown .result - lo) (drop lo (pick b (now (a .outgoing)) (now (a .incoming)))))
+    (a .incoming .ptr) (a .outgoing .ptr) (at .0, lo + at .1)
+part c b chosen =
+    let a = start c .args in
+    shows (a .t1) (now (a .incoming)) (now (a .outgoing)) (a .berth) (a .incoming .ptr) (a .outgoing .ptr) (a .choice) b (c .before .of-area .result) (c .length-shown .result)
+    chosen (c .before .of-area .ensures .0 ∙ ap (λ at. at * a .t1 .settings .area) (here c)) (yes c) (shown c) (fits c)
 
 in-order-requires : tie.Need-in-order-requires
 in-order-requires c κs = search needs
 
-store-length-requires : tie.Need-store-length-requires
-store-length-requires c κs = search needs
+showable-requires : tie.Need-showable-requires
+showable-requires c κs = search needs
 
-slice-aggregate-result : tie.Need-slice-aggregate-result
-slice-aggregate-result c = search needs
-
-returns : tie.Need-returns
-unfolding showable
-returns c = let a = c .before .before .before .before .before .before .before .args in
-    shows-none (a .t1) (now (a .incoming)) (now (a .outgoing)) (a .berth) (a .incoming .ptr) (a .outgoing .ptr) (a .choice) (simp (sym (c .before .before .before .before .in-order .ensures) ∙ c .before .before .before .if1 .taken, store-wrong (a .t1) (now (a .incoming)) _ (c .before .before .store-length .ensures) (c .before .if2 .taken)))
-
-store-length-requires-2 : tie.Need-store-length-requires-2
-store-length-requires-2 c κs = search needs
-
-slice-aggregate-result-2 : tie.Need-slice-aggregate-result-2
-slice-aggregate-result-2 c = search needs
-
-returns-2 : tie.Need-returns-2
-unfolding showable
-returns-2 c = let a = c .before .before .before .before .before .before .before .before .before .args in
-    shows-none (a .t1) (now (a .incoming)) (now (a .outgoing)) (a .berth) (a .incoming .ptr) (a .outgoing .ptr) (a .choice) (simp (sym (c .before .before .before .before .before .before .in-order .ensures) ∙ c .before .before .before .before .before .if1 .taken, store-right (a .t1) (now (a .incoming)) _ (c .before .before .before .before .store-length .ensures) (c .before .before .before .if2 .left), store-wrong (a .t1) (now (a .outgoing)) _ (c .before .before .store-length2 .ensures) (c .before .if3 .taken)))
-
-cast-if4 : tie.Need-cast-if4
-cast-if4 c = search needs
-
-slice-aggregate-result-3 : tie.Need-slice-aggregate-result-3
-slice-aggregate-result-3 c = search needs
-
-returns-3 : tie.Need-returns-3
-unfolding showable
-returns-3 c = let a = c .before .before .before .before .before .before .before .before .before .before .args in
-    shows-none (a .t1) (now (a .incoming)) (now (a .outgoing)) (a .berth) (a .incoming .ptr) (a .outgoing .ptr) (a .choice) (simp (sym (c .before .before .before .before .before .before .before .in-order .ensures) ∙ c .before .before .before .before .before .before .if1 .taken, store-right (a .t1) (now (a .incoming)) _ (c .before .before .before .before .before .store-length .ensures) (c .before .before .before .before .if2 .left), store-right (a .t1) (now (a .outgoing)) _ (c .before .before .before .store-length2 .ensures) (c .before .before .if3 .left), le-ltb _ _ (c .before .if4 .taken)))
-
-cast-lo : tie.Need-cast-lo
-cast-lo c = search needs
-
-mul-lo : tie.Need-mul-lo
-mul-lo c = let a = c .before .before .before .before .before .before .before .before .before .args in
-    let o = order (c) in
-    let within = area-within (a .berth) (a .t1 .settings .area) (c .if4 .left) in
-    omega (arith, o .settings .area-most)
+of-berth-requires : tie.Need-of-berth-requires
+of-berth-requires c κs = search needs
 
 mul-one : tie.Need-mul-one
 mul-one c = search needs
@@ -80,19 +71,17 @@ mul-one c = search needs
 element-copy-out-one : tie.Need-element-copy-out-one
 element-copy-out-one c = search needs
 
-length-sending-requires : tie.Need-length-sending-requires
-length-sending-requires c κs = search needs
+of-area-requires : tie.Need-of-area-requires
+of-area-requires c κs = search needs
+
+length-shown-requires : tie.Need-length-shown-requires
+length-shown-requires c κs = search needs
 
 cast-hi : tie.Need-cast-hi
 cast-hi c = search needs
 
 add-hi : tie.Need-add-hi
-unfolding berthAt
-add-hi c = let a = c .before .before .before .before .before .before .before .before .before .before .before .before .args in
-    let o = order (c .before .before .before) in
-    let within = area-within (a .berth) (a .t1 .settings .area) (c .before .before .before .if4 .left) in
-    let fits = sending-fits (a .t1 .settings) (getD (a .t1 .berths) (a .berth) fresh .tx) (o .settings .area-least) (o .berth (a .berth) (c .before .before .before .if4 .left) .send) in
-    omega (arith, o .settings .area-most, c .length-sending .ensures)
+add-hi c = search needs
 
 sub-result : tie.Need-sub-result
 sub-result c = search needs
@@ -101,31 +90,10 @@ part-result-start : tie.Need-part-result-start
 part-result-start c = search needs
 
 part-result-end : tie.Need-part-result-end
-unfolding berthAt
-part-result-end c = let a = c .before .before .before .before .before .before .before .before .before .before .before .before .args in
-    let o = order (c .before .before .before) in
-    let within = area-within (a .berth) (a .t1 .settings .area) (c .before .before .before .if4 .left) in
-    let fits = sending-fits (a .t1 .settings) (getD (a .t1 .berths) (a .berth) fresh .tx) (o .settings .area-least) (o .berth (a .berth) (c .before .before .before .if4 .left) .send) in
-    omega (arith, c .length-sending .ensures, right-length (a .t1) (now (a .outgoing)) (store-right (a .t1) (now (a .outgoing)) _ (c .before .before .before .before .before .store-length2 .ensures) (c .before .before .before .before .if3 .left)))
+part-result-end c = omega (arith, c .before .before .of-area .ensures, fits (c .before), can (c .before) .outgoing-right)
 
-returns-4 : tie.Need-returns-4
-unfolding berthAt
-returns-4 c = let a = c .before .before .before .before .before .before .before .before .before .before .before .before .before .args in
-    let o = order (c .before .before .before .before) in
-    let within = area-within (a .berth) (a .t1 .settings .area) (c .before .before .before .before .if4 .left) in
-    let fits = sending-fits (a .t1 .settings) (getD (a .t1 .berths) (a .berth) fresh .tx) (o .settings .area-least) (o .berth (a .berth) (c .before .before .before .before .if4 .left) .send) in
-    rw (c .before .before .if5 .taken) (shows (a .t1) (now (a .incoming)) (now (a .outgoing)) (a .berth) (a .incoming .ptr) (a .outgoing .ptr) true (c .before .length-sending .result) (able (c .before .before .before .before)) (c .before .length-sending .ensures) (omega (arith, c .before .length-sending .ensures)))
-
-cast-hi-2 : tie.Need-cast-hi-2
-cast-hi-2 c = search needs
-
-add-hi-2 : tie.Need-add-hi-2
-unfolding berthAt
-add-hi-2 c = let a = c .before .before .before .before .before .before .before .before .before .before .before .before .args in
-    let o = order (c .before .before .before) in
-    let within = area-within (a .berth) (a .t1 .settings .area) (c .before .before .before .if4 .left) in
-    let fits = last-fits (a .t1 .settings) (getD (a .t1 .berths) (a .berth) fresh .last) (getD (a .t1 .berths) (a .berth) fresh .rx) (o .berth (a .berth) (c .before .before .before .if4 .left) .receive) in
-    omega (arith, o .settings .area-most)
+returns : tie.Need-returns
+returns c = part (c .before .before) true (c .before .if2 .taken)
 
 sub-result-2 : tie.Need-sub-result-2
 sub-result-2 c = search needs
@@ -134,59 +102,38 @@ part-result-start-2 : tie.Need-part-result-start-2
 part-result-start-2 c = search needs
 
 part-result-end-2 : tie.Need-part-result-end-2
-unfolding berthAt
-part-result-end-2 c = let a = c .before .before .before .before .before .before .before .before .before .before .before .before .args in
-    let o = order (c .before .before .before) in
-    let within = area-within (a .berth) (a .t1 .settings .area) (c .before .before .before .if4 .left) in
-    let fits = last-fits (a .t1 .settings) (getD (a .t1 .berths) (a .berth) fresh .last) (getD (a .t1 .berths) (a .berth) fresh .rx) (o .berth (a .berth) (c .before .before .before .if4 .left) .receive) in
-    omega (arith, right-length (a .t1) (now (a .incoming)) (store-right (a .t1) (now (a .incoming)) _ (c .before .before .before .before .before .before .before .store-length .ensures) (c .before .before .before .before .before .before .if2 .left)))
+part-result-end-2 c = omega (arith, c .before .before .of-area .ensures, fits (c .before), can (c .before) .incoming-right)
 
-returns-5 : tie.Need-returns-5
-unfolding berthAt
-returns-5 c = let a = c .before .before .before .before .before .before .before .before .before .before .before .before .before .args in
-    let o = order (c .before .before .before .before) in
-    let within = area-within (a .berth) (a .t1 .settings .area) (c .before .before .before .before .if4 .left) in
-    let fits = last-fits (a .t1 .settings) (getD (a .t1 .berths) (a .berth) fresh .last) (getD (a .t1 .berths) (a .berth) fresh .rx) (o .berth (a .berth) (c .before .before .before .before .if4 .left) .receive) in
-    rw (c .before .before .if5 .left) (shows (a .t1) (now (a .incoming)) (now (a .outgoing)) (a .berth) (a .incoming .ptr) (a .outgoing .ptr) false (getD (a .t1 .berths) (a .berth) fresh .last) (able (c .before .before .before .before)) refl fits)
+returns-2 : tie.Need-returns-2
+returns-2 c = part (c .before .before) false (c .before .if2 .left)
 
-slice-aggregate-result-4 : tie.Need-slice-aggregate-result-4
-slice-aggregate-result-4 c = search needs
+slice-aggregate-result : tie.Need-slice-aggregate-result
+slice-aggregate-result c = search needs
 
-returns-6 : tie.Need-returns-6
-unfolding showable
-returns-6 c = let a = c .before .before .before .before .before .args in
-    shows-none (a .t1) (now (a .incoming)) (now (a .outgoing)) (a .berth) (a .incoming .ptr) (a .outgoing .ptr) (a .choice) (simp (sym (c .before .before .in-order .ensures) ∙ c .before .if1 .left))
+returns-3 : tie.Need-returns-3
+returns-3 c = let a = c .before .before .before .before .before .before .args in
+    shows-none (a .t1) (now (a .incoming)) (now (a .outgoing)) (a .berth) (a .incoming .ptr) (a .outgoing .ptr) (a .choice) (says (c .before .before) ∙ c .before .if1 .left)
 
 pub show-spec : {M : Type 1} → statement M
 show-spec =
     tie.close
     (tie.spec
     in-order-requires
-    store-length-requires
-    slice-aggregate-result
-    returns
-    store-length-requires-2
-    slice-aggregate-result-2
-    returns-2
-    cast-if4
-    slice-aggregate-result-3
-    returns-3
-    cast-lo
-    mul-lo
+    showable-requires
+    of-berth-requires
     mul-one
     element-copy-out-one
-    length-sending-requires
+    of-area-requires
+    length-shown-requires
     cast-hi
     add-hi
     sub-result
     part-result-start
     part-result-end
-    returns-4
-    cast-hi-2
-    add-hi-2
+    returns
     sub-result-2
     part-result-start-2
     part-result-end-2
-    returns-5
-    slice-aggregate-result-4
-    returns-6)
+    returns-2
+    slice-aggregate-result
+    returns-3)

@@ -22,7 +22,7 @@ returns c = search needs
 returns-2 : tie.Need-returns-2
 unfolding refusal needsOf tickSays
 returns-2 c = record {
-  agrees = λ incoming outgoing. refuses (lent (c .before .before .args .node) incoming outgoing) tick outOfOrder (omega arith) refl refl
+  agrees = λ incoming outgoing. refuses (lent (c .before .before .args .node) incoming outgoing) tick outOfOrder (λ z. omega arith) refl refl
       (unmet _ _ (sym (c .before .in-order .ensures) ∙ c .if1 .left));
   beside = refl;
 }

@@ -83,6 +83,7 @@ returns c = let s = c .before in
     let i = s .loop .i in
     record {
       agrees = λ incoming outgoing. does (lent node incoming outgoing) tick
+          refl
           (meets _ _ (s .before .pre) all-met)
           (rw (s .loop .inv .2, s .loop .inv .3, filled-all ticked (node .berths) (node .berths) i (omega arith) (omega arith), filled-all codesOf (node .berths) noCodes i (omega arith) (omega arith)));
       beside = tt;
