@@ -2,7 +2,6 @@
 pub mod Lists
 pub mod Distances
 pub mod Outcomes
-pub mod Parts
 pub mod Shows
 pub mod Determined
 pub mod PoorNodes

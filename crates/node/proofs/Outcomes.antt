@@ -10,7 +10,6 @@ use Rattle.rules.specs.Stores.{Held}
 use Rattle.rules.specs.Answers.{Answer, refused, paperOf}
 use Rattle.rules.specs.Refusals.{Call, refusal}
 use Rattle.rules.specs.Calls.{Outcome, outcome, done, reply, written, bufferOf, refusedOutcome}
-use Rattle.rules.specs.declared.Node.{Node}
 use Rattle.rules.proofs.Cases.{Tested, holds, fails, test-cases, and-left, and-right, tests}
 use Rattle.node.specs.Promises.{Agrees, left}
 
@@ -77,13 +76,6 @@ pub refuses : (h : Held) (c : Call) (number : ℕ) {a : Answer} {h′ : Held} �
     → number ≡ refusal h c → Agrees (left a h′ (bufferOf c)) (outcome h c)
 unfolding refusedOutcome
 refuses h c number l says stays e = rw (says, stays, as-refused h c number l e) (agrees refl)
-
--- the same of an answer of the code and the node given back
-pub refused-as : {A : Type 0} (says : A → Answer) (refusing : A) (lends : Node → Held) (c : Call) (n : Node) (number : ℕ) {a : A} {n′ : Node}
-    → (number ≡ 0 → ⊥) → says refusing ≡ refused number → (a ≡ refusing) × (n′ ≡ n) → number ≡ refusal (lends n) c
-    → Agrees (left (says a) (lends n′) (bufferOf c)) (outcome (lends n) c)
-refused-as says refusing lends c n number l reads e h =
-    refuses (lends n) c number l (ap says (e .0) ∙ reads) (ap lends (e .1)) h
 
 -- the code found no number, and does what the rules say
 pub does : (h : Held) (c : Call) {o : Outcome} {number : ℕ} → number ≡ 0 → number ≡ refusal h c

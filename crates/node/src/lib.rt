@@ -86,15 +86,6 @@ pub fn set_up(node: Node, area: u32, block: u32, stmin: u32) -> SetUpOut
     }
 }
 
-fn frame_refused(number: u8, node: Node) -> FrameOut
-    ensures { λ r. ⌜ (r .answer ≡ FrameAnswer.Refused number) × (r .node ≡ node) ⌝ }
-{
-    FrameOut {
-        answer: FrameAnswer::Refused(number),
-        node: node,
-    }
-}
-
 // A frame that no refusal below 11 holds back. Refusal 11 is tested before anything is stored.
 fn heard(node: Node, incoming: &mut [u8], identifier: u32, payload: &[u8]) -> FrameOut
     requires { ⌜ firstUnmet (toHear node (now incoming) identifier (now payload)) ≡ 0 ⌝ }
@@ -124,7 +115,10 @@ fn heard(node: Node, incoming: &mut [u8], identifier: u32, payload: &[u8]) -> Fr
             node: n,
         };
     }
-    frame_refused(rules::OUTSIDE_AREA, node)
+    FrameOut {
+        answer: FrameAnswer::Refused(rules::OUTSIDE_AREA),
+        node: node,
+    }
 }
 
 pub fn frame(node: Node, incoming: &mut [u8], identifier: u32, payload: &[u8]) -> FrameOut
@@ -138,7 +132,10 @@ pub fn frame(node: Node, incoming: &mut [u8], identifier: u32, payload: &[u8]) -
         payload,
     );
     if number != 0 {
-        return frame_refused(number, node);
+        return FrameOut {
+            answer: FrameAnswer::Refused(number),
+            node: node,
+        };
     }
     heard(node, &mut incoming[..], identifier, payload)
 }
@@ -190,15 +187,6 @@ pub fn tick(node: Node) -> TickOut
     }
 }
 
-fn send_refused(number: u8, node: Node) -> SendOut
-    ensures { λ r. ⌜ (r .answer ≡ SendAnswer.Refused number) × (r .node ≡ node) ⌝ }
-{
-    SendOut {
-        answer: SendAnswer::Refused(number),
-        node: node,
-    }
-}
-
 pub fn send(node: Node, outgoing: &mut [u8], berth: u32, message: &[u8]) -> SendOut
     ensures { λ r. ⌜ SendPromise node (now (outgoing .entry)) berth (now (message .entry)) (r .answer) (r .node) (now (outgoing .exit)) ⌝ }
 {
@@ -213,7 +201,10 @@ pub fn send(node: Node, outgoing: &mut [u8], berth: u32, message: &[u8]) -> Send
         message,
     );
     if number != 0 {
-        return send_refused(number, node);
+        return SendOut {
+            answer: SendAnswer::Refused(number),
+            node: node,
+        };
     }
     let lo = places::of_area(at, node.settings.area);
     let hi = lo + node.settings.area as usize;

@@ -20,10 +20,10 @@ fn order_and_store(ordered: bool, node: Node, store: &[u8]) -> u8
     ensures { λ r. ⌜ r ≡ firstUnmet (orderAndStore node (now (store .entry))) ⌝ }
 {
     if ordered {
-        if store.len() != places::store_length(node.settings.area) {
-            return rules::WRONG_STORE;
+        if places::is_store(node.settings.area, store) {
+            return 0;
         }
-        return 0;
+        return rules::WRONG_STORE;
     }
     rules::OUT_OF_ORDER
 }
@@ -111,11 +111,12 @@ pub(crate) fn showable(
     requires { ⌜ ordered ≡ inOrder node ⌝ }
     ensures { λ r. ⌜ r ≡ showable (lent node (now (incoming .entry)) (now (outgoing .entry))) berth ⌝ }
 {
-    if order_and_store(ordered, node, incoming) != 0 {
-        return false;
+    if ordered {
+        if places::is_store(node.settings.area, incoming) {
+            if places::is_store(node.settings.area, outgoing) {
+                return berth < rules::BERTH_COUNT as u32;
+            }
+        }
     }
-    if outgoing.len() != incoming.len() {
-        return false;
-    }
-    berth < rules::BERTH_COUNT as u32
+    false
 }

@@ -4,8 +4,7 @@ use denote.Ref.{now}
 use borrow.Author.Needs.{needs}
 use Rattle.rules.specs.Answers.{frameSays}
 use Rattle.rules.specs.Refusals.{frame, toHear, refusal, needs as needsOf}
-use Rattle.rules.specs.declared.FrameAnswer.{FrameAnswer}
-use Rattle.node.proofs.Outcomes.{stands, refused-as}
+use Rattle.node.proofs.Outcomes.{stands, refuses}
 use Rattle.node.specs.Promises.{lent}
 use Rattle.node.proofs.frame.Statement.{statement}
 use Rattle.node.proofs.frame.Tie as tie
@@ -16,19 +15,15 @@ in-order-requires c κs = search needs
 frame-requires : tie.Need-frame-requires
 frame-requires c κs = search needs
 
-frame-refused-requires : tie.Need-frame-refused-requires
-frame-refused-requires c κs = search needs
-
 same-length : tie.Need-same-length
 same-length c = search needs
 
 returns : tie.Need-returns
 unfolding refusal needsOf frameSays
-returns c = let found = c .before .before in
+returns c = let found = c .before in
     let a = found .before .before .before .before .before .args in
-    λ outgoing. refused-as frameSays (FrameAnswer.Refused (found .frame .result)) (λ m. lent m (now (a .incoming)) outgoing) (frame (a .identifier) (now (a .payload))) (a .node)
-    (found .frame .result) (c .before .if1 .taken) refl (c .frame-refused .ensures)
-    (stands (toHear (a .node) (now (a .incoming)) (a .identifier) (now (a .payload))) _ (c .before .if1 .taken) (found .frame .ensures))
+    λ outgoing. refuses (lent (a .node) (now (a .incoming)) outgoing) (frame (a .identifier) (now (a .payload))) (found .frame .result) (c .if1 .taken) refl refl
+    (stands (toHear (a .node) (now (a .incoming)) (a .identifier) (now (a .payload))) _ (c .if1 .taken) (found .frame .ensures))
 
 heard-requires : tie.Need-heard-requires
 heard-requires c κs = sym (c .before .before .frame .ensures) ∙ c .before .if1 .left
@@ -45,7 +40,6 @@ frame-spec =
     (tie.spec
     in-order-requires
     frame-requires
-    frame-refused-requires
     same-length
     returns
     heard-requires

@@ -5,23 +5,25 @@ use native.Mathlib.Omega.{arith}
 use mathlib.Core.Path.{sym, refl, _∙_, _≡_}
 use mathlib.Core.Bool.{Bool, true, false}
 use mathlib.Core.List.{List, []}
-use lib.ListN.{take, drop, length-take, length-drop}
+use lib.ListN.{length, take, drop, length-take, length-drop}
+use mir.Facts.{leb-yes}
 use denote.Ref.{now}
 use borrow.Author.Needs.{needs}
 use Rattle.rules.specs.Numbers.{berthCount, outsideArea}
 use Rattle.rules.specs.Tests.{pick}
 use Rattle.rules.specs.Ranges.{berthAt}
+use Rattle.rules.specs.Arrivals.{frameCame}
 use Rattle.rules.specs.Stores.{inside, cameAt, withBerth, stored}
 use Rattle.rules.specs.Calls.{done, afterFrame, reply, written}
 use Rattle.rules.specs.Answers.{frameSays}
-use Rattle.rules.specs.Refusals.{frame, senderOf, refusal}
-use Rattle.rules.specs.declared.FrameAnswer.{FrameAnswer}
+use Rattle.rules.specs.Refusals.{frame, senderOf, toHear, refusal, needs as needsOf}
+use Rattle.rules.proofs.Cases.{yes-of}
 use Rattle.rules.proofs.Answered.{MayHear, may-hear}
 use Rattle.rules.proofs.Ranges.{in-order-range}
 use Rattle.arrivals.specs.Reading.{cameOf}
+use Rattle.arrivals.specs.declared.Came.{Came}
 use Rattle.frames.proofs.Puts.{put-in-part}
-use Rattle.node.proofs.Parts.{inside-fits, counted, last-need}
-use Rattle.node.proofs.Outcomes.{does, refused-as}
+use Rattle.node.proofs.Outcomes.{last-one, go-on, does, refuses}
 use Rattle.node.specs.Promises.{lent}
 use Rattle.node.proofs.heard.Statement.{statement}
 use Rattle.node.proofs.heard.Tie as tie
@@ -32,15 +34,26 @@ may s = let a = s .args in may-hear (a .t1) (now (a .incoming)) (a .identifier) 
 abbrev start : tie.After-inside → tie.Start
 start c = c .before .before .before .before .before .before
 
--- the test of refusal 11 decides
+-- the bytes stored are as many as the code counts
+counted : (came : Came) (d : List ℕ) → came .from + came .count ≤ length d → length (take (came .count) (drop (came .from) d)) ≡ came .count
+counted came d within = simp (length-take, length-drop) (omega arith)
+
+-- the test of refusal 11 decides: it speaks of the bytes that the code counted
 decides : (c : tie.After-inside) (b : Bool) → c .inside .result ≡ b → (outgoing : List ℕ) → let a = start c .args in
     pick b 0 outsideArea ≡ refusal (lent (a .t1) (now (a .incoming)) outgoing) (frame (a .identifier) (now (a .payload)))
-unfolding berthAt
-decides c b e outgoing = let a = start c .args in
-    last-need (a .t1) (now (a .incoming)) (a .identifier) (now (a .payload)) (c .before .frame-came .result) (c .before .frame-came .ensures) (start c .pre) b (sym (c .inside .ensures) ∙ e) outgoing
+unfolding refusal needsOf cameAt cameOf berthAt
+decides c b e outgoing =
+    let a = start c .args in
+    let came = c .before .frame-came in
+    let d = now (a .payload) in
+    let said = frameCame (a .t1 .settings) (berthAt (a .t1) (senderOf (a .identifier))) d in
+    let last : inside (a .t1 .settings .area) (said .place) (length (said .bytes)) ≡ b
+    = rw (← came .ensures .same, counted (came .result) d (came .ensures .within)) (sym (c .inside .ensures) ∙ e) in
+    go-on (toHear (a .t1) (now (a .incoming)) (a .identifier) d) _ tt refl (sym (start c .pre)) (last-one _ last)
 
 fits : (c : tie.Then1) → let came = c .before .before .frame-came .result in came .place + came .count ≤ start (c .before) .args .t1 .settings .area
-fits c = inside-fits _ _ _ (sym (c .before .inside .ensures) ∙ c .if1 .taken)
+unfolding inside
+fits c = leb-yes (yes-of (sym (c .before .inside .ensures) ∙ c .if1 .taken))
 
 sub-k : tie.Need-sub-k
 sub-k c = omega (arith, may (c .before .before .before) .known)
@@ -112,19 +125,16 @@ returns c = let area-known = c .before .before .before .before .before .before i
     let bytes = take (came .result .count) (drop (came .result .from) (now (a .payload))) in
     let lo = senderOf (a .identifier) * area in
     let part : lo + area - lo ≡ area = omega arith in
-    let count = counted (a .t1) incoming (a .identifier) (now (a .payload)) (came .result) (came .ensures) in
+    let count = counted (came .result) (now (a .payload)) (came .ensures .within) in
     let kept = put-in-part incoming lo area bytes (omega (arith, area-known .of-area .ensures, may (start (t .before)) .store)) (came .result .place) (omega (arith, fits t)) in
     λ outgoing. does (lent (a .t1) incoming outgoing) (frame (a .identifier) (now (a .payload))) refl (decides (t .before) true (t .if1 .taken) outgoing)
     (rw (← came .ensures .same, c .before .before .before .keep .ensures, area-known .of-area .ensures .0, part, kept))
 
-frame-refused-requires : tie.Need-frame-refused-requires
-frame-refused-requires c κs = search needs
-
 returns-2 : tie.Need-returns-2
 unfolding frameSays
-returns-2 c = let a = start (c .before .before) .args in
-    λ outgoing. refused-as frameSays (FrameAnswer.Refused outsideArea) (λ m. lent m (now (a .incoming)) outgoing) (frame (a .identifier) (now (a .payload))) (a .t1)
-    outsideArea (λ z. omega arith) refl (c .frame-refused .ensures) (decides (c .before .before) false (c .before .if1 .left) outgoing)
+returns-2 c = let a = start (c .before) .args in
+    λ outgoing. refuses (lent (a .t1) (now (a .incoming)) outgoing) (frame (a .identifier) (now (a .payload))) outsideArea (λ z. omega arith) refl refl
+    (decides (c .before) false (c .if1 .left) outgoing)
 
 pub heard-spec : {M : Type 1} → statement M
 heard-spec =
@@ -148,5 +158,4 @@ heard-spec =
     cast-t29
     same-length
     returns
-    frame-refused-requires
     returns-2)

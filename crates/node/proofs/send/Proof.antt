@@ -13,11 +13,10 @@ use Rattle.rules.specs.Turns.{sent as sentBerth}
 use Rattle.rules.specs.Answers.{sent, sendSays}
 use Rattle.rules.specs.Refusals.{send}
 use Rattle.rules.specs.Calls.{done, reply, written}
-use Rattle.rules.specs.declared.SendAnswer.{SendAnswer}
 use Rattle.rules.proofs.Answered.{SendAnswered, send-answered}
 use Rattle.rules.proofs.Ranges.{in-order-range}
 use Rattle.frames.proofs.Puts.{put-down}
-use Rattle.node.proofs.Outcomes.{refused-as, does}
+use Rattle.node.proofs.Outcomes.{refuses, does}
 use Rattle.node.specs.Promises.{lent, left}
 use Rattle.node.proofs.send.Statement.{statement}
 use Rattle.node.proofs.send.Tie as tie
@@ -48,18 +47,14 @@ send-requires : tie.Need-send-requires
 unfolding berthAt
 send-requires c κs = (c .before .in-order .ensures, λ l. rw (c .before .before .before .of-berth .ensures .1 l))
 
-send-refused-requires : tie.Need-send-refused-requires
-send-refused-requires c κs = search needs
-
 same-length : tie.Need-same-length
 same-length c = search needs
 
 returns : tie.Need-returns
 unfolding sendSays
-returns c = let found = c .before .before in
+returns c = let found = c .before in
     let a = found .before .before .before .before .before .before .before .args in
-    λ incoming. refused-as sendSays (SendAnswer.Refused (found .send .result)) (λ m. lent m incoming (now (a .outgoing))) (send (a .berth) (now (a .message))) (a .t1)
-    (found .send .result) (c .before .if1 .taken) refl (c .send-refused .ensures) (found .send .ensures incoming)
+    λ incoming. refuses (lent (a .t1) incoming (now (a .outgoing))) (send (a .berth) (now (a .message))) (found .send .result) (c .if1 .taken) refl refl (found .send .ensures incoming)
 
 of-area-requires : tie.Need-of-area-requires
 of-area-requires c κs = search needs
@@ -96,8 +91,8 @@ mul-t12 c = search needs
 element-set-from-n : tie.Need-element-set-from-n
 element-set-from-n c = search needs
 
-cast-t29 : tie.Need-cast-t29
-cast-t29 c = omega (arith, met (c .before .before .before .before .before .before) .mine)
+cast-t30 : tie.Need-cast-t30
+cast-t30 c = omega (arith, met (c .before .before .before .before .before .before) .mine)
 
 same-length-2 : tie.Need-same-length-2
 same-length-2 c = search needs
@@ -126,7 +121,6 @@ send-spec =
     element-copy-out-one
     in-order-requires
     send-requires
-    send-refused-requires
     same-length
     returns
     of-area-requires
@@ -140,6 +134,6 @@ send-spec =
     sent-requires
     mul-t12
     element-set-from-n
-    cast-t29
+    cast-t30
     same-length-2
     returns-2)

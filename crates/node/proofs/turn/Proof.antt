@@ -10,10 +10,9 @@ use Rattle.rules.specs.Stores.{passedOver}
 use Rattle.rules.specs.Answers.{turnSays}
 use Rattle.rules.specs.Refusals.{turn}
 use Rattle.rules.specs.Calls.{done, reply, written}
-use Rattle.rules.specs.declared.TurnAnswer.{TurnAnswer}
 use Rattle.rules.proofs.Answered.{turn-answered}
 use Rattle.rules.proofs.Ranges.{in-order-range}
-use Rattle.node.proofs.Outcomes.{refused-as, does}
+use Rattle.node.proofs.Outcomes.{refuses, does}
 use Rattle.node.specs.Promises.{lent}
 use Rattle.node.proofs.turn.Statement.{statement}
 use Rattle.node.proofs.turn.Tie as tie
@@ -34,9 +33,8 @@ returns : tie.Need-returns
 unfolding turnSays
 returns c = let found = c .before .before in
     let a = found .before .before .before .before .before .args in
-    let buffer = now (a .buffer) in
-    λ incoming. refused-as (λ answer. turnSays answer buffer) (TurnAnswer.Refused (found .turn .result)) (λ m. lent m incoming (now (a .outgoing))) (turn buffer) (a .node)
-    (found .turn .result) (c .before .if1 .taken) refl (c .turn-answered .ensures) (found .turn .ensures incoming)
+    λ incoming. rw (c .turn-answered .ensures .0, c .turn-answered .ensures .1)
+    (refuses (lent (a .node) incoming (now (a .outgoing))) (turn (now (a .buffer))) (found .turn .result) (c .before .if1 .taken) refl refl (found .turn .ensures incoming))
 
 passed-over-requires : tie.Need-passed-over-requires
 passed-over-requires c κs = let a = c .before .before .before .before .before .before .args in
@@ -54,8 +52,8 @@ returns-2 c = let passed = c .before .before in
     let found = passed .before .before in
     let a = found .before .before .before .before .before .args in
     let none : ltb (passedOver (a .node)) berthCount ≡ false = le-ltb _ _ (rw (passed .passed-over .ensures) at (c .before .if2 .taken)) in
-    λ incoming. does (lent (a .node) incoming (now (a .outgoing))) (turn (now (a .buffer))) (passed .before .if1 .left) (found .turn .ensures incoming)
-    (rw (c .turn-answered2 .ensures .0, c .turn-answered2 .ensures .1) (simp none))
+    λ incoming. rw (c .turn-answered2 .ensures .0, c .turn-answered2 .ensures .1)
+    (does (lent (a .node) incoming (now (a .outgoing))) (turn (now (a .buffer))) (passed .before .if1 .left) (found .turn .ensures incoming) (simp none))
 
 hand-over-at-requires : tie.Need-hand-over-at-requires
 hand-over-at-requires c κs = let passed = c .before .before in

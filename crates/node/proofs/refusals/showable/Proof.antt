@@ -1,54 +1,56 @@
--- A chain of tests, the first two of them by their refusals.
-use Prim.Native.Nat.{ℕ}
-use native.Mathlib.Omega.{arith}
-use mathlib.Core.Path.{_≡_, refl, sym, _∙_}
-use mathlib.Core.Bool.{Bool, true, false, _&&_}
-use mathlib.Core.List.{[], _∷_}
-use mir.Facts.{eqb-yes}
-use borrow.Author.Tests.{eq-eqb, ne-eqb}
+-- The four tests, each after the one before.
+use mathlib.Core.Path.{_≡_, sym, _∙_}
+use mathlib.Core.Bool.{true}
+use denote.Ref.{now}
 use borrow.Author.Needs.{needs}
-use Rattle.rules.specs.Numbers.{outOfOrder, wrongStore}
-use Rattle.rules.specs.Tests.{need, firstUnmet}
+use Rattle.rules.specs.Ranges.{inOrder}
 use Rattle.rules.specs.Stores.{rightStore}
 use Rattle.rules.specs.Calls.{showable}
-use Rattle.rules.proofs.Cases.{yes-of}
 use Rattle.node.proofs.refusals.showable.Statement.{statement}
 use Rattle.node.proofs.refusals.showable.Tie as tie
 
-one-fails : (a b x : Bool) {r : ℕ} → (r ≡ 0 → ⊥) → r ≡ firstUnmet (need outOfOrder a ∷ need wrongStore b ∷ []) → a && (b && x) ≡ false
-unfolding firstUnmet
-one-fails true true x l e = absurd (l e)
-one-fails true false x l e = refl
-one-fails false b x l e = refl
+ordered : (c : tie.Then1) → inOrder (c .before .before .before .args .node) ≡ true
+ordered c = sym (c .before .before .before .pre) ∙ c .if1 .taken
 
-both-hold : (a b : Bool) {r : ℕ} → r ≡ 0 → r ≡ firstUnmet (need outOfOrder a ∷ need wrongStore b ∷ []) → (a ≡ true) × (b ≡ true)
-unfolding firstUnmet
-both-hold true true z e = (refl, refl)
-both-hold true false z e = absurd (omega arith)
-both-hold false b z e = absurd (omega arith)
+hears : (c : tie.Then2) → let a = c .before .before .before .before .before .args in rightStore (a .node) (now (a .incoming)) ≡ true
+unfolding rightStore
+hears c = sym (c .before .is-store .ensures) ∙ c .if2 .taken
 
-order-and-store-requires : tie.Need-order-and-store-requires
-order-and-store-requires c κs = search needs
+is-store-requires : tie.Need-is-store-requires
+is-store-requires c κs = search needs
 
-returns : tie.Need-returns
-unfolding showable
-returns c = sym (one-fails _ _ _ (c .if1 .taken) (c .before .order-and-store .ensures))
-
-returns-2 : tie.Need-returns-2
-unfolding showable rightStore
-returns-2 c =
-    let (order, right) = both-hold _ _ (c .before .if1 .left) (c .before .before .order-and-store .ensures) in
-    simp (order, right, ne-eqb _ _ (λ z. c .if2 .taken (z ∙ sym (eqb-yes (yes-of right)))))
+is-store-requires-2 : tie.Need-is-store-requires-2
+is-store-requires-2 c κs = search needs
 
 cast-result : tie.Need-cast-result
 cast-result c = search needs
 
+returns : tie.Need-returns
+unfolding showable rightStore
+returns c = let t = c .before .before in
+    simp (ordered (t .before .before), hears t, sym (c .before .is-store2 .ensures) ∙ c .if3 .taken)
+
+returns-2 : tie.Need-returns-2
+unfolding showable rightStore
+returns-2 c = let t = c .before .before in
+    simp (ordered (t .before .before), hears t, sym (c .before .is-store2 .ensures) ∙ c .if3 .left)
+
 returns-3 : tie.Need-returns-3
 unfolding showable rightStore
-returns-3 c =
-    let (order, right) = both-hold _ _ (c .before .if1 .left) (c .before .before .order-and-store .ensures) in
-    simp (order, right, c .if2 .left)
+returns-3 c = simp (ordered (c .before .before), sym (c .before .is-store .ensures) ∙ c .if2 .left)
+
+returns-4 : tie.Need-returns-4
+unfolding showable
+returns-4 c = simp (sym (c .before .before .before .pre) ∙ c .if1 .left)
 
 pub showable-spec : {M : Type 1} → statement M
 showable-spec =
-    tie.close (tie.spec order-and-store-requires returns returns-2 cast-result returns-3)
+    tie.close
+    (tie.spec
+    is-store-requires
+    is-store-requires-2
+    cast-result
+    returns
+    returns-2
+    returns-3
+    returns-4)
