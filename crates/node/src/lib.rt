@@ -5,7 +5,7 @@ mod places;
 mod refusals;
 mod round;
 
-ghost use Rattle.node.specs.Promises.{SetUpPromise, FramePromise, TickPromise, SendPromise, TurnPromise, ShowPromise, NeededPromise};
+ghost use Rattle.node.specs.Promises.{lent, SetUpPromise, FramePromise, TickPromise, SendPromise, TurnPromise, ShowPromise, NeededPromise};
 ghost use mathlib.Core.Path.{_≡_};
 ghost use mathlib.Core.Bool.{true};
 ghost use mathlib.Core.List.{List};
@@ -16,7 +16,6 @@ ghost use Rattle.rules.specs.Ranges.{inOrder};
 ghost use Rattle.rules.specs.Turns.{lengthSending};
 ghost use Rattle.rules.specs.Stores.{passedOver};
 ghost use Rattle.rules.specs.Refusals.{toHear, turn, refusal};
-ghost use Rattle.node.specs.Promises.{lent};
 use rules::Berth;
 use rules::Codes;
 use rules::FrameAnswer;
@@ -187,6 +186,7 @@ pub fn tick(node: Node) -> TickOut
     }
 }
 
+// The berth is read before the order is tested: that spares a copy of the node.
 pub fn send(node: Node, outgoing: &mut [u8], berth: u32, message: &[u8]) -> SendOut
     ensures { λ r. ⌜ SendPromise node (now (outgoing .entry)) berth (now (message .entry)) (r .answer) (r .node) (now (outgoing .exit)) ⌝ }
 {
@@ -208,8 +208,8 @@ pub fn send(node: Node, outgoing: &mut [u8], berth: u32, message: &[u8]) -> Send
     }
     let lo = places::of_area(at, node.settings.area);
     let hi = lo + node.settings.area as usize;
-    let mut n = node;
     bytes::copy(message, &mut outgoing[lo..hi]);
+    let mut n = node;
     n.berths[at] = berth::turns::sent(one, message.len() as u32);
     SendOut {
         answer: SendAnswer::Sent(berth as u8),

@@ -1,8 +1,10 @@
 -- Settings that are allowed fit their bytes; the fresh node is the rule's.
 use native.Mathlib.Omega.{arith}
 use mathlib.Core.Logic.{⊎-elim}
-use mathlib.Core.Path.{sym, refl, _∙_}
+use mathlib.Core.Path.{_≡_, sym, refl, _∙_}
+use mathlib.Core.Bool.{true}
 use borrow.Author.Needs.{needs}
+use Rattle.rules.specs.Ranges.{SettingsRange, settingsAllowed}
 use Rattle.rules.proofs.Cases.{yes-of}
 use Rattle.rules.specs.Refusals.{setUpRefusal}
 use Rattle.rules.specs.Answers.{setUpSays}
@@ -13,21 +15,27 @@ use Rattle.rules.proofs.Ranges.{settings-range}
 use Rattle.node.proofs.set_up.Statement.{statement}
 use Rattle.node.proofs.set_up.Tie as tie
 
+allowed : (c : tie.Then1) → let a = c .before .before .args in settingsAllowed (a .area) (a .block) (a .stmin) ≡ true
+allowed c = sym (c .before .settings-allowed .ensures) ∙ c .if1 .taken
+
+range : (c : tie.Then1) → let a = c .before .before .args in SettingsRange (a .area) (a .block) (a .stmin)
+range c = let a = c .before .before .args in settings-range (a .area) (a .block) (a .stmin) (yes-of (allowed c))
+
 settings-allowed-requires : tie.Need-settings-allowed-requires
 settings-allowed-requires c κs = search needs
 
 cast-t10 : tie.Need-cast-t10
-cast-t10 c = let range = settings-range (c .before .before .args .area) (c .before .before .args .block) (c .before .before .args .stmin) (yes-of (sym (c .before .settings-allowed .ensures) ∙ c .if1 .taken)) in record { fits = omega (arith, range .block-most) }
+cast-t10 c = omega (arith, range c .block-most)
 
 cast-t11 : tie.Need-cast-t11
-cast-t11 c = let range = settings-range (c .before .before .args .area) (c .before .before .args .block) (c .before .before .args .stmin) (yes-of (sym (c .before .settings-allowed .ensures) ∙ c .if1 .taken)) in record { fits = ⊎-elim (λ h. omega arith) (λ h. omega arith) (range .stmin-allowed) }
+cast-t11 c = ⊎-elim (λ h. omega arith) (λ h. omega arith) (range c .stmin-allowed)
 
 sub-t10 : tie.Need-sub-t10
 sub-t10 c = search needs
 
 returns : tie.Need-returns
 unfolding setUpOutcome setUpRefusal setUpSays setUpNode
-returns c = λ incoming outgoing. rw (← meets _ _ (sym (c .before .settings-allowed .ensures) ∙ c .if1 .taken) all-met) (agrees refl)
+returns c = λ incoming outgoing. rw (← meets _ _ (allowed c) all-met) (agrees refl)
 
 returns-2 : tie.Need-returns-2
 unfolding setUpOutcome setUpRefusal setUpSays refusedOutcome

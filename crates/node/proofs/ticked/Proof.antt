@@ -1,25 +1,19 @@
 -- The invariant: the first i berths and codes are those after the tick, the others as they were.
-use Rattle.rules.specs.Answers.{tickSays}
-use mathlib.Core.Path.{sym, _∙_}
-use lib.ListN.{length-map}
+use Prim.Native.Nat.{_≤_, _-_}
 use native.Mathlib.Omega.{arith}
-use Rattle.rules.specs.declared.Berth.{Berth}
-use Rattle.rules.specs.Ranges.{fresh}
-use Rattle.node.proofs.Lists.{filled-more, filled-next, filled-all}
-use Rattle.node.proofs.Outcomes.{meets, all-met, does}
-use Rattle.rules.specs.Refusals.{refusal, needs as needsOf, tick}
-use Rattle.rules.specs.Stores.{tickedNode}
-use Rattle.rules.specs.Calls.{done, reply, written}
-use Rattle.node.specs.Promises.{lent}
+use mathlib.Core.Path.{_≡_, refl, sym, _∙_}
+use lib.ListN.{length, length-map}
 use borrow.Author.Needs.{needs}
-use mathlib.Core.Path.{refl, _≡_}
-use Prim.Native.Nat.{ℕ, _≤_, _<_, _-_}
-use Rattle.node.proofs.Lists.{filled}
 use Rattle.rules.specs.Numbers.{berthCount}
-use lib.ListN.{length}
-use Rattle.node.specs.Promises.{noCodes}
+use Rattle.rules.specs.Ranges.{fresh}
 use Rattle.rules.specs.Ticks.{ticked}
-use Rattle.rules.specs.Calls.{codesOf}
+use Rattle.rules.specs.Stores.{tickedNode}
+use Rattle.rules.specs.Answers.{tickSays}
+use Rattle.rules.specs.Refusals.{refusal, needs as needsOf, tick}
+use Rattle.rules.specs.Calls.{codesOf, done, reply, written}
+use Rattle.node.proofs.Lists.{filled, filled-more, filled-next, filled-all}
+use Rattle.node.proofs.Outcomes.{meets, all-met, does}
+use Rattle.node.specs.Promises.{lent, noCodes}
 use Rattle.node.proofs.ticked.Statement.{statement}
 use Rattle.node.proofs.ticked.Tie as tie
 
@@ -82,9 +76,7 @@ returns c = let s = c .before in
     let node = s .before .args .node in
     let i = s .loop .i in
     record {
-      agrees = λ incoming outgoing. does (lent node incoming outgoing) tick
-          refl
-          (meets _ _ (s .before .pre) all-met)
+      agrees = λ incoming outgoing. does (lent node incoming outgoing) tick refl (meets _ _ (s .before .pre) all-met)
           (rw (s .loop .inv .2, s .loop .inv .3, filled-all ticked (node .berths) (node .berths) i (omega arith) (omega arith), filled-all codesOf (node .berths) noCodes i (omega arith) (omega arith)));
       beside = tt;
     }
