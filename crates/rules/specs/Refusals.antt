@@ -31,7 +31,7 @@ senderOf id = id - fromBerth
 abbrev pub orderAndStore : Node → List ℕ → List Need
 orderAndStore n store = need outOfOrder (inOrder n) ∷ need wrongStore (rightStore n store) ∷ []
 
--- what a frame needs before it is looked into: an identifier of the ten, and at most eight bytes
+-- what a frame needs before it is looked into: besides, an identifier of the ten, and at most eight bytes
 abbrev pub toHear : Node → List ℕ → ℕ → List ℕ → List Need
 toHear n incoming id d =
     orderAndStore n incoming
