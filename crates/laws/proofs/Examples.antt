@@ -7,11 +7,11 @@ use lib.ListN.{set, replicate}
 use lib.Dec.{lit<, lit≤}
 use Rattle.rules.specs.Tests.{all, each, firstUnmet}
 use Rattle.rules.specs.Numbers.{berthCount}
-use Rattle.rules.specs.Ranges.{stminAllowed, settingsAllowed, inBlock, takingInRange, rxInRange, sendingInRange, txInRange, berthInOrder, fresh, berthAt, inOrder}
+use Rattle.rules.specs.Ranges.{settingsAllowed, inBlock, takingInRange, sendingInRange, berthInOrder, fresh, berthAt, inOrder}
 use Rattle.rules.specs.Frames.{kind, low, singleFits, shortLength, escapeLength, announced, firstFits, consecutiveFits, flowFits, padded, singleFrame, firstFrame, consecutiveFrame, goFrame, firstSn, nextSn, counted, fillsBlock, gapOf, share}
-use Rattle.rules.specs.Arrivals.{ignored, oldCode, singleCame, taking, begun, firstCame, missing, piece, grown, completed, afterTook, took, wrongSn, awaitedCame, consecutiveCame, granted, byStatus, flowCame, heardBy, toldBy, byKind, frameCame}
-use Rattle.rules.specs.Ticks.{ran, rxTicked, rxCode, closer, txTicked, txCode, ticked}
-use Rattle.rules.specs.Turns.{flowDue, messageDue, due, flowFrame, newBlock, afterFlow, toGo, messageFrame, messageCode, opened, moved, afterConsecutive, afterMessage, handOver, beginsWith, sent as sentBerth, busy}
+use Rattle.rules.specs.Arrivals.{ignored, singleCame, begun, firstCame, piece, grown, completed, afterTook, took, wrongSn, awaitedCame, granted, byStatus, heardBy, toldBy, byKind, frameCame}
+use Rattle.rules.specs.Ticks.{ran, ticked}
+use Rattle.rules.specs.Turns.{due, moved, afterConsecutive, handOver, beginsWith, sent as sentBerth}
 use Rattle.rules.specs.Stores.{Held, rightStore, areaOf, stored, inside, withBerth, tickedNode, servedNode, setUpNode, distance, leastDistance, passedOver, reached, cameAt, handedAt}
 use Rattle.rules.specs.Answers.{refused, heard, codes, sent, handed, shown, receive, reported, failedSide, wordReports, codesReports, reports}
 use Rattle.rules.specs.Refusals.{Call, frame, tick, send, turn, show, needs, refusal}
@@ -55,7 +55,7 @@ twoRun =
     ∷ show 5 false ∷ []
 
 pub two-sound : Sound two
-unfolding inOrder all each settingsAllowed stminAllowed berthInOrder rxInRange txInRange takingInRange inBlock
+unfolding inOrder all each settingsAllowed berthInOrder takingInRange inBlock
 two-sound = record { order = in-order-range (two .node) tt; incoming = refl; outgoing = refl }
 
 -- the answers; what is berth 3's own, and what is berth 5's: the refused call is in neither
@@ -65,7 +65,7 @@ pub two-computed : (answers two twoRun
     ∷ codes (set (replicate 10 (pairOf 0 0)) 3 (pairOf 4 0)) ∷ shown (0xAA ∷ 0xBB ∷ []) ∷ [])
     × (owns 3 two twoRun ≡ arrives (0x70 ∷ []) ∷ ticks ∷ ticks ∷ [])
     × (owns 5 two twoRun ≡ sends (1 ∷ 2 ∷ 3 ∷ []) ∷ ticks ∷ turns ∷ arrives (0x02 ∷ 0xAA ∷ 0xBB ∷ []) ∷ ticks ∷ [])
-unfolding owns own ownDone answers final done reply written outcome refusedOutcome refusal needs firstUnmet rightStore inside berthAt busy inOrder all each settingsAllowed stminAllowed berthInOrder rxInRange txInRange takingInRange sendingInRange inBlock afterFrame cameAt frameCame byKind kind low heardBy toldBy ignored singleCame singleFits oldCode withBerth stored tickedNode ticked rxTicked txTicked ran rxCode txCode codesOf sentBerth beginsWith passedOver leastDistance distance due flowDue messageDue reached servedNode handedAt handOver areaOf afterFlow flowFrame afterMessage messageFrame messageCode singleFrame padded showing showable shownLength
+unfolding owns own ownDone answers final done reply written outcome refusedOutcome refusal needs firstUnmet rightStore inside berthAt inOrder all each settingsAllowed berthInOrder takingInRange sendingInRange inBlock afterFrame cameAt frameCame byKind kind low heardBy toldBy ignored singleCame singleFits withBerth stored tickedNode ticked ran codesOf sentBerth beginsWith passedOver leastDistance distance due reached servedNode handedAt handOver areaOf singleFrame padded showing showable shownLength
 two-computed = (refl, refl, refl)
 
 -- so each is as it would be alone
@@ -92,7 +92,7 @@ crowdRun = replicate 10 (turn blank)
 pub crowd-computed : (over turnOf (answers crowd crowdRun)
     ≡ served 5 ∷ served 6 ∷ served 7 ∷ served 8 ∷ served 9 ∷ served 0 ∷ served 1 ∷ served 2 ∷ served 3 ∷ served 4 ∷ [])
     × StaysDue 4 crowd crowdRun
-unfolding StaysDue over turnOf answers final done reply written outcome refusedOutcome refusal needs firstUnmet rightStore inside berthAt busy inOrder all each settingsAllowed stminAllowed berthInOrder rxInRange txInRange takingInRange sendingInRange inBlock afterFrame cameAt frameCame byKind kind low heardBy toldBy ignored singleCame singleFits oldCode withBerth stored tickedNode ticked rxTicked txTicked ran rxCode txCode codesOf sentBerth beginsWith passedOver leastDistance distance due flowDue messageDue reached servedNode handedAt handOver areaOf afterFlow flowFrame afterMessage messageFrame messageCode singleFrame padded showing showable shownLength
+unfolding StaysDue over turnOf answers final done reply written outcome refusedOutcome refusal needs firstUnmet rightStore inside berthAt inOrder all each settingsAllowed berthInOrder takingInRange sendingInRange inBlock afterFrame cameAt frameCame byKind kind low heardBy toldBy ignored singleCame singleFits withBerth stored tickedNode ticked ran codesOf sentBerth beginsWith passedOver leastDistance distance due reached servedNode handedAt handOver areaOf singleFrame padded showing showable shownLength
 crowd-computed = (refl, ((λ e. tt), ((λ e. tt), ((λ e. tt), ((λ e. tt), ((λ e. tt), ((λ e. tt), ((λ e. tt), ((λ e. tt), ((λ e. tt), ((λ e. tt), tt)))))))))))
 
 pub crowd-fair : Fair 4 (over turnOf (answers crowd crowdRun))
@@ -125,7 +125,7 @@ deeds =
     atA (turn blank) ∷ carryB ∷ []
 
 may-begin : MayBegin 2 7 programme scheduler mast
-unfolding setUpNode berthAt inOrder all each settingsAllowed stminAllowed berthInOrder rxInRange txInRange
+unfolding setUpNode berthAt inOrder all each settingsAllowed berthInOrder
 may-begin =
     record {
       small-i = lit< tt;
@@ -153,7 +153,7 @@ pub deeds-computed : AllApart 2 7 (begin 2 programme scheduler mast) deeds
     ∷ back (0x30 ∷ 2 ∷ 2 ∷ 0xCC ∷ 0xCC ∷ 0xCC ∷ 0xCC ∷ 0xCC ∷ [])
     ∷ there (0x25 ∷ 35 ∷ 36 ∷ 0xCC ∷ 0xCC ∷ 0xCC ∷ 0xCC ∷ 0xCC ∷ [])
     ∷ [])
-unfolding gapLeft AllApart spares frameSide living acts callA callB carriedA carriedB framesBy handedSide ofSide ofBerth only reports reported wordReports codesReports failedSide heardOf deliveredIn over answers final done reply written outcome refusedOutcome refusal needs firstUnmet rightStore inside berthAt busy inOrder all each settingsAllowed stminAllowed berthInOrder rxInRange txInRange takingInRange sendingInRange inBlock afterFrame cameAt frameCame byKind kind low heardBy toldBy ignored singleCame singleFits oldCode withBerth stored tickedNode ticked rxTicked txTicked ran rxCode txCode codesOf sentBerth beginsWith passedOver leastDistance distance due flowDue messageDue reached servedNode handedAt handOver areaOf afterFlow flowFrame afterMessage messageFrame messageCode singleFrame padded showing showable shownLength setUpNode firstCame shortLength escapeLength announced firstFits begun taking consecutiveCame awaitedCame consecutiveFits missing piece grown completed afterTook took wrongSn counted fillsBlock nextSn share flowCame flowFits byStatus granted gapOf newBlock goFrame firstFrame consecutiveFrame toGo opened moved afterConsecutive closer
+unfolding gapLeft AllApart spares frameSide living acts callA callB carriedA carriedB framesBy handedSide ofSide ofBerth only reports reported wordReports codesReports failedSide heardOf deliveredIn over answers final done reply written outcome refusedOutcome refusal needs firstUnmet rightStore inside berthAt inOrder all each settingsAllowed berthInOrder takingInRange sendingInRange inBlock afterFrame cameAt frameCame byKind kind low heardBy toldBy ignored singleCame singleFits withBerth stored tickedNode ticked ran codesOf sentBerth beginsWith passedOver leastDistance distance due reached servedNode handedAt handOver areaOf singleFrame padded showing showable shownLength setUpNode firstCame shortLength escapeLength announced firstFits begun awaitedCame consecutiveFits piece grown completed afterTook took wrongSn counted fillsBlock nextSn share flowFits byStatus granted gapOf goFrame firstFrame consecutiveFrame moved afterConsecutive
 deeds-computed = (
   ((λ e. tt), ((λ e. tt), (tt, ((λ e. tt), ((λ e. tt), ((λ e. tt), ((λ e. tt), (tt, ((λ e. tt), ((λ e. tt), (tt, ((λ e. tt), ((λ e. tt), ((λ e. tt), ((λ e. tt), ((λ e. tt), (tt, ((λ e. tt), (tt, ((λ e. tt), (tt, ((λ e. tt), ((λ e. tt), ((λ e. tt), ((λ e. tt), ((λ e. tt), (tt, ((λ e. tt), (tt, ((λ e. tt), (tt, tt))))))))))))))))))))))))))))))),
   record { none-there = refl; none-back = refl; none-due = refl; no-gap = refl; no-flow = refl },

@@ -10,7 +10,7 @@ use lib.Dec.{T, eqb, ltb}
 use Rattle.rules.specs.Tests.{unless}
 use Rattle.rules.specs.Numbers.{berthCount, toBerth}
 use Rattle.rules.specs.Ranges.{fresh, berthAt, inOrder}
-use Rattle.rules.specs.Ticks.{ticked, rxTicked, txTicked, rxCode, txCode}
+use Rattle.rules.specs.Ticks.{ticked, rxTicked, txTicked}
 use Rattle.rules.specs.Turns.{sent as sentBerth}
 use Rattle.rules.specs.Stores.{Held, withBerth, tickedNode, servedNode, passedOver, reached, cameAt, handedAt}
 use Rattle.rules.specs.Answers.{receive}
@@ -47,7 +47,7 @@ module _ (k : ℕ) (n : Node) (j : ℕ) (b : Berth) where
 
 -- a fresh berth has no codes
 codes-fresh : codesOf fresh ≡ noCodes
-unfolding codesOf rxCode txCode
+unfolding codesOf
 codes-fresh = refl
 
 -- ---- berth k's part after an answered call

@@ -12,7 +12,7 @@ use lib.Dec.{T, eqb, ltb, leb}
 use Rattle.rules.specs.Tests.{pick}
 use Rattle.rules.specs.Numbers.{timeout, flowKind, frameLength, singleMost, firstBytes, consecutiveMost, leastLong, shortMost, longestGap, mostMillis, leastFraction, mostFraction, N-OK}
 use Rattle.rules.specs.Frames.{kind, low, consecutiveFits, flowFits, padded, goFrame, nextSn, counted, fillsBlock, gapOf, share, framesOf}
-use Rattle.rules.specs.Arrivals.{Came, oldCode, singleCame, firstCame, taking, begun, missing, piece, grown, completed, afterTook, took, awaitedCame, consecutiveCame, granted, byStatus, flowCame, heardBy, toldBy, byKind, frameCame}
+use Rattle.rules.specs.Arrivals.{Came, singleCame, firstCame, taking, begun, missing, piece, grown, completed, afterTook, took, awaitedCame, granted, byStatus, heardBy, toldBy, byKind, frameCame}
 use Rattle.rules.specs.Ticks.{ran, rxTicked, rxCode, closer, txTicked, txCode}
 use Rattle.rules.specs.Turns.{flowDue, messageDue, flowFrame, newBlock, afterFlow, toGo, messageFrame, messageCode, opened, moved, afterConsecutive, afterMessage, beginsWith}
 use Rattle.rules.specs.Answers.{receive, send, Report, reported, wordReports}
@@ -296,17 +296,14 @@ module _ (i j : ℕ) (set : Settings) (n : ℕ) (out : List ℕ) (E : List Hande
   ran-on on ended t c k = rw (ran-short t c k)
 
   closer-at : (o : Sending) (k : ℕ) → SendAt n o k → SendAt n (closer o) k
-  unfolding closer
   closer-at o k s = record { length = s .length; position = s .position; sn = s .sn; more = s .more }
 
   pub gap-falls : (o : Sending) → closer o .left ≡ o .left - 1
-  unfolding closer
   gap-falls o = refl
 
   -- a tick while a gap is left
   pub gap-closes : (q : List (List ℕ)) (o : Sending) (p : Taking) (ina : List ℕ) (k c l : ℕ) (g : List Handed)
       → InBlock q o p ina k c l g → InBlock q (closer o) p ina k c l g
-  unfolding closer
   gap-closes q o p ina k c l g r =
       record {
         queued = r .queued;
@@ -321,7 +318,6 @@ module _ (i j : ℕ) (set : Settings) (n : ℕ) (out : List ℕ) (E : List Hande
       }
 
   pub ticks-S : (l : Line) (m : ℕ) → txCode (l .tx) ≡ 0 → Phase l m → NoFarther m (tickS l)
-  unfolding txTicked txCode
   ticks-S l m k (single-ready t last ina a b e) = rw (ran-on (λ u. Tx.SingleDue n u) Tx.Idle t 1 k) (stays (single-ready (t + 1) last ina a b e))
   ticks-S l m k (single-sent last ina g a b e) = (stays (single-sent last ina g a b e))
   ticks-S l m k (first-ready t last ina h a b c e) = rw (ran-on (λ u. Tx.FirstDue n u) Tx.Idle t 1 k) (stays (first-ready (t + 1) last ina h a b c e))
@@ -345,7 +341,6 @@ module _ (i j : ℕ) (set : Settings) (n : ℕ) (out : List ℕ) (E : List Hande
   ticks-S l m k (arrived ina g a e) = (stays (arrived ina g a e))
 
   pub ticks-R : (l : Line) (m : ℕ) → rxCode (l .rx) ≡ 0 → Phase l m → NoFarther m (tickR l)
-  unfolding rxTicked rxCode
   ticks-R l m k (single-ready t last ina a b e) = (stays (single-ready t last ina a b e))
   ticks-R l m k (single-sent last ina g a b e) = (stays (single-sent last ina g a b e))
   ticks-R l m k (first-ready t last ina h a b c e) = (stays (first-ready t last ina h a b c e))
@@ -365,15 +360,14 @@ module _ (i j : ℕ) (set : Settings) (n : ℕ) (out : List ℕ) (E : List Hande
   -- ---- a frame of the message is handed over
 
   frame-of : (o : Sending) (t k : ℕ) → SendAt n o k → messageFrame (Tx.Consecutive o t) out ≡ frameAt n out k
-  unfolding messageFrame frameAt partAt toGo
+  unfolding frameAt partAt
   frame-of o t k s = rw (s .length, s .position, s .sn)
 
   to-go : (o : Sending) (k : ℕ) → SendAt n o k → toGo o ≡ n - posAt k
-  unfolding toGo
   to-go o k s = ap₂ (λ (a b : ℕ). a - b) (s .length) (s .position)
 
   sent-on : (o : Sending) (k k′ count left : ℕ) → SendAt n o k → k′ ≡ k + 1 → posAt k′ < n → SendAt n (moved o count left) k′
-  unfolding moved toGo share posAt
+  unfolding moved share posAt
   sent-on o k k′ count left s e m =
       record { length = s .length; position = omega (arith, s .position, s .length, m, e); sn = ap nextSn (s .sn) ∙ sn-next k ∙ ap snAt (sym e); more = m }
 
@@ -393,7 +387,7 @@ module _ (i j : ℕ) (set : Settings) (n : ℕ) (out : List ℕ) (E : List Hande
   hand-on : (o : Sending) (t : ℕ) (q : List (List ℕ)) (p : Taking) (u last : ℕ) (ina : List ℕ) (k c l : ℕ) (g : List Handed)
       → InBlock q o p ina k c l g
       → Nearer (pace * suc l + (o .left + c)) (handS (under-way (Tx.Consecutive o t) q [] g (Rx.Awaits p u) last ina))
-  unfolding afterMessage afterConsecutive messageCode reported moved
+  unfolding afterConsecutive reported moved
   hand-on o t q p u last ina k c zero g r =
       let d : leb (toGo o) consecutiveMost ≡ true = leb-is (toGo o) consecutiveMost (unfold posAt in (omega (arith, to-go o (k + c) (r .sender), r .ahead .last))) in
       let log : g ++ (there (messageFrame (Tx.Consecutive o t) out) ∷ []) ≡ E =
@@ -468,16 +462,15 @@ module _ (i j : ℕ) (set : Settings) (n : ℕ) (out : List ℕ) (E : List Hande
               (omega (arith, counted-on (o .block) (o .sent) v), omega (arith, counted-on (o .block) (o .sent) v))
 
   open-at : leastLong ≤ n → SendAt n (opened n) 0
-  unfolding opened posAt snAt
+  unfolding posAt snAt
   open-at h = record { length = refl; position = refl; sn = refl; more = omega arith }
 
   pub hands-S : (l : Line) (m : ℕ) → T (messageDue (l .tx)) → Phase l m → Nearer m (handS l)
-  unfolding messageDue
   hands-S l m t (single-ready u last ina a b e) =
-      unfold afterMessage messageFrame messageCode singleOf in (nearer (single-sent last ina _ a b e) (omega arith))
+      unfold singleOf in (nearer (single-sent last ina _ a b e) (omega arith))
   hands-S l m t (single-sent last ina g a b e) = absurd t
   hands-S l m t (first-ready u last ina h a b c e) =
-      unfold afterMessage messageFrame messageCode reported firstOf in (nearer (first-sent (opened n) 0 last ina h _ a b (open-at a) c e) (omega arith))
+      unfold reported firstOf in (nearer (first-sent (opened n) 0 last ina h _ a b (open-at a) c e) (omega arith))
   hands-S l m t (first-sent o u last ina h g a b c d e) = absurd t
   hands-S l m t (go-owed o u p v last ina f h g a b c e) = absurd t
   hands-S l m t (go-sent o u p v last ina f h g a b c d e) = absurd t
@@ -489,18 +482,16 @@ module _ (i j : ℕ) (set : Settings) (n : ℕ) (out : List ℕ) (E : List Hande
   -- ---- flow control is handed over
 
   new-block-at : (p : Taking) (k : ℕ) (ina : List ℕ) → TakeAt n out p k ina → TakeAt n out (newBlock p) k ina
-  unfolding newBlock
   new-block-at p k ina r = record { total = r .total; got = r .got; sn = r .sn; more = r .more; fits = r .fits; same = r .same }
 
   pub hands-R : (l : Line) (m : ℕ) → T (flowDue (l .rx)) → Phase l m → Nearer m (handR l)
-  unfolding flowDue
   hands-R l m t (single-ready u last ina a b e) = absurd t
   hands-R l m t (single-sent last ina g a b e) = absurd t
   hands-R l m t (first-ready u last ina h a b c e) = absurd t
   hands-R l m t (first-sent o u last ina h g a b c d e) = absurd t
   hands-R l m t (go-owed o u p v last ina f h g a b c e) =
-      unfold flowFrame afterFlow in (nearer (go-sent o u (newBlock p) 0 last ina f h _ a (new-block-at p f ina b) (unfold newBlock in refl) c
-      (append-snoc g (back (goFrame set)) (rest 0 f h) ∙ e)) (omega arith))
+      nearer (go-sent o u (newBlock p) 0 last ina f h _ a (new-block-at p f ina b) refl c
+      (append-snoc g (back (goFrame set)) (rest 0 f h) ∙ e)) (omega arith)
   hands-R l m t (go-sent o u p v last ina f h g a b c d e) = absurd t
   hands-R l m t (in-block o u q p v last ina f c h g r) = absurd t
   hands-R l m t (block-full o u q p v last ina f c h g r) = absurd t
@@ -522,7 +513,7 @@ module _ (i j : ℕ) (set : Settings) (n : ℕ) (out : List ℕ) (E : List Hande
         place = 0;
         bytes = [];
       }
-  unfolding frameCame byKind toldBy flowCame flowFits byStatus kind low goFrame padded
+  unfolding frameCame byKind toldBy flowFits byStatus kind low goFrame padded
   went setS o t = refl
 
   no-shift : (f : ℕ) → f + 0 ≡ f
@@ -571,7 +562,6 @@ module _ (i j : ℕ) (set : Settings) (n : ℕ) (out : List ℕ) (E : List Hande
 
   module _ (fit : n ≤ length out) where
     missing-at : (p : Taking) (k : ℕ) (ina : List ℕ) → TakeAt n out p k ina → missing p ≡ n - posAt k
-    unfolding missing
     missing-at p k ina r = ap₂ (λ (a b : ℕ). a - b) (r .total) (r .got)
 
     piece-at : (p : Taking) (k : ℕ) (ina : List ℕ) → TakeAt n out p k ina → piece p (frameAt n out k) ≡ partAt n out k
@@ -584,7 +574,7 @@ module _ (i j : ℕ) (set : Settings) (n : ℕ) (out : List ℕ) (E : List Hande
         → frameCame set (record { rx = Rx.Awaits p u; last = last; tx = Tx.Idle }) (frameAt n out k)
         ≡ heardBy (record { rx = Rx.Awaits p u; last = last; tx = Tx.Idle })
         (pick (leb (missing p) consecutiveMost) (completed p (frameAt n out k)) (took set p last (frameAt n out k)))
-    unfolding frameCame byKind consecutiveCame awaitedCame consecutiveFits
+    unfolding frameCame byKind awaitedCame consecutiveFits
     heard-right p u last ina k r =
         rw (frame-length n out fit k, frame-kind n out fit k, eqb-is (low (frameAt n out k)) (p .sn .0) (frame-low n out fit k ∙ sym (ap (λ (x : Sn). x .0) (r .sn))))
 
@@ -721,7 +711,7 @@ module _ (i j : ℕ) (set : Settings) (n : ℕ) (out : List ℕ) (E : List Hande
         rw (zero-add k) at (extended ina 0 (take k out) k (length-take-le k out (omega arith)) (omega arith))
 
     taking-at : leastLong ≤ n → (ina : List ℕ) → n ≤ length ina → TakeAt n out (taking n) 0 (sets ina 0 (take firstBytes out))
-    unfolding taking posAt snAt
+    unfolding posAt snAt
     taking-at a ina b =
         record { total = refl; got = refl; sn = refl; more = omega arith; fits = rw length-sets b; same = front ina firstBytes (omega arith) b }
 
@@ -729,14 +719,14 @@ module _ (i j : ℕ) (set : Settings) (n : ℕ) (out : List ℕ) (E : List Hande
       pub heard-single : n ≤ singleMost → (last : ℕ)
           → frameCame set (record { rx = Rx.Idle; last = last; tx = Tx.Idle }) (singleOf n out)
           ≡ record { berth = record { rx = Rx.Idle; last = n; tx = Tx.Idle }; old = 0; word = Delivered n; place = 0; bytes = take n out }
-      unfolding frameCame byKind heardBy singleCame oldCode
+      unfolding frameCame byKind heardBy singleCame
       heard-single b last =
           rw (single-length n out fit b, single-kind n out fit b, single-fits n out fit some b, single-low n out fit b, single-data n out fit)
 
       pub heard-first : leastLong ≤ n → (last : ℕ)
           → frameCame set (record { rx = Rx.Idle; last = last; tx = Tx.Idle }) (firstOf n out)
           ≡ record { berth = record { rx = Rx.OwesGo (taking n) 0; last = 0; tx = Tx.Idle }; old = 0; word = Begun n; place = 0; bytes = take firstBytes out }
-      unfolding frameCame byKind heardBy firstCame begun oldCode
+      unfolding frameCame byKind heardBy firstCame begun
       heard-first a last =
           let c : n ≤ shortMost = omega arith in
           rw (first-length n out fit, first-kind n out fit c, first-fits n out fit a c, first-announced n out fit a c, ltb-not (set .area) n in-area, first-data n out fit a)
@@ -833,7 +823,7 @@ module _ (i j : ℕ) (set : Settings) (n : ℕ) (out : List ℕ) (E : List Hande
 
   pub at-rest : (l : Line) (m : ℕ) → Phase l m → l .toR ≡ [] → l .toS ≡ [] → messageDue (l .tx) ≡ false → gapLeft (l .tx) ≡ 0
       → flowDue (l .rx) ≡ false → Landed l
-  unfolding messageDue flowDue gapLeft span
+  unfolding gapLeft span
   at-rest l m (single-ready t last ina a b e) r s due gap flow = let z : _≡_ {A = ℕ} 0 1 = cc in absurd (omega arith)
   at-rest l m (single-sent last ina g a b e) r s due gap flow = absurd (nil≢cons (sym r))
   at-rest l m (first-ready t last ina h a b c e) r s due gap flow = let z : _≡_ {A = ℕ} 0 1 = cc in absurd (omega arith)

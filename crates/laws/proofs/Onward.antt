@@ -10,7 +10,7 @@ use lib.Dec.{T, eqb, ltb}
 use Rattle.rules.specs.Numbers.{timeout, longestGap, shortMost}
 use Rattle.rules.specs.Frames.{fillsBlock}
 use Rattle.rules.specs.Arrivals.{frameCame}
-use Rattle.rules.specs.Ticks.{ran, rxTicked, rxCode, closer, txTicked, txCode}
+use Rattle.rules.specs.Ticks.{ran, rxCode, closer, txCode}
 use Rattle.rules.specs.Turns.{flowDue, messageDue, afterFlow}
 use Rattle.rules.specs.declared.Settings.{Settings}
 use Rattle.rules.specs.declared.Taking.{Taking}
@@ -45,7 +45,7 @@ snoc-some [] x e = nil≢cons (sym e)
 snoc-some (y ∷ xs) x e = nil≢cons (sym e)
 
 flow-timer : (rx : Rx) → T (flowDue rx) → timer (afterFlow rx) ≡ 0
-unfolding flowDue afterFlow timer
+unfolding timer
 flow-timer Rx.Idle t = absurd t
 flow-timer (Rx.OwesOverflow u) t = refl
 flow-timer (Rx.OwesGo p u) t = refl
@@ -149,14 +149,14 @@ module _ (i j : ℕ) (set : Settings) (n : ℕ) (out : List ℕ) (E : List Hande
         → (Phase i j set n out E (under-way i j set n out E (Tx.Consecutive (closer o) t) q [] g (Rx.Awaits p (u + 1)) last ina) m)
         → (m′ : ℕ) → m < m′
         → Next (under-way i j set n out E (Tx.Consecutive o t) q [] g (Rx.Awaits p u) last ina) m′
-    unfolding txCode rxCode txTicked rxTicked ran
+    unfolding ran
     waits o t q p u last ina k l m g empty ne left young ph m′ less =
         let y : u + o .left ≤ longestGap = unfold timer gapNow in (young empty) in
         let short : ltb (u + 1) timeout ≡ true = ltb-is (u + 1) timeout (omega arith) in
         wait (rw left) (rw short) (rw (left, short) (m, less, ph)) (rw (left, short) (λ z. unfold timer gapNow in (omega (arith, gap-falls i j set n out E o))))
 
     pub next : (l : Line) (m : ℕ) → Phase i j set n out E l m → Young l → Next l m
-    unfolding span messageDue flowDue gapLeft
+    unfolding span gapLeft
     next l m (single-ready t last ina a b e) y = hand-message tt
     next l m (single-sent last ina g a b e) y = bring-there _ _ refl
     next l m (first-ready t last ina h a b c e) y = hand-message tt

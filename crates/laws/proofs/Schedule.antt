@@ -60,14 +60,13 @@ waiting-most s k h = go (sameSide s (turnSide (partOf k h)))
 
 -- after flow control none is owed
 flow-once : (rx : Rx) → flowDue (afterFlow rx) ≡ false
-unfolding flowDue afterFlow
 flow-once Rx.Idle = refl
 flow-once (Rx.OwesOverflow t) = refl
 flow-once (Rx.OwesGo p t) = refl
 flow-once (Rx.Awaits p t) = refl
 
 side-due : (s : Side) (p : Part) → T (due (sideOf s p .berth)) → T (due (p .berth))
-unfolding due sideOf flowDue messageDue
+unfolding due sideOf
 side-due receive p t = go (flowDue (p .berth .rx)) t
   where
     go : (b : Bool) → T (b || false) → T (b || messageDue (p .berth .tx))
@@ -82,7 +81,7 @@ side-due sendSide p t = go (flowDue (p .berth .rx))
 -- a side that is due and has to let the other go first has the next turn
 then-its-own : (set : Settings) (s : Side) (p : Part) → T (due (sideOf s p .berth)) → sameSide s (turnSide p) ≡ false
     → sameSide s (turnSide (partAfter set p turns)) ≡ true
-unfolding due sideOf turnSide partAfter handOver messageDue
+unfolding due sideOf turnSide partAfter handOver
 then-its-own set s p t e = go s (flowDue (p .berth .rx)) refl t e
   where
     go : (s : Side) (b : Bool) → flowDue (p .berth .rx) ≡ b → T (due (sideOf s p .berth)) → sameSide s (turnSide p) ≡ false
@@ -191,11 +190,11 @@ module _ (i j : ℕ) (small-i : i < berthCount) (small-j : j < berthCount) (set 
   shorter-B w c m h = omega arith
 
   message-due : (h : Held) → T (messageDue (berthAt (h .node) i .tx)) → T (due (sideOf sendSide (partOf i h) .berth))
-  unfolding due sideOf partOf flowDue
+  unfolding due sideOf partOf
   message-due h t = t
 
   flow-due : (h : Held) → T (flowDue (berthAt (h .node) j .rx)) → T (due (sideOf receive (partOf j h) .berth))
-  unfolding due sideOf partOf messageDue
+  unfolding due sideOf partOf
   flow-due h t = rw (is-true (flowDue (berthAt (h .node) j .rx)) t) tt
 
   onto-message : (w : World) (s : Lives w) → Young (lineOf i j w) → T (messageDue (lineOf i j w .tx)) → Onto w (s .steps) (acts i j w (atA (turn blank)))

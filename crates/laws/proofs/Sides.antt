@@ -13,7 +13,7 @@ use Rattle.rules.specs.Numbers.{singleKind, firstKind, consecutiveKind, flowKin
 use Rattle.rules.specs.Ranges.{fresh}
 use Rattle.rules.specs.Frames.{kind, low, singleFits, announced, firstFits, consecutiveFits, flowFits}
 use Rattle.rules.specs.Arrivals.{Heard, Told, Came, ignored, singleCame, firstCame, aboveArea, turnedAway, begun, missing, completed, took, wrongSn, awaitedCame, consecutiveCame, byStatus, flowIgnored, flowCame, heardBy, toldBy, byKind, frameCame}
-use Rattle.rules.specs.Ticks.{ticked, rxTicked, txTicked, rxCode, txCode}
+use Rattle.rules.specs.Ticks.{ticked, rxCode, txCode}
 use Rattle.rules.specs.Turns.{flowDue, handOver, sent}
 use Rattle.rules.specs.Answers.{Side, receive, send, Report, reported, failedSide, wordReports, reports}
 use Rattle.rules.specs.Stores.{Held}
@@ -120,7 +120,7 @@ module _ (k : ℕ) where
       (λ t. ignored-all 3 rx last)
 
   consecutive-all : (set : Settings) (rx : Rx) (last : ℕ) (d : List ℕ) → HeardAll (consecutiveCame set rx last d)
-  unfolding consecutiveCame awaitedCame completed took wrongSn wordReports failedSide
+  unfolding awaitedCame completed took wrongSn wordReports failedSide
   consecutive-all set Rx.Idle last d = ignored-all 4 Rx.Idle last
   consecutive-all set (Rx.OwesOverflow t) last d = ignored-all 4 (Rx.OwesOverflow t) last
   consecutive-all set (Rx.OwesGo p t) last d = ignored-all 4 (Rx.OwesGo p t) last
@@ -135,7 +135,7 @@ module _ (k : ℕ) where
   ToldAll t = AllOf send (wordReports k (t .word))
 
   flow-all : (tx : Tx) (d : List ℕ) → ToldAll (flowCame tx d)
-  unfolding flowCame byStatus flowIgnored wordReports failedSide
+  unfolding byStatus flowIgnored wordReports failedSide
   flow-all Tx.Idle d = no-reports send
   flow-all (Tx.SingleDue n t) d = no-reports send
   flow-all (Tx.FirstDue n t) d = no-reports send
@@ -190,8 +190,8 @@ module _ (set : Settings) where
           (unfold withTx in (sym (ap (λ (c : Came). record { berth = c .berth; incoming = sets (p .incoming) (c .place) (c .bytes); outgoing = [] })
           (came-receive set (sideOf receive p .berth) d ne))))
       go send (fails t ne) = rw (t, came-receive set (p .berth) d ne) (unfold withTx in refl)
-  side-after receive p ticks = unfold ticked txTicked in refl
-  side-after send p ticks = unfold ticked rxTicked in refl
+  side-after receive p ticks = unfold ticked in refl
+  side-after send p ticks = unfold ticked in refl
   side-after receive p (sends m) = unfold sent in refl
   side-after send p (sends m) = unfold sent in refl
   side-after s p turns = go s (flowDue (p .berth .rx)) refl
@@ -201,7 +201,7 @@ module _ (set : Settings) where
       go receive true e = unfold handOver in (rw (e, e))
       go send true e = unfold handOver in (rw e)
       go receive false e = unfold handOver in (rw e)
-      go send false e = unfold handOver flowDue in (rw e)
+      go send false e = unfold handOver in (rw e)
 
   -- what the berth says of it, for that side
   side-said : (s : Side) (p : Part) (e : Event)
@@ -216,8 +216,8 @@ module _ (set : Settings) where
           rw (t, came-send set (p .berth) d e, came-send set (sideOf send p .berth) d e) (unfold toldBy in refl)
       go receive (fails t ne) = rw (t, came-receive set (p .berth) d ne) (unfold withTx in refl)
       go send (fails t ne) = rw t
-  side-said receive p ticks = unfold txCode in refl
-  side-said send p ticks = unfold rxCode in refl
+  side-said receive p ticks = refl
+  side-said send p ticks = refl
   side-said receive p (sends m) = refl
   side-said send p (sends m) = refl
   side-said s p turns = go s (flowDue (p .berth .rx)) refl
@@ -227,7 +227,7 @@ module _ (set : Settings) where
       go receive true e = unfold handOver in (rw (e, e))
       go send true e = rw e
       go receive false e = rw e
-      go send false e = unfold handOver flowDue in (rw e)
+      go send false e = unfold handOver in (rw e)
 
   -- ---- runs
 

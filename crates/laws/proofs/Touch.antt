@@ -72,7 +72,7 @@ first-old set rx last d =
     (λ u. pick-either NoOldHeard (aboveArea set (announced d)) _ _ (λ v t. absurd t) (λ v t. absurd t)) (λ u. ignored-old 3 rx last)
 
 consecutive-old : (set : Settings) (rx : Rx) (last : ℕ) (d : List ℕ) → NoOldHeard (consecutiveCame set rx last d)
-unfolding consecutiveCame awaitedCame completed took wrongSn
+unfolding awaitedCame completed took wrongSn
 consecutive-old set Rx.Idle last d = ignored-old 4 Rx.Idle last
 consecutive-old set (Rx.OwesOverflow u) last d = ignored-old 4 (Rx.OwesOverflow u) last
 consecutive-old set (Rx.OwesGo p u) last d = ignored-old 4 (Rx.OwesGo p u) last
@@ -121,7 +121,7 @@ abbrev Undelivered : Told → Type 0
 Undelivered t = (old : ℕ) → deliveredIn (hears old (t .word)) ≡ []
 
 flow-delivers : (tx : Tx) (d : List ℕ) → Undelivered (flowCame tx d)
-unfolding flowCame byStatus flowIgnored deliveredIn
+unfolding byStatus flowIgnored deliveredIn
 flow-delivers Tx.Idle d = λ old. refl
 flow-delivers (Tx.SingleDue n t) d = λ old. refl
 flow-delivers (Tx.FirstDue n t) d = λ old. refl
@@ -136,7 +136,7 @@ flow-delivers (Tx.Consecutive o t) d = λ old. refl
 -- ---- the frame handed over says whose turn it was
 
 flow-kind : (set : Settings) (rx : Rx) → T (flowDue rx) → kind (flowFrame set rx) ≡ flowKind
-unfolding flowDue flowFrame goFrame overflowFrame padded kind
+unfolding goFrame overflowFrame padded kind
 flow-kind set Rx.Idle t = absurd t
 flow-kind set (Rx.OwesOverflow u) t = refl
 flow-kind set (Rx.OwesGo p u) t = refl
@@ -144,7 +144,7 @@ flow-kind set (Rx.Awaits p u) t = absurd t
 
 message-kind : (set : Settings) (tx : Tx) (area : List ℕ) → set .area ≤ shortMost → TxRange set tx → T (messageDue tx)
     → kind (messageFrame tx area) ≡ flowKind → ⊥
-unfolding messageDue messageFrame singleFrame firstFrame consecutiveFrame padded kind
+unfolding singleFrame firstFrame consecutiveFrame padded kind
 message-kind set Tx.Idle area a r t e = absurd t
 message-kind set (Tx.SingleDue n u) area a r t e = omega (arith, r .0, r .1, length-take n area)
 message-kind set (Tx.FirstDue n u) area a r t e = omega (arith, r .1)
@@ -334,7 +334,7 @@ module _ (k : ℕ) (h : Held) where
 
   -- the side whose turn it is has a frame due
   due-side : (p : Part) → T (due (p .berth)) → T (due (sideOf (turnSide p) p .berth))
-  unfolding due turnSide sideOf flowDue
+  unfolding due turnSide sideOf
   due-side p t = go (test-cases (flowDue (p .berth .rx)))
     where
       go : Tested (flowDue (p .berth .rx)) (T (flowDue (p .berth .rx))) (T (not (flowDue (p .berth .rx)))) → T (due (sideOf (turnSide p) p .berth))
@@ -348,7 +348,7 @@ module _ (k : ℕ) (h : Held) where
   same-side sendSide sendSide u = refl
 
   said-turn : (s : Side) (p : Part) → T (sameSide s (turnSide p)) → says set (sideOf s p) turns ≡ says set p turns
-  unfolding says sideOf turnSide handOver flowDue
+  unfolding says sideOf turnSide handOver
   said-turn s p t = go s (flowDue (p .berth .rx)) refl t
     where
       go : (s : Side) (b : Bool) → flowDue (p .berth .rx) ≡ b → T (sameSide s (turnSide p)) → says set (sideOf s p) turns ≡ says set p turns

@@ -203,18 +203,18 @@ module _ (i j : ℕ) (small-i : i < berthCount) (small-j : j < berthCount) (set 
       × (partAfter (h .node .settings) (sideA h) ticks .outgoing ≡ partOf i h .outgoing)
       × (saidReports i (says (h .node .settings) (sideA h) ticks) ≡ reported i sendSide (txCode (berthAt (h .node) i .tx)))
       × (tickCode sendSide (sideA h .berth) ≡ txCode (berthAt (h .node) i .tx))
-  unfolding partAfter sideOf partOf ticked says saidReports rxCode reported
+  unfolding partAfter sideOf partOf ticked says saidReports reported
   ticked-A h = (refl, refl, refl, refl)
 
   turned-A : (h : Held) → (partAfter (h .node .settings) (sideA h) turns .berth .tx ≡ afterMessage (berthAt (h .node) i .tx))
       × (partAfter (h .node .settings) (sideA h) turns .outgoing ≡ partOf i h .outgoing)
       × (saidReports i (says (h .node .settings) (sideA h) turns) ≡ reported i sendSide (messageCode (berthAt (h .node) i .tx)))
       × (handedIn (says (h .node .settings) (sideA h) turns) ≡ messageFrame (berthAt (h .node) i .tx) (partOf i h .outgoing) ∷ [])
-  unfolding partAfter sideOf partOf handOver flowDue says saidReports handedIn
+  unfolding partAfter sideOf partOf handOver says saidReports handedIn
   turned-A h = (refl, refl, refl, refl)
 
   due-A : (h : Held) → T (due (sideA h .berth)) → T (messageDue (berthAt (h .node) i .tx))
-  unfolding due sideOf partOf flowDue
+  unfolding due sideOf partOf
   due-A h t = t
 
   -- what a call on A is for the line that spares the send side of berth i, is a tick of it, or a turn of it; the message stays in its area
@@ -260,11 +260,11 @@ module _ (i j : ℕ) (small-i : i < berthCount) (small-j : j < berthCount) (set 
       × (partAfter (h .node .settings) (sideB h) ticks .incoming ≡ partOf j h .incoming)
       × (saidReports j (says (h .node .settings) (sideB h) ticks) ≡ reported j receive (rxCode (berthAt (h .node) j .rx)) ++ [])
       × (tickCode receive (sideB h .berth) ≡ rxCode (berthAt (h .node) j .rx))
-  unfolding partAfter sideOf partOf ticked says saidReports txCode reported
+  unfolding partAfter sideOf partOf ticked says saidReports reported
   ticked-B h = (refl, refl, refl, refl, refl)
 
   due-B : (h : Held) → T (due (sideB h .berth)) → flowDue (berthAt (h .node) j .rx) ≡ true
-  unfolding due sideOf partOf messageDue
+  unfolding due sideOf partOf
   due-B h t = is-true (flowDue (berthAt (h .node) j .rx)) (⊎-elim (λ u. u) (λ u. absurd u) (or-cases (flowDue (berthAt (h .node) j .rx)) false t))
 
   turned-B : (h : Held) → flowDue (berthAt (h .node) j .rx) ≡ true
@@ -561,7 +561,6 @@ module _ (i j : ℕ) (m : List ℕ) (a b : Held) (may : MayBegin i j m a b) wher
   expected = exchanged setB (framesOf m)
 
   idle-free : busy (berthAt (a .node) i .tx) ≡ false
-  unfolding busy
   idle-free = rw (may .idle-a)
 
   -- the send is answered

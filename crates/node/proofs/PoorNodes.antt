@@ -7,10 +7,10 @@ use mathlib.Core.List.{List, [], _∷_}
 use lib.ListN.{getD, set, replicate}
 use Rattle.rules.specs.Tests.{all, each, firstUnmet}
 use Rattle.rules.specs.Frames.{kind, low, singleFits, consecutiveFits, share}
-use Rattle.rules.specs.Ranges.{stminAllowed, settingsAllowed, inBlock, takingInRange, rxInRange, txInRange, berthInOrder, fresh, berthAt, inOrder}
-use Rattle.rules.specs.Arrivals.{oldCode, singleCame, missing, piece, completed, awaitedCame, consecutiveCame, heardBy, byKind, frameCame}
-use Rattle.rules.specs.Ticks.{ran, rxTicked, txTicked, ticked}
-use Rattle.rules.specs.Turns.{flowDue, messageDue, due}
+use Rattle.rules.specs.Ranges.{settingsAllowed, inBlock, takingInRange, berthInOrder, fresh, berthAt, inOrder}
+use Rattle.rules.specs.Arrivals.{singleCame, piece, completed, awaitedCame, heardBy, byKind, frameCame}
+use Rattle.rules.specs.Ticks.{ran, ticked}
+use Rattle.rules.specs.Turns.{due}
 use Rattle.rules.specs.Stores.{rightStore, inside, stored, withBerth, tickedNode, distance, leastDistance, passedOver, cameAt}
 use Rattle.rules.specs.Refusals.{needs, refusal}
 use Rattle.rules.specs.Calls.{afterFrame, done, reply, outcome}
@@ -49,7 +49,7 @@ timerOf (Rx.Awaits p t) = t
 -- one that refuses everything: a single frame is not one of too many bytes
 pub not-refusing : FramePromise (hearing Rx.Idle) zeros 0x640 (0x01 ∷ 7 ∷ []) (FrameAnswer.Refused 4) (hearing Rx.Idle) zeros → ⊥
 unfolding
-    all each firstUnmet kind low singleFits stminAllowed settingsAllowed rxInRange txInRange berthInOrder berthAt inOrder oldCode singleCame
+    all each firstUnmet kind low singleFits settingsAllowed berthInOrder berthAt inOrder singleCame
     heardBy byKind frameCame rightStore inside cameAt needs refusal reply outcome paperOf frameSays
 not-refusing p = let z : _≡_ {A = ℕ} 0 2 = ap (λ x. x .number) (p [] .answer) in omega arith
 
@@ -58,14 +58,14 @@ pub not-fixed : FramePromise (hearing Rx.Idle) zeros 0x640 (0x01 ∷ 7 ∷ []) (
     (record { settings = hearing Rx.Idle .settings; served = 9; berths = set (hearing Rx.Idle .berths) 0 (record { rx = Rx.Idle; last = 1; tx = Tx.Idle }) })
     (set zeros 0 42) → ⊥
 unfolding
-    all each firstUnmet kind low singleFits stminAllowed settingsAllowed rxInRange txInRange berthInOrder berthAt inOrder oldCode singleCame
+    all each firstUnmet kind low singleFits settingsAllowed berthInOrder berthAt inOrder singleCame
     heardBy byKind frameCame rightStore inside cameAt needs refusal stored withBerth afterFrame done outcome
 not-fixed p = let z : _≡_ {A = ℕ} 42 7 = ap (λ h. getD (h .incoming) 0 0) (p [] .held) in omega arith
 
 -- one that does nothing: a timer that runs stands at 1 after a tick
 pub not-idle : TickPromise (hearing (Rx.OwesOverflow 0)) (record { refused = 0; codes = noCodes }) (hearing (Rx.OwesOverflow 0)) → ⊥
 unfolding
-    all each firstUnmet stminAllowed settingsAllowed rxInRange txInRange berthInOrder inOrder ran rxTicked txTicked ticked tickedNode
+    all each firstUnmet settingsAllowed berthInOrder inOrder ran ticked tickedNode
     needs refusal done outcome
 not-idle p = let z : _≡_ {A = ℕ} 0 1 = ap (λ h. timerOf (getD (h .node .berths) 0 fresh .rx)) (p .agrees [] [] .held) in omega arith
 
@@ -74,8 +74,8 @@ pub not-counting : FramePromise (hearing (Rx.Awaits sixOfEight 0)) zeros 0x640 (
     (record { settings = hearing Rx.Idle .settings; served = 9; berths = set (hearing Rx.Idle .berths) 0 (record { rx = Rx.Idle; last = 8; tx = Tx.Idle }) })
     zeros → ⊥
 unfolding
-    all each firstUnmet kind low consecutiveFits share stminAllowed settingsAllowed inBlock takingInRange rxInRange txInRange berthInOrder
-    berthAt inOrder missing piece completed awaitedCame consecutiveCame heardBy byKind frameCame rightStore inside cameAt needs refusal stored
+    all each firstUnmet kind low consecutiveFits share settingsAllowed inBlock takingInRange berthInOrder
+    berthAt inOrder piece completed awaitedCame heardBy byKind frameCame rightStore inside cameAt needs refusal stored
     withBerth afterFrame done outcome
 not-counting p = let z : _≡_ {A = ℕ} 0 7 = ap (λ h. getD (h .incoming) 6 0) (p [] .held) in omega arith
 
@@ -84,6 +84,6 @@ pub not-made-up : TurnPromise (hearing (Rx.OwesOverflow 0)) zeros (replicate 8 0
     (record { settings = hearing Rx.Idle .settings; served = 0; berths = hearing Rx.Idle .berths })
     (0x32 ∷ 0 ∷ 0 ∷ replicate 5 0xCC) → ⊥
 unfolding
-    all each firstUnmet stminAllowed settingsAllowed rxInRange txInRange berthInOrder inOrder flowDue messageDue due distance leastDistance
+    all each firstUnmet settingsAllowed berthInOrder inOrder due distance leastDistance
     passedOver rightStore needs refusal reply outcome paperOf turnSays
 not-made-up p = let z : _≡_ {A = ℕ} 5 0 = ap (λ x. getD (x .values) 2 0) (p [] .answer) in omega arith

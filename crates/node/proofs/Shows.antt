@@ -33,7 +33,6 @@ last-fits s last (Rx.OwesGo p t) h = omega arith
 last-fits s last (Rx.Awaits p t) h = omega arith
 
 sending-fits : (s : Settings) (tx : Tx) → leastArea ≤ s .area → TxRange s tx → lengthSending tx ≤ s .area
-unfolding lengthSending
 sending-fits s Tx.Idle l h = omega arith
 sending-fits s (Tx.SingleDue n t) l h = omega arith
 sending-fits s (Tx.FirstDue n t) l h = omega arith

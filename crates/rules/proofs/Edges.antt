@@ -5,10 +5,9 @@ use Prim.Native.Nat.{ℕ, _+_}
 use mathlib.Core.List.{List, [], _∷_, _++_, map}
 use lib.ListN.{length, replicate}
 use Rattle.rules.specs.Tests.{all, each, firstUnmet}
-use Rattle.rules.specs.Ranges.{stminAllowed, settingsAllowed, inBlock, takingInRange, rxInRange, sendingInRange, txInRange, berthInOrder, fresh, berthAt, inOrder}
+use Rattle.rules.specs.Ranges.{settingsAllowed, inBlock, takingInRange, sendingInRange, berthInOrder, fresh, berthAt, inOrder}
 use Rattle.rules.specs.Frames.{kind, low, singleFits, flowFits}
-use Rattle.rules.specs.Arrivals.{ignored, oldCode, singleCame, flowIgnored, flowCame, heardBy, toldBy, byKind, frameCame}
-use Rattle.rules.specs.Turns.{busy}
+use Rattle.rules.specs.Arrivals.{ignored, singleCame, flowIgnored, heardBy, toldBy, byKind, frameCame}
 use Rattle.rules.specs.Stores.{Held, rightStore, inside, cameAt}
 use Rattle.rules.specs.Refusals.{Call, frame, tick, send, turn, needs, refusal, setUpRefusal}
 use Rattle.rules.specs.declared.Settings.{Settings}
@@ -275,5 +274,5 @@ sendRanges =
 -- THE EDGES: each row is given the number that it says
 pub edges : map given (calls ++ (both ++ (settingsRanges ++ (receiveRanges ++ sendRanges))))
     ≡ map says (calls ++ (both ++ (settingsRanges ++ (receiveRanges ++ sendRanges))))
-unfolding all each firstUnmet stminAllowed settingsAllowed inBlock takingInRange rxInRange sendingInRange txInRange berthInOrder berthAt inOrder kind low singleFits flowFits ignored oldCode singleCame flowIgnored flowCame heardBy toldBy byKind frameCame busy rightStore inside cameAt needs refusal setUpRefusal
+unfolding all each firstUnmet settingsAllowed inBlock takingInRange sendingInRange berthInOrder berthAt inOrder kind low singleFits flowFits ignored singleCame flowIgnored heardBy toldBy byKind frameCame rightStore inside cameAt needs refusal setUpRefusal
 edges = refl

@@ -77,14 +77,13 @@ module _ (why : ℕ) where
       (λ u. ignored-kept 3 (Rx.Awaits p t) last)
 
   consecutive-kept : (s : Settings) (rx : Rx) (last : ℕ) (d : List ℕ) → Kept why rx last (consecutiveCame s rx last d)
-  unfolding consecutiveCame
   consecutive-kept s Rx.Idle last d = ignored-kept 4 Rx.Idle last
   consecutive-kept s (Rx.OwesOverflow t) last d = ignored-kept 4 (Rx.OwesOverflow t) last
   consecutive-kept s (Rx.OwesGo p t) last d = ignored-kept 4 (Rx.OwesGo p t) last
   consecutive-kept s (Rx.Awaits p t) last d = awaited-kept s p t last d
 
   flow-kept : (tx : Tx) (d : List ℕ) → flowCame tx d .word ≡ Ignored why → flowCame tx d .tx ≡ tx
-  unfolding flowCame flowIgnored byStatus
+  unfolding flowIgnored byStatus
   flow-kept Tx.Idle d = λ e. refl
   flow-kept (Tx.SingleDue n t) d = λ e. refl
   flow-kept (Tx.FirstDue n t) d = λ e. refl
@@ -150,7 +149,7 @@ consecutive-stores s p t last d f e =
 -- FLOW CONTROL LEAVES THE SN: on the side that takes it
 pub flow-leaves-sn : (o : Sending) (t : ℕ) (d : List ℕ) (o′ : Sending) (t′ : ℕ)
     → flowCame (Tx.AwaitsFlow o t) d .tx ≡ Tx.Consecutive o′ t′ → o′ .sn ≡ o .sn
-unfolding flowCame flowIgnored byStatus granted
+unfolding flowIgnored byStatus granted
 flow-leaves-sn o t d o′ t′ =
     let K : Told → Type 0 = λ told. told .tx ≡ Tx.Consecutive o′ t′ → o′ .sn ≡ o .sn in
     pick-either K (flowFits d) _ _
@@ -164,7 +163,6 @@ flow-leaves-sn o t d o′ t′ =
 
 -- and on the side that gives it
 pub go-leaves-sn : (p : Taking) (t : ℕ) (p′ : Taking) (t′ : ℕ) → afterFlow (Rx.OwesGo p t) ≡ Rx.Awaits p′ t′ → p′ .sn ≡ p .sn
-unfolding afterFlow newBlock
 go-leaves-sn p t p′ t′ e = let g : newBlock p ≡ p′ = cc in ap (λ (x : Taking). x .sn) (sym g)
 
 -- ---- refusals

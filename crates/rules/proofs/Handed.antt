@@ -40,7 +40,7 @@ headed-fit k l s h ne =
     }
 
 flow-fit : (s : Settings) (rx : Rx) → T (flowDue rx) → Fit (flowFrame s rx)
-unfolding flowFrame flowDue goFrame overflowFrame
+unfolding goFrame overflowFrame
 flow-fit s Rx.Idle t = absurd t
 flow-fit s (Rx.OwesOverflow u) t = headed-fit 3 2 (0 ∷ 0 ∷ []) (omega arith) (λ e. omega arith)
 flow-fit s (Rx.OwesGo p u) t = headed-fit 3 0 (s .block ∷ s .stmin ∷ []) (omega arith) (λ e. omega arith)
@@ -48,7 +48,7 @@ flow-fit s (Rx.Awaits p u) t = absurd t
 
 module _ (s : Settings) (sr : SettingsRange (s .area) (s .block) (s .stmin)) where
   message-fit : (tx : Tx) (area : List ℕ) → TxRange s tx → T (messageDue tx) → Fit (messageFrame tx area)
-  unfolding messageFrame messageDue singleFrame firstFrame consecutiveFrame share
+  unfolding singleFrame firstFrame consecutiveFrame share
   message-fit Tx.Idle area r t = absurd t
   message-fit (Tx.SingleDue n u) area r t =
       let l = length-take n area in

@@ -13,8 +13,8 @@ use Rattle.rules.specs.Numbers.{flowKind, timeout, goStatus, waitStatus,
 use Rattle.rules.specs.Ranges.{SettingsRange, TxRange, BerthRange}
 use Rattle.rules.specs.Frames.{kind, low, padded, singleFrame, firstFrame, consecutiveFrame, goFrame, overflowFrame, flowFits, fillsBlock, share, roundedUp, needed, framesNeeded}
 use Rattle.rules.specs.Arrivals.{Told, granted, byStatus, flowIgnored, flowCame, Came, heardBy, toldBy, frameCame}
-use Rattle.rules.specs.Ticks.{ran, closer, txTicked, ticked}
-use Rattle.rules.specs.Turns.{flowDue, messageDue, flowFrame, toGo, messageFrame, messageCode, opened, moved, afterConsecutive, afterMessage, HandedOver, handOver, beginsWith, sent, busy}
+use Rattle.rules.specs.Ticks.{ran, txTicked, ticked}
+use Rattle.rules.specs.Turns.{flowDue, messageDue, flowFrame, toGo, messageFrame, messageCode, moved, afterConsecutive, afterMessage, HandedOver, handOver, beginsWith, sent, busy}
 use Rattle.rules.specs.Alone.{Part, Event, arrives, ticks, sends, turns, Says, hears, expires, accepts, hands, partAfter, says, alone, saysAll}
 use Rattle.rules.specs.declared.Settings.{Settings}
 use Rattle.rules.specs.declared.Sending.{Sending}
@@ -69,7 +69,7 @@ begins-left n a b = go (leb-cases n singleMost)
 -- ---- a data frame handed over takes one away
 
 consecutive-falls : (o : Sending) → 1 ≤ toGo o → framesLeft (Tx.Consecutive o 0) ≡ suc (framesLeft (afterConsecutive o))
-unfolding framesLeft afterConsecutive moved toGo share
+unfolding framesLeft afterConsecutive moved share
 consecutive-falls o l = go (leb-cases (toGo o) consecutiveMost)
   where
     go : Tested (leb (toGo o) consecutiveMost) (toGo o ≤ consecutiveMost) (consecutiveMost < toGo o)
@@ -80,7 +80,7 @@ consecutive-falls o l = go (leb-cases (toGo o) consecutiveMost)
 
 module _ (s : Settings) where
   message-falls : (tx : Tx) → TxRange s tx → T (messageDue tx) → framesLeft tx ≡ suc (framesLeft (afterMessage tx))
-  unfolding framesLeft messageDue afterMessage opened toGo
+  unfolding framesLeft
   message-falls Tx.Idle r t = absurd t
   message-falls (Tx.SingleDue n u) r t = refl
   message-falls (Tx.FirstDue n u) r t = omega arith
@@ -90,7 +90,7 @@ module _ (s : Settings) where
 -- ---- nothing else moves it
 
 flow-stays : (tx : Tx) (d : List ℕ) → (T (busy tx) → T (busy (flowCame tx d .tx))) → framesLeft (flowCame tx d .tx) ≡ framesLeft tx
-unfolding flowCame flowIgnored byStatus framesLeft busy granted toGo
+unfolding flowIgnored byStatus framesLeft granted
 flow-stays Tx.Idle d = λ f. refl
 flow-stays (Tx.SingleDue n t) d = λ f. refl
 flow-stays (Tx.FirstDue n t) d = λ f. refl
@@ -113,12 +113,12 @@ frame-stays s b d =
 -- a timer that goes on leaves it, and one that ends the side is excluded
 ran-stays : (tx : Tx) (t : ℕ) (on : ℕ → Tx) → ((u : ℕ) → framesLeft (on u) ≡ framesLeft tx)
     → (Unit {0} → T (busy (ran t on Tx.Idle))) → framesLeft (ran t on Tx.Idle) ≡ framesLeft tx
-unfolding ran busy
+unfolding ran
 ran-stays tx t on same =
     pick-either (λ (x : Tx). (Unit {0} → T (busy x)) → framesLeft x ≡ framesLeft tx) (ltb (t + 1) timeout) _ _ (λ u f. same (t + 1)) (λ u f. absurd (f tt))
 
 tick-stays : (tx : Tx) → (T (busy tx) → T (busy (txTicked tx))) → framesLeft (txTicked tx) ≡ framesLeft tx
-unfolding txTicked framesLeft busy closer toGo
+unfolding framesLeft
 tick-stays Tx.Idle = λ f. refl
 tick-stays (Tx.SingleDue n t) = ran-stays (Tx.SingleDue n t) t _ (λ u. refl)
 tick-stays (Tx.FirstDue n t) = ran-stays (Tx.FirstDue n t) t _ (λ u. refl)
@@ -134,7 +134,7 @@ unfolding padded kind
 data-one x rest c h = rw (eqb-not (x / 16) flowKind (λ e. omega arith), eqb-not (length (padded (x ∷ rest))) 0 (λ e. omega arith))
 
 flow-none : (s : Settings) (rx : Rx) (c : ℕ) → T (flowDue rx) → dataFrames (hands (flowFrame s rx) c) ≡ 0
-unfolding flowDue flowFrame overflowFrame goFrame padded kind
+unfolding overflowFrame goFrame padded kind
 flow-none s Rx.Idle c t = absurd t
 flow-none s (Rx.OwesOverflow u) c t = refl
 flow-none s (Rx.OwesGo p u) c t = refl
@@ -143,7 +143,7 @@ flow-none s (Rx.Awaits p u) c t = absurd t
 module _ (s : Settings) (sr : SettingsRange (s .area) (s .block) (s .stmin)) where
   message-counts : (tx : Tx) (area : List ℕ) (c : ℕ) → TxRange s tx
       → dataFrames (hands (messageFrame tx area) c) + framesLeft (afterMessage tx) ≡ framesLeft tx
-  unfolding messageFrame singleFrame firstFrame consecutiveFrame afterMessage framesLeft opened toGo
+  unfolding singleFrame firstFrame consecutiveFrame framesLeft
   message-counts Tx.Idle area c r = refl
   message-counts (Tx.SingleDue n u) area c r =
       let m = r .1 in

@@ -17,7 +17,7 @@ use Rattle.rules.specs.Ranges.{SettingsRange, BlockRange, TakingRange, R
 use Rattle.rules.specs.Frames.{byteAt, kind, low, singleFits, shortLength, escapeLength, announced, firstFits, consecutiveFits, flowFits, nextSn, counted, fillsBlock, gapOf, share}
 use Rattle.rules.specs.Arrivals.{Heard, ignored, singleCame, aboveArea, turnedAway, taking, begun, firstCame, missing, piece, grown, completed, afterTook, took, wrongSn, awaitedCame, consecutiveCame, Told, granted, byStatus, flowIgnored, flowCame, Came, heardBy, toldBy, byKind, frameCame}
 use Rattle.rules.specs.Ticks.{ran, rxTicked, closer, txTicked, ticked}
-use Rattle.rules.specs.Turns.{flowDue, newBlock, afterFlow, toGo, opened, moved, afterConsecutive, afterMessage, HandedOver, handOver, beginsWith, sent}
+use Rattle.rules.specs.Turns.{flowDue, afterFlow, toGo, opened, moved, afterConsecutive, afterMessage, HandedOver, handOver, beginsWith, sent}
 use Rattle.rules.specs.Stores.{Held, withBerth, tickedNode, servedNode, setUpNode, passedOver, reached, cameAt, handedAt}
 use Rattle.rules.specs.Refusals.{Call, senderOf, refusal, setUpRefusal}
 use Rattle.rules.specs.Calls.{afterFrame, done, reply, bufferOf, written, refusedOutcome, outcome, setUpOutcome, final}
@@ -119,7 +119,6 @@ module _ (s : Settings) (sr : SettingsRange (s .area) (s .block) (s .stmin)) whe
       (λ t. ignored-ok 3 rx last r)
 
   taking-ok : (n : ℕ) → leastLong ≤ n → n ≤ s .area → TakingRange s (taking n)
-  unfolding taking
   taking-ok n a b =
       record {
         total-least = a;
@@ -143,7 +142,7 @@ module _ (s : Settings) (sr : SettingsRange (s .area) (s .block) (s .stmin)) whe
       (λ t. ignored-ok 3 rx last r)
 
   grown-ok : (p : Taking) (n : ℕ) → TakingRange s p → consecutiveMost < missing p → BlockRange (s .block) n → TakingRange s (grown p n)
-  unfolding grown missing share nextSn
+  unfolding grown share nextSn
   grown-ok p n r m b =
       record {
         total-least = r .total-least;
@@ -156,7 +155,7 @@ module _ (s : Settings) (sr : SettingsRange (s .area) (s .block) (s .stmin)) whe
 
   -- the bytes of a consecutive frame end inside the message, and so inside the area
   piece-inside : (p : Taking) (d : List ℕ) → TakingRange s p → p .got + length (piece p d) ≤ s .area
-  unfolding piece share missing
+  unfolding piece share
   piece-inside p d r =
       omega (arith, r .total-most, r .got-most, length-take (min consecutiveMost (p .total - p .got)) (drop 1 d))
 
@@ -179,7 +178,6 @@ module _ (s : Settings) (sr : SettingsRange (s .area) (s .block) (s .stmin)) whe
       going w f = (r .0, grown-ok p _ (r .1) (omega tests) (counted-range (s .block) (p .taken) (r .1 .taken) (not-filled _ _ f)), omega arith)
 
   consecutive-ok : (rx : Rx) (last : ℕ) (d : List ℕ) → RxRange s last rx → HeardOk (consecutiveCame s rx last d)
-  unfolding consecutiveCame
   consecutive-ok Rx.Idle last d r = ignored-ok 4 Rx.Idle last r
   consecutive-ok (Rx.OwesOverflow u) last d r = ignored-ok 4 (Rx.OwesOverflow u) last r
   consecutive-ok (Rx.OwesGo p u) last d r = ignored-ok 4 (Rx.OwesGo p u) last r
@@ -212,7 +210,7 @@ module _ (s : Settings) (sr : SettingsRange (s .area) (s .block) (s .stmin)) whe
       (λ v. pick-either Fine (eqb (low d) overflowStatus) _ _ (λ w. tt) (λ w. tt)))
 
   flow-ok : (tx : Tx) (d : List ℕ) → TxRange s tx → TxRange s (flowCame tx d .tx)
-  unfolding flowCame flowIgnored
+  unfolding flowIgnored
   flow-ok Tx.Idle d r = r
   flow-ok (Tx.SingleDue n t) d r = r
   flow-ok (Tx.FirstDue n t) d r = r
@@ -252,14 +250,12 @@ module _ (s : Settings) (sr : SettingsRange (s .area) (s .block) (s .stmin)) whe
   ran-either P t on ended f g = pick-either P (ltb (t + 1) timeout) _ _ (λ u. f (ltb-yes u)) (λ u. g)
 
   rx-ticked-ok : (rx : Rx) (last : ℕ) → RxRange s last rx → RxRange s last (rxTicked rx)
-  unfolding rxTicked
   rx-ticked-ok Rx.Idle last r = r
   rx-ticked-ok (Rx.OwesOverflow t) last r = ran-either (RxRange s last) t _ _ (λ u. (r .0, u)) (r .0)
   rx-ticked-ok (Rx.OwesGo p t) last r = ran-either (RxRange s last) t _ _ (λ u. (r .0, r .1, u)) (omega arith)
   rx-ticked-ok (Rx.Awaits p t) last r = ran-either (RxRange s last) t _ _ (λ u. (r .0, r .1, u)) (omega arith)
 
   closer-ok : (o : Sending) → SendingRange s o → SendingRange s (closer o)
-  unfolding closer
   closer-ok o r =
       record {
         length-least = r .length-least;
@@ -273,7 +269,6 @@ module _ (s : Settings) (sr : SettingsRange (s .area) (s .block) (s .stmin)) whe
       }
 
   tx-ticked-ok : (tx : Tx) → TxRange s tx → TxRange s (txTicked tx)
-  unfolding txTicked
   tx-ticked-ok Tx.Idle r = r
   tx-ticked-ok (Tx.SingleDue n t) r = ran-either (TxRange s) t _ _ (λ u. (r .0, r .1, u)) tt
   tx-ticked-ok (Tx.FirstDue n t) r = ran-either (TxRange s) t _ _ (λ u. (r .0, r .1, u)) tt
@@ -289,7 +284,6 @@ module _ (s : Settings) (sr : SettingsRange (s .area) (s .block) (s .stmin)) whe
   -- ---- a hand-over
 
   after-flow-ok : (rx : Rx) (last : ℕ) → RxRange s last rx → RxRange s last (afterFlow rx)
-  unfolding afterFlow newBlock
   after-flow-ok Rx.Idle last r = r
   after-flow-ok (Rx.OwesOverflow t) last r = r .0
   after-flow-ok (Rx.OwesGo p t) last r = (
@@ -307,7 +301,6 @@ module _ (s : Settings) (sr : SettingsRange (s .area) (s .block) (s .stmin)) whe
   after-flow-ok (Rx.Awaits p t) last r = r
 
   opened-ok : (n : ℕ) → leastLong ≤ n → n ≤ s .area → SendingRange s (opened n)
-  unfolding opened
   opened-ok n a b =
       record {
         length-least = a;
@@ -321,7 +314,7 @@ module _ (s : Settings) (sr : SettingsRange (s .area) (s .block) (s .stmin)) whe
       }
 
   moved-ok : (o : Sending) (n left : ℕ) → SendingRange s o → consecutiveMost < toGo o → BlockRange (o .block) n → left ≤ longestGap → SendingRange s (moved o n left)
-  unfolding moved toGo share nextSn
+  unfolding moved share nextSn
   moved-ok o n left r m b l =
       record {
         length-least = r .length-least;
@@ -347,7 +340,6 @@ module _ (s : Settings) (sr : SettingsRange (s .area) (s .block) (s .stmin)) whe
       )))
 
   after-message-ok : (tx : Tx) → TxRange s tx → TxRange s (afterMessage tx)
-  unfolding afterMessage opened
   after-message-ok Tx.Idle r = r
   after-message-ok (Tx.SingleDue n t) r = tt
   after-message-ok (Tx.FirstDue n t) r = (opened-ok n (r .0) (r .1), refl, refl, omega arith)
@@ -396,7 +388,7 @@ with-ok n k at b l r o =
     go j h (fails e x) = rw (getD-set-other (n .berths) k j b fresh x) (o .berth j h)
 
 pub ticked-fresh : ticked fresh ≡ fresh
-unfolding ticked rxTicked txTicked
+unfolding ticked
 ticked-fresh = refl
 
 pub berth-ticked : (n : Node) (k : ℕ) → berthAt (tickedNode n) k ≡ ticked (berthAt n k)

@@ -1,14 +1,14 @@
 -- The ranges, test and record of facts: each says what the other says.
 use mathlib.Core.Path.{_≡_}
 use mathlib.Core.Logic.{inl, inr, ⊎-elim}
-use Prim.Native.Nat.{ℕ, _<_, max}
+use Prim.Native.Nat.{ℕ, _≤_, _<_, max}
 use native.Mathlib.Omega.{arith}
 use mathlib.Core.Bool.{_||_}
 use lib.ListN.{length}
 use lib.Dec.{T, eqb, leb}
 use mir.Facts.{leb-yes, ltb-yes, eqb-yes, yes-leb, yes-ltb, yes-eqb, yes-and}
-use Rattle.rules.specs.Numbers.{berthCount, mostMillis, leastFraction}
-use Rattle.rules.specs.Ranges.{stminAllowed, StminRange, settingsAllowed, SettingsRange, inBlock, BlockRange, takingInRange, TakingRange, rxInRange, RxRange, sendingInRange, SendingRange, txInRange, TxRange, berthInOrder, BerthRange, fresh, berthAt, inOrder, InOrder}
+use Rattle.rules.specs.Numbers.{berthCount, mostMillis, leastFraction, snCount, firstBytes, leastLong}
+use Rattle.rules.specs.Ranges.{stminAllowed, StminRange, settingsAllowed, SettingsRange, inBlock, BlockRange, underWayInRange, takingInRange, TakingRange, rxInRange, RxRange, sendingInRange, SendingRange, txInRange, TxRange, berthInOrder, BerthRange, fresh, berthAt, inOrder, InOrder}
 use Rattle.rules.specs.declared.Settings.{Settings}
 use Rattle.rules.specs.declared.Taking.{Taking}
 use Rattle.rules.specs.declared.Sending.{Sending}
@@ -21,13 +21,11 @@ use Rattle.rules.proofs.Cases.{Tested, holds, fails, eqb-cases, and-lef
 -- ---- settings
 
 pub stmin-range : (stmin : ℕ) → T (stminAllowed stmin) → StminRange stmin
-unfolding stminAllowed
 stmin-range stmin t =
     ⊎-elim (λ l. inl (leb-yes l)) (λ r. inr (leb-yes (and-left (leb leastFraction stmin) _ r), leb-yes (and-right (leb leastFraction stmin) _ r)))
     (or-cases (leb stmin mostMillis) _ t)
 
 pub stmin-allowed : (stmin : ℕ) → StminRange stmin → T (stminAllowed stmin)
-unfolding stminAllowed
 stmin-allowed stmin r =
     ⊎-elim (λ l. or-left (leb stmin mostMillis) _ (yes-leb l))
     (λ f. or-right (leb stmin mostMillis) _ (yes-and (leb leastFraction stmin) _ (yes-leb (f .0)) (yes-leb (f .1)))) r
@@ -74,6 +72,19 @@ max-block block n h = go (eqb-cases block 0)
     go (holds e z) = inr (z, omega arith)
     go (fails e z) = inl (omega arith)
 
+-- ---- a message under way
+
+pub under-way-range :
+    (a length done sn : ℕ) → T (underWayInRange a length done sn)
+    → (leastLong ≤ length) × (length ≤ a) × (firstBytes ≤ done) × (done < length) × (sn < snCount)
+under-way-range a length done sn t =
+    let f = all-yes _ t in (leb-yes (f .0), leb-yes (f .1 .0), leb-yes (f .1 .1 .0), ltb-yes (f .1 .1 .1 .0), ltb-yes (f .1 .1 .1 .1 .0))
+
+pub under-way-in :
+    (a length done sn : ℕ)
+    → leastLong ≤ length → length ≤ a → firstBytes ≤ done → done < length → sn < snCount → T (underWayInRange a length done sn)
+under-way-in a length done sn l m f d n = yes-all _ (yes-leb l, (yes-leb m, (yes-leb f, (yes-ltb d, (yes-ltb n, tt)))))
+
 -- ---- the two sides
 
 module _ (s : Settings) where
@@ -81,32 +92,22 @@ module _ (s : Settings) where
   unfolding takingInRange
   taking-range p t =
       let f = all-yes _ t in
-      record {
-        total-least = leb-yes (f .0);
-        total-most = leb-yes (f .1 .0);
-        got-least = leb-yes (f .1 .1 .0);
-        got-most = ltb-yes (f .1 .1 .1 .0);
-        sn-most = ltb-yes (f .1 .1 .1 .1 .0);
-        taken = block-range _ _ (f .1 .1 .1 .1 .1 .0);
-      }
+      let w = under-way-range _ _ _ _ (f .0) in
+      record { total-least = w .0; total-most = w .1; got-least = w .2; got-most = w .3; sn-most = w .4; taken = block-range _ _ (f .1 .0) }
 
   pub taking-in : (p : Taking) → TakingRange s p → T (takingInRange s p)
   unfolding takingInRange
   taking-in p r =
-      yes-all _ (
-        yes-leb (r .total-least),
-        (yes-leb (r .total-most), (yes-leb (r .got-least), (yes-ltb (r .got-most), (yes-ltb (r .sn-most), (in-block _ _ (r .taken), tt))))),
-      )
+      yes-all _
+      (under-way-in _ _ _ _ (r .total-least) (r .total-most) (r .got-least) (r .got-most) (r .sn-most), (in-block _ _ (r .taken), tt))
 
   pub rx-range : (last : ℕ) (rx : Rx) → T (rxInRange s last rx) → RxRange s last rx
-  unfolding rxInRange
   rx-range last Rx.Idle t = leb-yes t
   rx-range last (Rx.OwesOverflow u) t = let f = all-yes _ t in (leb-yes (f .0), ltb-yes (f .1 .0))
   rx-range last (Rx.OwesGo p u) t = let f = all-yes _ t in (eqb-yes (f .0), taking-range p (f .1 .0), ltb-yes (f .1 .1 .0))
   rx-range last (Rx.Awaits p u) t = let f = all-yes _ t in (eqb-yes (f .0), taking-range p (f .1 .0), ltb-yes (f .1 .1 .0))
 
   pub rx-in : (last : ℕ) (rx : Rx) → RxRange s last rx → T (rxInRange s last rx)
-  unfolding rxInRange
   rx-in last Rx.Idle r = yes-leb r
   rx-in last (Rx.OwesOverflow u) r = yes-all _ (yes-leb (r .0), (yes-ltb (r .1), tt))
   rx-in last (Rx.OwesGo p u) r = yes-all _ (yes-eqb (r .0), (taking-in p (r .1), (yes-ltb (r .2), tt)))
@@ -116,33 +117,27 @@ module _ (s : Settings) where
   unfolding sendingInRange
   sending-range o t =
       let f = all-yes _ t in
+      let w = under-way-range _ _ _ _ (f .0) in
       record {
-        length-least = leb-yes (f .0);
-        length-most = leb-yes (f .1 .0);
-        position-least = leb-yes (f .1 .1 .0);
-        position-most = ltb-yes (f .1 .1 .1 .0);
-        sn-most = ltb-yes (f .1 .1 .1 .1 .0);
-        sent = block-range _ _ (f .1 .1 .1 .1 .1 .0);
-        gap-most = leb-yes (f .1 .1 .1 .1 .1 .1 .0);
-        left-most = leb-yes (f .1 .1 .1 .1 .1 .1 .1 .0);
+        length-least = w .0;
+        length-most = w .1;
+        position-least = w .2;
+        position-most = w .3;
+        sn-most = w .4;
+        sent = block-range _ _ (f .1 .0);
+        gap-most = leb-yes (f .1 .1 .0);
+        left-most = leb-yes (f .1 .1 .1 .0);
       }
 
   pub sending-in : (o : Sending) → SendingRange s o → T (sendingInRange s o)
   unfolding sendingInRange
   sending-in o r =
       yes-all _ (
-        yes-leb (r .length-least),
-        (
-          yes-leb (r .length-most),
-          (
-            yes-leb (r .position-least),
-            (yes-ltb (r .position-most), (yes-ltb (r .sn-most), (in-block _ _ (r .sent), (yes-leb (r .gap-most), (yes-leb (r .left-most), tt))))),
-          ),
-        ),
+        under-way-in _ _ _ _ (r .length-least) (r .length-most) (r .position-least) (r .position-most) (r .sn-most),
+        (in-block _ _ (r .sent), (yes-leb (r .gap-most), (yes-leb (r .left-most), tt))),
       )
 
   pub tx-range : (tx : Tx) → T (txInRange s tx) → TxRange s tx
-  unfolding txInRange
   tx-range Tx.Idle t = tt
   tx-range (Tx.SingleDue n u) t = let f = all-yes _ t in (leb-yes (f .0), leb-yes (f .1 .0), ltb-yes (f .1 .1 .0))
   tx-range (Tx.FirstDue n u) t = let f = all-yes _ t in (leb-yes (f .0), leb-yes (f .1 .0), ltb-yes (f .1 .1 .0))
@@ -157,7 +152,6 @@ module _ (s : Settings) where
       )
 
   pub tx-in : (tx : Tx) → TxRange s tx → T (txInRange s tx)
-  unfolding txInRange
   tx-in Tx.Idle r = tt
   tx-in (Tx.SingleDue n u) r = yes-all _ (yes-leb (r .0), (yes-leb (r .1), (yes-ltb (r .2), tt)))
   tx-in (Tx.FirstDue n u) r = yes-all _ (yes-leb (r .0), (yes-leb (r .1), (yes-ltb (r .2), tt)))

@@ -4,11 +4,11 @@ use Prim.Native.Nat.{ℕ, zero, suc, _+_, _%_}
 use mathlib.Core.List.{List, [], _∷_}
 use lib.ListN.{length, replicate}
 use Rattle.rules.specs.Tests.{all, each, firstUnmet}
-use Rattle.rules.specs.Ranges.{stminAllowed, settingsAllowed, inBlock, takingInRange, rxInRange, sendingInRange, txInRange, berthInOrder, fresh, berthAt, inOrder}
+use Rattle.rules.specs.Ranges.{settingsAllowed, inBlock, takingInRange, sendingInRange, berthInOrder, fresh, berthAt, inOrder}
 use Rattle.rules.specs.Frames.{kind, low, singleFits, shortLength, escapeLength, announced, firstFits, consecutiveFits, flowFits, padded, singleFrame, firstFrame, consecutiveFrame, goFrame, overflowFrame, nextSn, counted, fillsBlock, gapOf, share, needed, framesNeeded}
-use Rattle.rules.specs.Arrivals.{ignored, oldCode, singleCame, turnedAway, taking, begun, firstCame, missing, piece, grown, completed, afterTook, took, wrongSn, awaitedCame, consecutiveCame, granted, byStatus, flowIgnored, flowCame, heardBy, toldBy, byKind, frameCame}
-use Rattle.rules.specs.Ticks.{ran, rxTicked, rxCode, closer, txTicked, txCode, ticked}
-use Rattle.rules.specs.Turns.{flowDue, messageDue, due, flowFrame, newBlock, afterFlow, toGo, messageFrame, messageCode, opened, moved, afterConsecutive, afterMessage, handOver, beginsWith, sent as sentBerth, busy}
+use Rattle.rules.specs.Arrivals.{ignored, singleCame, turnedAway, begun, firstCame, piece, grown, completed, afterTook, took, wrongSn, awaitedCame, granted, byStatus, flowIgnored, heardBy, toldBy, byKind, frameCame}
+use Rattle.rules.specs.Ticks.{ran, ticked}
+use Rattle.rules.specs.Turns.{due, moved, afterConsecutive, handOver, beginsWith, sent as sentBerth}
 use Rattle.rules.specs.Stores.{Held, rightStore, areaOf, stored, inside, withBerth, tickedNode, servedNode, distance, leastDistance, passedOver, reached, cameAt, handedAt}
 use Rattle.rules.specs.Answers.{Answer, heard, codes, sent, handed}
 use Rattle.rules.specs.Refusals.{Call, frame, tick, send, turn, needs, refusal}
@@ -156,5 +156,5 @@ table =
 
 -- THE STARRED CASES
 pub starred : AllShown table
-unfolding all each firstUnmet stminAllowed settingsAllowed inBlock takingInRange rxInRange sendingInRange txInRange berthInOrder berthAt inOrder kind low singleFits shortLength escapeLength announced firstFits consecutiveFits flowFits padded singleFrame firstFrame consecutiveFrame goFrame overflowFrame nextSn counted fillsBlock gapOf share needed framesNeeded ignored oldCode singleCame turnedAway taking begun firstCame missing piece grown completed afterTook took wrongSn awaitedCame consecutiveCame granted byStatus flowIgnored flowCame heardBy toldBy byKind frameCame ran rxTicked rxCode closer txTicked txCode ticked flowDue messageDue due flowFrame newBlock afterFlow toGo messageFrame messageCode opened moved afterConsecutive afterMessage handOver beginsWith sentBerth busy rightStore areaOf stored inside withBerth tickedNode servedNode distance leastDistance passedOver reached cameAt handedAt needs refusal afterFrame done codesOf reply written refusedOutcome outcome answers partAfter says saysAll dataTotal lastFrame rising
+unfolding all each firstUnmet settingsAllowed inBlock takingInRange sendingInRange berthInOrder berthAt inOrder kind low singleFits shortLength escapeLength announced firstFits consecutiveFits flowFits padded singleFrame firstFrame consecutiveFrame goFrame overflowFrame nextSn counted fillsBlock gapOf share needed framesNeeded ignored singleCame turnedAway begun firstCame piece grown completed afterTook took wrongSn awaitedCame granted byStatus flowIgnored heardBy toldBy byKind frameCame ran ticked due moved afterConsecutive handOver beginsWith sentBerth rightStore areaOf stored inside withBerth tickedNode servedNode distance leastDistance passedOver reached cameAt handedAt needs refusal afterFrame done codesOf reply written refusedOutcome outcome answers partAfter says saysAll dataTotal lastFrame rising
 starred = (refl, (refl, (refl, (refl, (refl, (refl, ((refl, refl), (refl, (refl, (refl, (refl, (refl, (refl, (refl, tt))))))))))))))

@@ -31,7 +31,7 @@ unfoldable pub ignored : ℕ → Rx → ℕ → Heard
 ignored why rx last = record { rx = rx; last = last; old = 0; word = Ignored why; place = 0; bytes = [] }
 
 -- the old reception ends: old code 7 if the side owed go or awaited, else 0
-unfoldable pub oldCode : Rx → ℕ
+abbrev pub oldCode : Rx → ℕ
 oldCode Rx.Idle = 0
 oldCode (Rx.OwesOverflow t) = 0
 oldCode (Rx.OwesGo p t) = N-UNEXP-PDU
@@ -56,7 +56,7 @@ unfoldable pub turnedAway : Rx → ℕ → Heard
 turnedAway rx last = record { rx = Rx.OwesOverflow 0; last = last; old = oldCode rx; word = TooLong; place = 0; bytes = [] }
 
 -- else six bytes stored, Begun with the length, owes go, last length 0, got 6, SN 1, block count 0
-unfoldable pub taking : ℕ → Taking
+abbrev pub taking : ℕ → Taking
 taking n = record { total = n; got = firstBytes; sn = firstSn; taken = 0 }
 
 unfoldable pub begun : ℕ → Rx → List ℕ → Heard
@@ -71,7 +71,7 @@ firstCame s rx last d =
 
 -- ---- consecutive: I4 unless the side awaits, I3, wrong SN, right
 
-unfoldable pub missing : Taking → ℕ
+abbrev pub missing : Taking → ℕ
 missing p = p .total - p .got
 
 -- right: the next min(7, r) bytes stored, at got
@@ -108,7 +108,7 @@ awaitedCame s p t last d =
     (wrongSn last))
     (ignored wrongLength (Rx.Awaits p t) last)
 
-unfoldable pub consecutiveCame : Settings → Rx → ℕ → List ℕ → Heard
+abbrev pub consecutiveCame : Settings → Rx → ℕ → List ℕ → Heard
 consecutiveCame s Rx.Idle last d = ignored notAwaited Rx.Idle last
 consecutiveCame s (Rx.OwesOverflow t) last d = ignored notAwaited (Rx.OwesOverflow t) last
 consecutiveCame s (Rx.OwesGo p t) last d = ignored notAwaited (Rx.OwesGo p t) last
@@ -145,7 +145,7 @@ byStatus o d =
 unfoldable pub flowIgnored : ℕ → Tx → Told
 flowIgnored why tx = record { tx = tx; word = Ignored why }
 
-unfoldable pub flowCame : Tx → List ℕ → Told
+abbrev pub flowCame : Tx → List ℕ → Told
 flowCame Tx.Idle d = flowIgnored notAwaited Tx.Idle
 flowCame (Tx.SingleDue n t) d = flowIgnored notAwaited (Tx.SingleDue n t)
 flowCame (Tx.FirstDue n t) d = flowIgnored notAwaited (Tx.FirstDue n t)

@@ -20,7 +20,7 @@ use Rattle.rules.specs.declared.Node.{Node}
 -- ---- the settings
 
 -- an STmin byte is 00 to 7F or F1 to F9
-unfoldable pub stminAllowed : ℕ → Bool
+abbrev pub stminAllowed : ℕ → Bool
 stminAllowed stmin = leb stmin mostMillis || (leb leastFraction stmin && leb stmin mostFraction)
 
 abbrev pub StminRange : ℕ → Type 0
@@ -45,14 +45,19 @@ inBlock block n = pick (eqb block 0) (eqb n 0) (ltb n block)
 abbrev pub BlockRange : ℕ → ℕ → Type 0
 BlockRange block n = (n < block) ⊎ ((block ≡ 0) × (n ≡ 0))
 
+-- ---- a message under way, received or sent
+
+-- its length is 8 to A, the bytes done are 6 to length - 1, the next SN is 0 to 15
+abbrev pub underWayInRange : (a length done sn : ℕ) → Bool
+underWayInRange a length done sn =
+    all (leb leastLong length ∷ leb length a ∷ leb firstBytes done ∷ ltb done length ∷ ltb sn snCount ∷ [])
+
 -- ---- the receive side
 
--- total is 8 to A, got 6 to total - 1, the next SN 0 to 15, and the frames taken are a count in a block of BS
+-- total, got and the next SN are those of a message under way, and the frames taken are a count in a block of BS
 unfoldable pub takingInRange : Settings → Taking → Bool
 takingInRange s p =
-    all
-    (leb leastLong (p .total) ∷ leb (p .total) (s .area) ∷ leb firstBytes (p .got) ∷ ltb (p .got) (p .total)
-    ∷ ltb (p .sn .0) snCount ∷ inBlock (s .block) (p .taken) ∷ [])
+    all (underWayInRange (s .area) (p .total) (p .got) (p .sn .0) ∷ inBlock (s .block) (p .taken) ∷ [])
 
 pub record TakingRange (s : Settings) (p : Taking) : Type 0 where
   pub total-least : leastLong ≤ p .total
@@ -63,7 +68,7 @@ pub record TakingRange (s : Settings) (p : Taking) : Type 0 where
   pub taken : BlockRange (s .block) (p .taken)
 
 -- the last length is 0 to A, and 0 while the side owes go or awaits; all but idle have a timer 0 to 999
-unfoldable pub rxInRange : Settings → ℕ → Rx → Bool
+abbrev pub rxInRange : Settings → ℕ → Rx → Bool
 rxInRange s last Rx.Idle = leb last (s .area)
 rxInRange s last (Rx.OwesOverflow t) = all (leb last (s .area) ∷ ltb t timeout ∷ [])
 rxInRange s last (Rx.OwesGo p t) = all (eqb last 0 ∷ takingInRange s p ∷ ltb t timeout ∷ [])
@@ -77,13 +82,13 @@ RxRange s last (Rx.Awaits p t) = (last ≡ 0) × TakingRange s p × (t < timeout
 
 -- ---- the send side
 
--- length is 8 to A, position 6 to length - 1, the next SN 0 to 15, the frames sent are a count in a block of the peer's size,
+-- length, position and the next SN are those of a message under way, the frames sent are a count in a block of the peer's size,
 -- the peer's gap and the gap left are 0 to 127
 unfoldable pub sendingInRange : Settings → Sending → Bool
 sendingInRange s o =
     all
-    (leb leastLong (o .length) ∷ leb (o .length) (s .area) ∷ leb firstBytes (o .position) ∷ ltb (o .position) (o .length)
-    ∷ ltb (o .sn .0) snCount ∷ inBlock (o .block) (o .sent) ∷ leb (o .gap) longestGap ∷ leb (o .left) longestGap ∷ [])
+    (underWayInRange (s .area) (o .length) (o .position) (o .sn .0) ∷ inBlock (o .block) (o .sent)
+    ∷ leb (o .gap) longestGap ∷ leb (o .left) longestGap ∷ [])
 
 pub record SendingRange (s : Settings) (o : Sending) : Type 0 where
   pub length-least : leastLong ≤ o .length
@@ -97,7 +102,7 @@ pub record SendingRange (s : Settings) (o : Sending) : Type 0 where
 
 -- single due has a length 1 to 7, first due 8 to A; while awaiting, the frames sent and the gap left are 0; while the gap left
 -- is above 0 the timer is 0; all but idle have a timer 0 to 999
-unfoldable pub txInRange : Settings → Tx → Bool
+abbrev pub txInRange : Settings → Tx → Bool
 txInRange s Tx.Idle = true
 txInRange s (Tx.SingleDue n t) = all (leb 1 n ∷ leb n singleMost ∷ ltb t timeout ∷ [])
 txInRange s (Tx.FirstDue n t) = all (leb leastLong n ∷ leb n (s .area) ∷ ltb t timeout ∷ [])

@@ -14,13 +14,13 @@ ran t on ended = pick (ltb (t + 1) timeout) (on (t + 1)) ended
 
 -- ---- the receive side: 2 where a frame was due and not called for, 4 awaiting a consecutive frame
 
-unfoldable pub rxTicked : Rx → Rx
+abbrev pub rxTicked : Rx → Rx
 rxTicked Rx.Idle = Rx.Idle
 rxTicked (Rx.OwesOverflow t) = ran t (λ u. Rx.OwesOverflow u) Rx.Idle
 rxTicked (Rx.OwesGo p t) = ran t (λ u. Rx.OwesGo p u) Rx.Idle
 rxTicked (Rx.Awaits p t) = ran t (λ u. Rx.Awaits p u) Rx.Idle
 
-unfoldable pub rxCode : Rx → ℕ
+abbrev pub rxCode : Rx → ℕ
 rxCode Rx.Idle = 0
 rxCode (Rx.OwesOverflow t) = ran t (λ u. 0) N-TIMEOUT-A
 rxCode (Rx.OwesGo p t) = ran t (λ u. 0) N-TIMEOUT-A
@@ -29,7 +29,7 @@ rxCode (Rx.Awaits p t) = ran t (λ u. 0) N-TIMEOUT-Cr
 -- ---- the send side: 2 where a frame was due and not called for, 3 awaiting flow control
 
 -- while gap left is above 0 it falls by one and the timer stays 0
-unfoldable pub closer : Sending → Sending
+abbrev pub closer : Sending → Sending
 closer o =
     record {
       length = o .length;
@@ -41,7 +41,7 @@ closer o =
       left = o .left - 1;
     }
 
-unfoldable pub txTicked : Tx → Tx
+abbrev pub txTicked : Tx → Tx
 txTicked Tx.Idle = Tx.Idle
 txTicked (Tx.SingleDue n t) = ran t (λ u. Tx.SingleDue n u) Tx.Idle
 txTicked (Tx.FirstDue n t) = ran t (λ u. Tx.FirstDue n u) Tx.Idle
@@ -49,7 +49,7 @@ txTicked (Tx.AwaitsFlow o t) = ran t (λ u. Tx.AwaitsFlow o u) Tx.Idle
 txTicked (Tx.Consecutive o t) =
     pick (eqb (o .left) 0) (ran t (λ u. Tx.Consecutive o u) Tx.Idle) (Tx.Consecutive (closer o) t)
 
-unfoldable pub txCode : Tx → ℕ
+abbrev pub txCode : Tx → ℕ
 txCode Tx.Idle = 0
 txCode (Tx.SingleDue n t) = ran t (λ u. 0) N-TIMEOUT-A
 txCode (Tx.FirstDue n t) = ran t (λ u. 0) N-TIMEOUT-A

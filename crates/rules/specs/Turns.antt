@@ -17,13 +17,13 @@ use Rattle.rules.specs.declared.Berth.{Berth}
 
 -- ---- a frame is due for flow control owed, single due, first due, and consecutive with gap left 0
 
-unfoldable pub flowDue : Rx → Bool
+abbrev pub flowDue : Rx → Bool
 flowDue Rx.Idle = false
 flowDue (Rx.OwesOverflow t) = true
 flowDue (Rx.OwesGo p t) = true
 flowDue (Rx.Awaits p t) = false
 
-unfoldable pub messageDue : Tx → Bool
+abbrev pub messageDue : Tx → Bool
 messageDue Tx.Idle = false
 messageDue (Tx.SingleDue n t) = true
 messageDue (Tx.FirstDue n t) = true
@@ -35,16 +35,16 @@ due b = flowDue (b .rx) || messageDue (b .tx)
 
 -- ---- flow control handed over: after go the side awaits, timer and block count 0; after overflow it is idle
 
-unfoldable pub flowFrame : Settings → Rx → List ℕ
+abbrev pub flowFrame : Settings → Rx → List ℕ
 flowFrame s Rx.Idle = []
 flowFrame s (Rx.OwesOverflow t) = overflowFrame
 flowFrame s (Rx.OwesGo p t) = goFrame s
 flowFrame s (Rx.Awaits p t) = []
 
-unfoldable pub newBlock : Taking → Taking
+abbrev pub newBlock : Taking → Taking
 newBlock p = record { total = p .total; got = p .got; sn = p .sn; taken = 0 }
 
-unfoldable pub afterFlow : Rx → Rx
+abbrev pub afterFlow : Rx → Rx
 afterFlow Rx.Idle = Rx.Idle
 afterFlow (Rx.OwesOverflow t) = Rx.Idle
 afterFlow (Rx.OwesGo p t) = Rx.Awaits (newBlock p) 0
@@ -52,10 +52,10 @@ afterFlow (Rx.Awaits p t) = Rx.Awaits p t
 
 -- ---- a message's frame handed over
 
-unfoldable pub toGo : Sending → ℕ
+abbrev pub toGo : Sending → ℕ
 toGo o = o .length - o .position
 
-unfoldable pub messageFrame : Tx → List ℕ → List ℕ
+abbrev pub messageFrame : Tx → List ℕ → List ℕ
 messageFrame Tx.Idle area = []
 messageFrame (Tx.SingleDue n t) area = singleFrame (take n area)
 messageFrame (Tx.FirstDue n t) area = firstFrame n (take firstBytes area)
@@ -63,7 +63,7 @@ messageFrame (Tx.AwaitsFlow o t) area = []
 messageFrame (Tx.Consecutive o t) area = consecutiveFrame (o .sn) (take (share consecutiveMost (toGo o)) (drop (o .position) area))
 
 -- the code is 1 with a message's last frame, else 0
-unfoldable pub messageCode : Tx → ℕ
+abbrev pub messageCode : Tx → ℕ
 messageCode Tx.Idle = 0
 messageCode (Tx.SingleDue n t) = N-OK
 messageCode (Tx.FirstDue n t) = 0
@@ -71,7 +71,7 @@ messageCode (Tx.AwaitsFlow o t) = 0
 messageCode (Tx.Consecutive o t) = pick (leb (toGo o) consecutiveMost) N-OK 0
 
 -- a first frame leaves position 6, SN 1, peer's block size and gap 0
-unfoldable pub opened : ℕ → Sending
+abbrev pub opened : ℕ → Sending
 opened n = record { length = n; position = firstBytes; sn = firstSn; block = 0; sent = 0; gap = 0; left = 0 }
 
 unfoldable pub moved : Sending → ℕ → ℕ → Sending
@@ -94,7 +94,7 @@ afterConsecutive o =
     (pick (fillsBlock (o .block) (o .sent)) (Tx.AwaitsFlow (moved o 0 0) 0)
     (Tx.Consecutive (moved o (counted (o .block) (o .sent)) (o .gap)) 0))
 
-unfoldable pub afterMessage : Tx → Tx
+abbrev pub afterMessage : Tx → Tx
 afterMessage Tx.Idle = Tx.Idle
 afterMessage (Tx.SingleDue n t) = Tx.Idle
 afterMessage (Tx.FirstDue n t) = Tx.AwaitsFlow (opened n) 0
@@ -128,14 +128,14 @@ sent b n = record { rx = b .rx; last = b .last; tx = beginsWith n }
 
 -- ---- the message now being sent: its length, 0 for none
 
-unfoldable pub lengthSending : Tx → ℕ
+abbrev pub lengthSending : Tx → ℕ
 lengthSending Tx.Idle = 0
 lengthSending (Tx.SingleDue n t) = n
 lengthSending (Tx.FirstDue n t) = n
 lengthSending (Tx.AwaitsFlow o t) = o .length
 lengthSending (Tx.Consecutive o t) = o .length
 
-unfoldable pub busy : Tx → Bool
+abbrev pub busy : Tx → Bool
 busy Tx.Idle = false
 busy (Tx.SingleDue n t) = true
 busy (Tx.FirstDue n t) = true
