@@ -1,11 +1,11 @@
 // Paper 01, "Frames, by first byte": how a frame is read, how the node's own are laid out, blocks and gaps, and the frames needed.
 ghost use mathlib.Core.Path.{_≡_};
 ghost use mathlib.Core.List.{_++_};
-ghost use Prim.Native.Nat.{_+_, _≤_, _<_};
+ghost use Prim.Native.Nat.{_+_, _-_, _≤_, _<_};
 ghost use lib.ListN.{length};
 ghost use Rattle.rules.specs.Numbers.{frameLength, consecutiveMost};
 ghost use Rattle.rules.specs.Ranges.{BlockRange};
-ghost use Rattle.rules.specs.Frames.{kind, low, singleFits, shortLength, escapeLength, announced, firstFits, consecutiveFits, flowFits, padded, counted, fillsBlock, gapOf, share, framesNeeded};
+ghost use Rattle.rules.specs.Frames.{kind, low, singleFits, shortLength, escapeLength, announced, firstFits, consecutiveFits, flowFits, padded, headed, counted, fillsBlock, gapOf, share, framesNeeded};
 
 // A byte as a length.
 pub fn wide(b: u8) -> u32
@@ -33,16 +33,8 @@ pub fn single_fits(frame: &[u8]) -> bool
     ensures { λ r. ⌜ r ≡ singleFits (now (frame .entry)) ⌝ }
 {
     let l = wide(low(frame));
-    if l < 1 {
-        return false;
-    }
-    if rules::SINGLE_MOST < l {
-        return false;
-    }
-    if frame.len() == rules::FRAME_LENGTH {
-        return true;
-    }
-    frame.len() == l as usize + 1
+    let n = frame.len();
+    (1 <= l) & (l <= rules::SINGLE_MOST) & ((n == rules::FRAME_LENGTH) | (n == l as usize + 1))
 }
 
 fn short_length(frame: &[u8]) -> u32
@@ -86,22 +78,15 @@ pub fn first_fits(frame: &[u8]) -> bool
 pub fn consecutive_fits(missing: u32, frame: &[u8]) -> bool
     ensures { λ r. ⌜ r ≡ consecutiveFits missing (now (frame .entry)) ⌝ }
 {
-    if frame.len() == rules::FRAME_LENGTH {
-        return true;
-    }
-    if rules::CONSECUTIVE_MOST < missing {
-        return false;
-    }
-    frame.len() == missing as usize + 1
+    let n = frame.len();
+    (n == rules::FRAME_LENGTH)
+        | ((missing <= rules::CONSECUTIVE_MOST) & (n == missing as usize + 1))
 }
 
 pub fn flow_fits(frame: &[u8]) -> bool
     ensures { λ r. ⌜ r ≡ flowFits (now (frame .entry)) ⌝ }
 {
-    if frame.len() < rules::LEAST_FLOW {
-        return false;
-    }
-    frame.len() <= rules::FRAME_LENGTH
+    (rules::LEAST_FLOW <= frame.len()) & (frame.len() <= rules::FRAME_LENGTH)
 }
 
 // The head and the piece, filled up with CC.
@@ -114,6 +99,15 @@ pub fn lay_out(frame: &mut [u8], head: &[u8], piece: &[u8])
     bytes::copy(head, &mut frame[..]);
     let n = head.len();
     bytes::copy(piece, &mut frame[n..]);
+}
+
+// A frame whose first byte has these halves.
+pub fn headed(frame: &mut [u8], kind: u8, low: u8, piece: &[u8])
+    requires { ⌜ (length (now frame) ≡ frameLength) × (kind < 16) × (low < 16) × (length (now piece) < frameLength) ⌝ }
+    ensures { λ _. ⌜ now (frame .exit) ≡ headed kind low (now (piece .entry)) ⌝ }
+{
+    let head = [kind * 16 + low];
+    lay_out(frame, &head, piece);
 }
 
 pub fn counted(block: u8, n: u8) -> u8
@@ -133,7 +127,7 @@ pub fn fills_block(block: u8, n: u8) -> bool
     if block == 0 {
         return false;
     }
-    n + 1 == block
+    counted(block, n) == block
 }
 
 pub fn gap_of(stmin: u8) -> u8
@@ -143,10 +137,7 @@ pub fn gap_of(stmin: u8) -> u8
     if s <= rules::MOST_MILLIS {
         return stmin;
     }
-    if s < rules::LEAST_FRACTION {
-        return rules::LONGEST_GAP;
-    }
-    if s <= rules::MOST_FRACTION {
+    if (rules::LEAST_FRACTION <= s) & (s <= rules::MOST_FRACTION) {
         return 1;
     }
     rules::LONGEST_GAP
@@ -160,6 +151,14 @@ pub fn share(r: u32) -> u32
         return rules::CONSECUTIVE_MOST;
     }
     r
+}
+
+// How many bytes of a message are done after the next consecutive frame.
+pub fn done_after(done: u32, length: u32) -> u32
+    requires { ⌜ done < length ⌝ }
+    ensures { λ n. ⌜ (n ≡ done + share consecutiveMost (length - done)) × (n ≤ length) ⌝ }
+{
+    done + share(length - done)
 }
 
 pub fn frames_needed(n: u64) -> u64

@@ -1,7 +1,7 @@
--- A count in a block has room for one more (`counts`).
+-- A block of no size is never filled.
 use borrow.Author.Tests.{eq-eqb, ne-eqb}
-use Rattle.rules.specs.Frames.{fillsBlock}
-use Rattle.frames.proofs.Fits.{counts}
+use Rattle.rules.specs.Frames.{counted, fillsBlock}
+use borrow.Author.Needs.{needs}
 use Rattle.frames.proofs.fills_block.Statement.{statement}
 use Rattle.frames.proofs.fills_block.Tie as tie
 
@@ -9,12 +9,12 @@ returns : tie.Need-returns
 unfolding fillsBlock
 returns c = simp (eq-eqb _ _ (c .if1 .taken))
 
-add-result : tie.Need-add-result
-add-result c = record { fits = counts (c .before .pre) (c .before .fits .block .fits) }
+counted-requires : tie.Need-counted-requires
+counted-requires c κs = search needs
 
 returns-2 : tie.Need-returns-2
-unfolding fillsBlock
-returns-2 c = simp (ne-eqb _ _ (c .if1 .left))
+unfolding counted fillsBlock
+returns-2 c = simp (c .counted .ensures, ne-eqb _ _ (c .before .if1 .left))
 
 pub fills-block-spec : {M : Type 1} → statement M
-fills-block-spec = tie.close (tie.spec returns add-result returns-2)
+fills-block-spec = tie.close (tie.spec returns counted-requires returns-2)

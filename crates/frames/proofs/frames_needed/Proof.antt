@@ -15,14 +15,14 @@ cast-if2 c = search needs
 
 returns-2 : tie.Need-returns-2
 unfolding framesNeeded needed
-returns-2 c = simp (le-leb _ _ (c .before .if1 .left), le-ltb _ _ (c .before .if1 .left), le-leb _ _ (c .if2 .taken), le-ltb _ _ (c .if2 .taken))
+returns-2 c = simp (le-leb _ _ (c .before .if1 .left), le-leb _ _ (c .if2 .taken), le-ltb _ _ (c .if2 .taken))
 
 cast-if3 : tie.Need-cast-if3
 cast-if3 c = search needs
 
 returns-3 : tie.Need-returns-3
 unfolding framesNeeded needed
-returns-3 c = simp (le-leb _ _ (c .before .before .if1 .left), le-ltb _ _ (c .before .before .if1 .left), lt-ltb _ _ (c .before .if2 .left), lt-leb _ _ (c .before .if2 .left), lt-ltb _ _ (c .if3 .taken), lt-leb _ _ (c .if3 .taken))
+returns-3 c = simp (le-leb _ _ (c .before .before .if1 .left), lt-ltb _ _ (c .before .if2 .left), lt-leb _ _ (c .before .if2 .left), lt-leb _ _ (c .if3 .taken))
 
 cast-result : tie.Need-cast-result
 cast-result c = search needs
@@ -50,7 +50,7 @@ add-result-2 c = search needs
 
 returns-4 : tie.Need-returns-4
 unfolding framesNeeded needed
-returns-4 c = simp (le-leb _ _ (c .before .before .if1 .left), le-ltb _ _ (c .before .before .if1 .left), lt-ltb _ _ (c .before .if2 .left), lt-leb _ _ (c .before .if2 .left), le-leb _ _ (c .if3 .left), le-ltb _ _ (c .if3 .left))
+returns-4 c = simp (le-leb _ _ (c .before .before .if1 .left), lt-ltb _ _ (c .before .if2 .left), lt-leb _ _ (c .before .if2 .left), le-leb _ _ (c .if3 .left))
 
 pub frames-needed-spec : {M : Type 1} → statement M
 frames-needed-spec =
