@@ -1,4 +1,4 @@
--- A block size of 0 asks for a count of 0.
+-- The block size picks one of the two tests.
 use borrow.Author.Tests.{eq-eqb, ne-eqb}
 use Rattle.rules.specs.Ranges.{inBlock}
 use Rattle.berth.proofs.ranges.in_block.Statement.{statement}
