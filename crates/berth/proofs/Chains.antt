@@ -1,13 +1,8 @@
 -- A chain of tests, each of which ends the function where it fails, computes what `all` says of the list of tests: one step of the
 -- chain for each element of the list.
-use Prim.Native.Nat.{ℕ, _+_, _-_, _≤_, _<_}
-use native.Mathlib.Omega.{arith}
 use mathlib.Core.Path.{_≡_, sym, _∙_}
 use mathlib.Core.Bool.{Bool, true, false, and-true}
 use mathlib.Core.List.{List, [], _∷_}
-use lib.Dec.{ltb}
-use borrow.Author.Tests.{lt-ltb, le-ltb}
-use Rattle.rules.specs.Numbers.{timeout}
 use Rattle.rules.specs.Tests.{all}
 
 -- the first test holds, and the others decide
@@ -24,11 +19,3 @@ stop bs e = rw e
 pub ends : {b r : Bool} → r ≡ b → r ≡ all (b ∷ [])
 unfolding all
 ends {b} e = e ∙ sym (and-true b)
-
--- ---- a timer: the code tests it before the tick, the rule after it
-
-pub running : (t : ℕ) → t < timeout - 1 → ltb (t + 1) timeout ≡ true
-running t h = lt-ltb (t + 1) timeout (omega arith)
-
-pub ended : (t : ℕ) → timeout - 1 ≤ t → ltb (t + 1) timeout ≡ false
-ended t h = le-ltb (t + 1) timeout (omega arith)

@@ -1,2 +1,3 @@
--- Facts that several proofs of this crate cite.
+-- Facts that several proofs, here or in `node`, cite.
 pub mod Chains
+pub mod Timers

@@ -1,6 +1,6 @@
 -- By cases on the receive side, each by its timer.
+use mathlib.Core.Logic.{⊎-elim}
 use borrow.Author.Needs.{needs}
-use Rattle.rules.specs.Ticks.{rxCode}
 use Rattle.berth.proofs.ticks.rx_code.Statement.{statement}
 use Rattle.berth.proofs.ticks.rx_code.Tie as tie
 
@@ -10,36 +10,26 @@ enum-told c = search needs
 enum-known-rx : tie.Need-enum-known-rx
 enum-known-rx c = search needs
 
-code-at-requires : tie.Need-code-at-requires
-code-at-requires c κs = search needs
-
 enum-known-rx-2 : tie.Need-enum-known-rx-2
 enum-known-rx-2 c = search needs
-
-code-at-requires-2 : tie.Need-code-at-requires-2
-code-at-requires-2 c κs = search needs
 
 enum-known-rx-3 : tie.Need-enum-known-rx-3
 enum-known-rx-3 c = search needs
 
-code-at-requires-3 : tie.Need-code-at-requires-3
-code-at-requires-3 c κs = search needs
+code-at-requires : tie.Need-code-at-requires
+code-at-requires c κs = search needs
+
+code-at-requires-2 : tie.Need-code-at-requires-2
+code-at-requires-2 c κs = search needs
 
 returns : tie.Need-returns
-unfolding rxCode
-returns c = simp (c .enum-told .given .1)
+returns c = search needs
 
 returns-2 : tie.Need-returns-2
-unfolding rxCode
-returns-2 c = simp (c .before .before .rx .given .1, c .code-at .ensures)
+returns-2 c = simp (c .before .before .rx3 .given .1, c .code-at .ensures)
 
 returns-3 : tie.Need-returns-3
-unfolding rxCode
-returns-3 c = simp (c .before .before .rx2 .given .1, c .code-at2 .ensures)
-
-returns-4 : tie.Need-returns-4
-unfolding rxCode
-returns-4 c = simp (c .before .before .rx3 .given .1, c .code-at3 .ensures)
+returns-3 c = ⊎-elim (λ w. simp (w .1 .given .1, w .3, c .code-at2 .ensures)) (λ w. simp (w .1 .given .1, w .3, c .code-at2 .ensures)) (c .before .match .came)
 
 pub rx-code-spec : {M : Type 1} → statement M
 rx-code-spec =
@@ -47,12 +37,10 @@ rx-code-spec =
     (tie.spec
     enum-told
     enum-known-rx
-    code-at-requires
     enum-known-rx-2
-    code-at-requires-2
     enum-known-rx-3
-    code-at-requires-3
+    code-at-requires
+    code-at-requires-2
     returns
     returns-2
-    returns-3
-    returns-4)
+    returns-3)
