@@ -2,10 +2,11 @@
 // length of the message now being sent.
 ghost use mathlib.Core.Path.{_≡_};
 ghost use mathlib.Core.Bool.{true};
+ghost use mathlib.Core.List.{[], _∷_};
 ghost use Prim.Native.Nat.{_≤_, _<_};
 ghost use lib.ListN.{length, take, drop};
-ghost use Rattle.rules.specs.Numbers.{leastArea, largestArea, snCount, frameLength, singleMost, firstBytes, consecutiveMost};
-ghost use Rattle.rules.specs.Frames.{singleFrame, firstFrame, consecutiveFrame, share};
+ghost use Rattle.rules.specs.Numbers.{leastArea, largestArea, snCount, flowKind, frameLength, singleMost, firstBytes, consecutiveMost};
+ghost use Rattle.rules.specs.Frames.{headed, singleFrame, firstFrame, consecutiveFrame, share};
 ghost use Rattle.rules.specs.Ranges.{SendingRange, TxRange, BerthRange};
 ghost use Rattle.rules.specs.Turns.{flowDue, messageDue, due, flowFrame, afterFlow, toGo, messageFrame, messageCode, opened, moved, afterConsecutive, afterMessage, handOver, beginsWith, sent, lengthSending, busy};
 ghost use Rattle.berth.specs.Reading.{handedOf};
@@ -50,6 +51,14 @@ pub fn due(berth: Berth) -> bool
     message_due(tx)
 }
 
+fn flow_control(status: u8, block: u8, stmin: u8, frame: &mut [u8])
+    requires { ⌜ (status < 16) × (length (now frame) ≡ frameLength) ⌝ }
+    ensures { λ _. ⌜ now (frame .exit) ≡ headed flowKind status (block ∷ stmin ∷ []) ⌝ }
+{
+    let piece = [block, stmin];
+    frames::headed(frame, rules::FLOW_KIND, status, &piece);
+}
+
 // Flow control that is owed, into the frame.
 fn flow_frame(settings: Settings, rx: Rx, frame: &mut [u8])
     requires { ⌜ (flowDue rx ≡ true) × (length (now frame) ≡ frameLength) ⌝ }
@@ -57,15 +66,9 @@ fn flow_frame(settings: Settings, rx: Rx, frame: &mut [u8])
 {
     match rx {
         Rx::Idle => {}
-        Rx::OwesOverflow(_) => {
-            let head = [rules::FLOW_KIND * 16 + rules::OVERFLOW_STATUS];
-            let piece = [0u8, 0];
-            frames::lay_out(frame, &head, &piece);
-        }
+        Rx::OwesOverflow(_) => flow_control(rules::OVERFLOW_STATUS, 0, 0, frame),
         Rx::OwesGo(_, _) => {
-            let head = [rules::FLOW_KIND * 16 + rules::GO_STATUS];
-            let piece = [settings.block, settings.stmin];
-            frames::lay_out(frame, &head, &piece);
+            flow_control(rules::GO_STATUS, settings.block, settings.stmin, frame)
         }
         Rx::Awaits(_, _) => {}
     }
@@ -97,9 +100,8 @@ fn single_frame(n: u32, area: &[u8], frame: &mut [u8])
     requires { ⌜ (n ≤ singleMost) × (n ≤ length (now area)) × (length (now frame) ≡ frameLength) ⌝ }
     ensures { λ _. ⌜ now (frame .exit) ≡ singleFrame (take n (now (area .entry))) ⌝ }
 {
-    let head = [rules::SINGLE_KIND * 16 + n as u8];
     let e = n as usize;
-    frames::lay_out(frame, &head, &area[..e]);
+    frames::headed(frame, rules::SINGLE_KIND, n as u8, &area[..e]);
 }
 
 fn first_frame(n: u32, area: &[u8], frame: &mut [u8])
@@ -116,10 +118,9 @@ fn consecutive_frame(o: Sending, area: &[u8], frame: &mut [u8])
     ensures { λ _. ⌜ now (frame .exit) ≡ consecutiveFrame (o .sn) (take (share consecutiveMost (toGo o)) (drop (o .position) (now (area .entry)))) ⌝ }
 {
     let sn = o.sn.0;
-    let head = [rules::CONSECUTIVE_KIND * 16 + sn];
     let lo = o.position as usize;
-    let hi = lo + frames::share(to_go(o)) as usize;
-    frames::lay_out(frame, &head, &area[lo..hi]);
+    let hi = frames::done_after(o.position, o.length) as usize;
+    frames::headed(frame, rules::CONSECUTIVE_KIND, sn, &area[lo..hi]);
 }
 
 // A message's frame that is due, into the frame.
@@ -160,7 +161,7 @@ fn opened(n: u32) -> Sending
     Sending {
         length: n,
         position: rules::FIRST_BYTES,
-        sn: Sn::first(),
+        sn: Sn::FIRST,
         block: 0,
         sent: 0,
         gap: 0,
@@ -174,7 +175,7 @@ fn moved(o: Sending, sent: u8, left: u8) -> Sending
 {
     Sending {
         length: o.length,
-        position: o.position + frames::share(to_go(o)),
+        position: frames::done_after(o.position, o.length),
         sn: o.sn.next(),
         block: o.block,
         sent: sent,
@@ -225,27 +226,17 @@ pub fn hand_over(settings: Settings, berth: Berth, area: &[u8], frame: &mut [u8]
     ensures { λ r. ⌜ handedOf r (now (frame .exit)) ≡ handOver settings berth (now (area .entry)) ⌝ }
 {
     let rx = berth.rx;
-    let tx = berth.tx;
     if flow_due(rx) {
         flow_frame(settings, rx, frame);
-        let after = Berth {
-            rx: after_flow(rx),
-            last: berth.last,
-            tx: tx,
-        };
         return Handed {
-            berth: after,
+            berth: berth.with_rx(after_flow(rx), berth.last),
             code: 0,
         };
     }
+    let tx = berth.tx;
     message_frame(settings, tx, area, frame);
-    let after = Berth {
-        rx: rx,
-        last: berth.last,
-        tx: after_message(settings, tx),
-    };
     Handed {
-        berth: after,
+        berth: berth.with_tx(after_message(settings, tx)),
         code: message_code(settings, tx),
     }
 }
@@ -263,13 +254,7 @@ fn begins_with(n: u32) -> Tx
 pub fn sent(berth: Berth, n: u32) -> Berth
     ensures { λ r. ⌜ r ≡ sent berth n ⌝ }
 {
-    let rx = berth.rx;
-    let tx = begins_with(n);
-    Berth {
-        rx: rx,
-        last: berth.last,
-        tx: tx,
-    }
+    berth.with_tx(begins_with(n))
 }
 
 // The length of the message now being sent, 0 for none.

@@ -1,6 +1,5 @@
--- By cases on the receive side.
+-- By cases on the receive side; a new block counts from 0.
 use borrow.Author.Needs.{needs}
-use Rattle.rules.specs.Turns.{afterFlow, newBlock}
 use Rattle.berth.proofs.turns.after_flow.Statement.{statement}
 use Rattle.berth.proofs.turns.after_flow.Tie as tie
 
@@ -17,20 +16,16 @@ enum-told-3 : tie.Need-enum-told-3
 enum-told-3 c = search needs
 
 returns : tie.Need-returns
-unfolding afterFlow newBlock
-returns c = simp (c .enum-told .given .1)
+returns c = search needs
 
 returns-2 : tie.Need-returns-2
-unfolding afterFlow newBlock
-returns-2 c = simp (c .enum-told2 .given .1)
+returns-2 c = search needs
 
 returns-3 : tie.Need-returns-3
-unfolding afterFlow newBlock
 returns-3 c = simp (c .before .rx .given .1)
 
 returns-4 : tie.Need-returns-4
-unfolding afterFlow newBlock
-returns-4 c = simp (c .enum-told3 .given .1)
+returns-4 c = search needs
 
 pub after-flow-spec : {M : Type 1} → statement M
 after-flow-spec =

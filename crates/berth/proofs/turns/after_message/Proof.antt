@@ -1,6 +1,5 @@
 -- By cases on the send side.
 use borrow.Author.Needs.{needs}
-use Rattle.rules.specs.Turns.{afterMessage}
 use Rattle.berth.proofs.turns.after_message.Statement.{statement}
 use Rattle.berth.proofs.turns.after_message.Tie as tie
 
@@ -26,23 +25,18 @@ after-consecutive-requires : tie.Need-after-consecutive-requires
 after-consecutive-requires c κs = (rw (c .before .tx2 .given .1) at (c .before .before .before .pre)) .0
 
 returns : tie.Need-returns
-unfolding afterMessage
 returns c = simp (c .enum-told .given .1)
 
 returns-2 : tie.Need-returns-2
-unfolding afterMessage
 returns-2 c = simp (c .enum-told2 .given .1)
 
 returns-3 : tie.Need-returns-3
-unfolding afterMessage
 returns-3 c = simp (c .before .before .tx .given .1, c .opened .ensures)
 
 returns-4 : tie.Need-returns-4
-unfolding afterMessage
 returns-4 c = simp (c .enum-told3 .given .1)
 
 returns-5 : tie.Need-returns-5
-unfolding afterMessage
 returns-5 c = simp (c .before .before .tx2 .given .1, c .after-consecutive .ensures)
 
 pub after-message-spec : {M : Type 1} → statement M

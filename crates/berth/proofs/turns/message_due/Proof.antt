@@ -1,6 +1,5 @@
--- By cases on the send side.
+-- By cases on the send side; a consecutive frame waits for its gap.
 use borrow.Author.Needs.{needs}
-use Rattle.rules.specs.Turns.{messageDue}
 use Rattle.berth.proofs.turns.message_due.Statement.{statement}
 use Rattle.berth.proofs.turns.message_due.Tie as tie
 
@@ -20,23 +19,18 @@ enum-known-tx : tie.Need-enum-known-tx
 enum-known-tx c = search needs
 
 returns : tie.Need-returns
-unfolding messageDue
-returns c = simp (c .enum-told .given .1)
+returns c = search needs
 
 returns-2 : tie.Need-returns-2
-unfolding messageDue
-returns-2 c = simp (c .enum-told2 .given .1)
+returns-2 c = search needs
 
 returns-3 : tie.Need-returns-3
-unfolding messageDue
-returns-3 c = simp (c .enum-told3 .given .1)
+returns-3 c = search needs
 
 returns-4 : tie.Need-returns-4
-unfolding messageDue
-returns-4 c = simp (c .enum-told4 .given .1)
+returns-4 c = search needs
 
 returns-5 : tie.Need-returns-5
-unfolding messageDue
 returns-5 c = simp (c .before .before .tx .given .1)
 
 pub message-due-spec : {M : Type 1} → statement M

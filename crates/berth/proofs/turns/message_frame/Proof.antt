@@ -3,7 +3,6 @@ use native.Mathlib.Omega.{arith}
 use mathlib.Core.Path.{sym, _∙_}
 use mathlib.Core.Bool.{true, false, true≢false}
 use borrow.Author.Needs.{needs}
-use Rattle.rules.specs.Turns.{messageDue, messageFrame}
 use Rattle.berth.proofs.turns.message_frame.Statement.{statement}
 use Rattle.berth.proofs.turns.message_frame.Tie as tie
 
@@ -32,32 +31,27 @@ consecutive-frame-requires : tie.Need-consecutive-frame-requires
 consecutive-frame-requires c κs = let range = (rw (c .before .before .tx3 .given .1) at (c .before .before .before .before .before .before .pre .1)) .0 in (range .position-most, omega (arith, c .before .before .before .before .before .before .pre .4, range .length-most), range .sn-most, c .before .before .before .before .before .before .pre .5)
 
 returns : tie.Need-returns
-unfolding messageDue
 returns c = absurd (true≢false (sym (c .before .before .before .before .pre .0) ∙ rw (c .enum-told .given .1)))
 
 same-length : tie.Need-same-length
 same-length c = search needs
 
 returns-2 : tie.Need-returns-2
-unfolding messageFrame
 returns-2 c = rw (c .before .before .before .before .before .tx .given .1) (c .before .before .single-frame .ensures)
 
 same-length-2 : tie.Need-same-length-2
 same-length-2 c = search needs
 
 returns-3 : tie.Need-returns-3
-unfolding messageFrame
 returns-3 c = rw (c .before .before .before .before .before .tx2 .given .1) (c .before .before .first-frame .ensures)
 
 returns-4 : tie.Need-returns-4
-unfolding messageDue
 returns-4 c = absurd (true≢false (sym (c .before .before .before .before .pre .0) ∙ rw (c .enum-told2 .given .1)))
 
 same-length-3 : tie.Need-same-length-3
 same-length-3 c = search needs
 
 returns-5 : tie.Need-returns-5
-unfolding messageFrame
 returns-5 c = rw (c .before .before .before .before .before .tx3 .given .1) (c .before .before .consecutive-frame .ensures)
 
 pub message-frame-spec : {M : Type 1} → statement M
