@@ -9,7 +9,7 @@ ghost use lib.ListN.{length};
 ghost use Rattle.rules.specs.Numbers.{frameLength, leastFlow, consecutiveMost};
 ghost use Rattle.rules.specs.Frames.{share};
 ghost use Rattle.rules.specs.Ranges.{TakingRange, RxRange, BerthRange};
-ghost use Rattle.rules.specs.Arrivals.{Heard as HeardRule, ignored, oldCode, singleCame, turnedAway, taking, begun, firstCame, missing, piece, grown, afterTook, awaitedCame, consecutiveCame, granted, byStatus, flowIgnored, flowCame, heardBy, toldBy, byKind, frameCame};
+ghost use Rattle.rules.specs.Arrivals.{Heard as HeardRule, ignored, oldCode, singleCame, taking, begun, firstCame, missing, piece, grown, afterTook, awaitedCame, consecutiveCame, granted, byStatus, flowIgnored, flowCame, heardBy, toldBy, byKind, frameCame};
 ghost use Rattle.arrivals.specs.Reading.{Hears, Comes, toldOf};
 use rules::Berth;
 use rules::Rx;
@@ -98,19 +98,13 @@ fn single_came(rx: Rx, last: u32, frame: &[u8]) -> Heard
     ignored(rules::WRONG_LENGTH, rx, last)
 }
 
-fn turned_away(rx: Rx, last: u32) -> Heard
-    ensures { λ r. ⌜ ((d : List ℕ) → Hears r d (turnedAway rx last)) ⌝ }
-{
-    unstored(Rx::OwesOverflow(0), last, old_code(rx), Word::TooLong)
-}
-
 fn taking(n: u32) -> Taking
     ensures { λ r. ⌜ r ≡ taking n ⌝ }
 {
     Taking {
         total: n,
         got: rules::FIRST_BYTES,
-        sn: Sn::first(),
+        sn: Sn::FIRST,
         taken: 0,
     }
 }
@@ -136,7 +130,7 @@ fn first_came(settings: Settings, rx: Rx, last: u32, frame: &[u8]) -> Heard
     if frames::first_fits(frame) {
         let n = frames::announced(frame);
         if settings.area < n {
-            return turned_away(rx, last);
+            return unstored(Rx::OwesOverflow(0), last, old_code(rx), Word::TooLong);
         }
         return begun(n, rx);
     }
@@ -156,7 +150,7 @@ fn grown(p: Taking, count: u8) -> Taking
 {
     Taking {
         total: p.total,
-        got: p.got + frames::share(missing(p)),
+        got: frames::done_after(p.got, p.total),
         sn: p.sn.next(),
         taken: count,
     }
@@ -214,10 +208,8 @@ fn consecutive_came(settings: Settings, rx: Rx, last: u32, frame: &[u8]) -> Hear
     ensures { λ r. ⌜ Hears r (now (frame .entry)) (consecutiveCame settings rx last (now (frame .entry))) ⌝ }
 {
     match rx {
-        Rx::Idle => ignored(rules::NOT_AWAITED, rx, last),
-        Rx::OwesOverflow(_) => ignored(rules::NOT_AWAITED, rx, last),
-        Rx::OwesGo(_, _) => ignored(rules::NOT_AWAITED, rx, last),
         Rx::Awaits(p, t) => awaited_came(settings, p, t, last, frame),
+        _ => ignored(rules::NOT_AWAITED, rx, last),
     }
 }
 
@@ -284,16 +276,13 @@ fn flow_came(tx: Tx, frame: &[u8]) -> Told
     ensures { λ r. ⌜ toldOf r ≡ flowCame tx (now (frame .entry)) ⌝ }
 {
     match tx {
-        Tx::Idle => flow_ignored(rules::NOT_AWAITED, tx),
-        Tx::SingleDue(_, _) => flow_ignored(rules::NOT_AWAITED, tx),
-        Tx::FirstDue(_, _) => flow_ignored(rules::NOT_AWAITED, tx),
         Tx::AwaitsFlow(o, _) => {
             if frames::flow_fits(frame) {
                 return by_status(o, frame);
             }
             flow_ignored(rules::WRONG_LENGTH, tx)
         }
-        Tx::Consecutive(_, _) => flow_ignored(rules::NOT_AWAITED, tx),
+        _ => flow_ignored(rules::NOT_AWAITED, tx),
     }
 }
 
@@ -301,15 +290,9 @@ fn heard_by(berth: Berth, heard: Heard) -> Came
     ensures { λ r. ⌜ ((d : List ℕ) → (h : HeardRule) → Hears heard d h → Comes r d (heardBy berth h)) ⌝ }
 {
     let rx = heard.rx;
-    let tx = berth.tx;
     let word = heard.word;
-    let after = Berth {
-        rx: rx,
-        last: heard.last,
-        tx: tx,
-    };
     Came {
-        berth: after,
+        berth: berth.with_rx(rx, heard.last),
         old: heard.old,
         word: word,
         place: heard.place,
@@ -321,16 +304,10 @@ fn heard_by(berth: Berth, heard: Heard) -> Came
 fn told_by(berth: Berth, told: Told) -> Came
     ensures { λ r. ⌜ ((d : List ℕ) → Comes r d (toldBy berth (toldOf told))) ⌝ }
 {
-    let rx = berth.rx;
     let tx = told.tx;
     let word = told.word;
-    let after = Berth {
-        rx: rx,
-        last: berth.last,
-        tx: tx,
-    };
     Came {
-        berth: after,
+        berth: berth.with_tx(tx),
         old: 0,
         word: word,
         place: 0,

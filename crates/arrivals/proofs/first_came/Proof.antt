@@ -1,9 +1,9 @@
 -- A frame that fits has eight bytes (`first-whole`), so its length can be read; then A decides.
 use mathlib.Core.Path.{sym, _∙_}
 use borrow.Author.Tests.{le-ltb, lt-ltb}
-use borrow.Author.Needs.{needs}
-use Rattle.rules.specs.Arrivals.{firstCame}
+use Rattle.rules.specs.Arrivals.{turnedAway, firstCame}
 use Rattle.frames.proofs.Fits.{first-whole}
+use borrow.Author.Needs.{needs}
 use Rattle.arrivals.proofs.first_came.Statement.{statement}
 use Rattle.arrivals.proofs.first_came.Tie as tie
 
@@ -13,12 +13,16 @@ first-fits-requires c κs = search needs
 announced-requires : tie.Need-announced-requires
 announced-requires c κs = first-whole _ (sym (c .before .first-fits .ensures) ∙ c .if1 .taken)
 
-turned-away-requires : tie.Need-turned-away-requires
-turned-away-requires c κs = search needs
+old-code-requires : tie.Need-old-code-requires
+old-code-requires c κs = search needs
+
+unstored-requires : tie.Need-unstored-requires
+unstored-requires c κs = search needs
 
 returns : tie.Need-returns
-unfolding firstCame
-returns c = simp (sym (c .before .before .before .before .before .first-fits .ensures) ∙ c .before .before .before .before .if1 .taken, ← c .before .before .before .announced .ensures, lt-ltb _ _ (c .before .if2 .taken)) (c .turned-away .ensures _)
+unfolding firstCame turnedAway
+returns c = let fits = sym (c .before .before .before .before .before .before .first-fits .ensures) ∙ c .before .before .before .before .before .if1 .taken in
+    simp (fits, ← c .before .before .before .before .announced .ensures, lt-ltb _ _ (c .before .before .if2 .taken), ← c .before .old-code .ensures) (c .unstored .ensures _)
 
 begun-requires : tie.Need-begun-requires
 begun-requires c κs = search needs
@@ -41,7 +45,8 @@ first-came-spec =
     (tie.spec
     first-fits-requires
     announced-requires
-    turned-away-requires
+    old-code-requires
+    unstored-requires
     returns
     begun-requires
     returns-2
