@@ -104,7 +104,7 @@ fn taking(n: u32) -> Taking
     Taking {
         total: n,
         got: rules::FIRST_BYTES,
-        sn: Sn::FIRST,
+        sn: Sn::first(),
         taken: 0,
     }
 }

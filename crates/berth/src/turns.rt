@@ -161,7 +161,7 @@ fn opened(n: u32) -> Sending
     Sending {
         length: n,
         position: rules::FIRST_BYTES,
-        sn: Sn::FIRST,
+        sn: Sn::first(),
         block: 0,
         sent: 0,
         gap: 0,
