@@ -3,7 +3,7 @@
 ghost use Prim.Native.Nat.{_≤_, _<_};
 use libc::STDIN_FILENO;
 use libc::STDOUT_FILENO;
-use records::line::Line;
+use lines::Line;
 use records::record::Record;
 use rules::Berth;
 use rules::Node;
@@ -56,7 +56,7 @@ fn sent(number: u64, node: Node, outgoing: &mut [u8], berth: u8, length: u32, fi
     let answer = out.answer;
     let after = out.node;
     Outcome {
-        line: records::line::send(number, answer),
+        line: lines::send(number, answer),
         node: after,
     }
 }
@@ -67,7 +67,7 @@ fn turned(number: u64, node: Node, outgoing: &[u8]) -> Outcome {
     let answer = out.answer;
     let after = out.node;
     Outcome {
-        line: records::line::turn(number, answer, &buffer),
+        line: lines::turn(number, answer, &buffer),
         node: after,
     }
 }
@@ -77,7 +77,7 @@ fn ticked(number: u64, node: Node) -> Outcome {
     let answer = out.answer;
     let after = out.node;
     Outcome {
-        line: records::line::tick(number, answer),
+        line: lines::tick(number, answer),
         node: after,
     }
 }
@@ -87,7 +87,7 @@ fn heard(number: u64, node: Node, incoming: &mut [u8], identifier: u32, payload:
     let answer = out.answer;
     let after = out.node;
     Outcome {
-        line: records::line::frame(number, answer),
+        line: lines::frame(number, answer),
         node: after,
     }
 }
@@ -103,7 +103,7 @@ fn answered(
     let record = records::record::read(bytes);
     match record {
         Record::Bad => Outcome {
-            line: records::line::bad(number),
+            line: lines::bad(number),
             node: node,
         },
         Record::Frame { identifier, length } => {
@@ -130,11 +130,11 @@ fn flush(output: &[u8], waiting: usize) {
 fn put(output: &mut [u8], waiting: usize, line: Line) -> usize {
     if waiting < output.len() {
         if line.length < output.len() - waiting {
-            return records::line::copy(line, output, waiting);
+            return lines::copy(line, output, waiting);
         }
     }
     flush(output, waiting);
-    records::line::copy(line, output, 0)
+    lines::copy(line, output, 0)
 }
 
 // The record at the start of what is left of a piece. A piece ends inside a record only where the input does.
@@ -152,7 +152,7 @@ fn step(
         return Progress {
             node: node,
             number: number,
-            waiting: put(output, waiting, records::line::short(number)),
+            waiting: put(output, waiting, lines::short(number)),
             more: false,
         };
     }

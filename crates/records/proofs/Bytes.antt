@@ -35,10 +35,3 @@ module _ (f : ℕ → Bool) (l : List ℕ) (i to : ℕ) where
       take-none : (n : ℕ) → take {A = ℕ} n [] ≡ []
       take-none zero = refl
       take-none (suc n) = refl
-
--- what is left of a list, taken one by one
-pub rest-cons : {X : Type 0} (l : List X) (i : ℕ) (d : X) → i < length l → drop i l ≡ getD l i d ∷ drop (i + 1) l
-rest-cons l i d h = rw (add-one) (drop-cons l i d h)
-
-pub rest-none : {X : Type 0} (l : List X) (i : ℕ) → length l ≤ i → drop i l ≡ []
-rest-none l i h = drop-of-length-le l h

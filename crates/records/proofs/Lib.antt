@@ -1,6 +1,4 @@
+-- Facts that proofs of this crate cite, and what a record that was read tells.
 pub mod Bytes
-pub mod Clip
-pub mod Copied
-pub mod Decimal
-pub mod Lengths
 pub mod Reading
+pub mod Rising

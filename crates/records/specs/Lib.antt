@@ -1,2 +1,2 @@
+-- The records of the exerciser.
 pub mod Records
-pub mod Lines

@@ -1,4 +1,3 @@
-// The exerciser's records and lines: sixteen bytes to a call, and an answer to its line of text. Paper 01, "The exerciser".
-pub mod line;
+// The exerciser's records: sixteen bytes to a call, and the message of a send. Paper 01, "The exerciser".
 pub mod message;
 pub mod record;

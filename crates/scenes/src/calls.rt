@@ -31,12 +31,7 @@ pub(crate) fn frame(
     let came = carumpek::local::frame(node, &mut incoming[..store], id, &data[..n]);
     let answer = came.answer;
     let after = came.node;
-    scene::say_after(
-        before,
-        after,
-        records::line::frame(before.number, answer),
-        out,
-    )
+    scene::say_after(before, after, lines::frame(before.number, answer), out)
 }
 
 pub(crate) fn tick(before: Scene, out: &mut [u8]) -> Scene {
@@ -44,12 +39,7 @@ pub(crate) fn tick(before: Scene, out: &mut [u8]) -> Scene {
     let came = carumpek::local::tick(node);
     let answer = came.answer;
     let after = came.node;
-    scene::say_after(
-        before,
-        after,
-        records::line::tick(before.number, answer),
-        out,
-    )
+    scene::say_after(before, after, lines::tick(before.number, answer), out)
 }
 
 pub(crate) fn send(before: Scene, record: &[u8; 16], outgoing: &mut [u8], out: &mut [u8]) -> Scene {
@@ -62,12 +52,7 @@ pub(crate) fn send(before: Scene, record: &[u8; 16], outgoing: &mut [u8], out: &
     let came = carumpek::local::send(node, &mut outgoing[..store], k, &message[..n]);
     let answer = came.answer;
     let after = came.node;
-    scene::say_after(
-        before,
-        after,
-        records::line::send(before.number, answer),
-        out,
-    )
+    scene::say_after(before, after, lines::send(before.number, answer), out)
 }
 
 // The line goes on with the whole buffer, also after `none` and a refusal.
@@ -75,7 +60,7 @@ fn turned(before: Scene, outgoing: &[u8], buffer: &mut [u8], out: &mut [u8]) -> 
     let node = before.node;
     let came = carumpek::local::turn(node, outgoing, buffer);
     let answer = came.answer;
-    let line = output::open(records::line::turn(before.number, answer, buffer));
+    let line = output::open(lines::turn(before.number, answer, buffer));
     let next = came.node;
     let mut after = before;
     after.node = next;
@@ -103,10 +88,10 @@ pub(crate) fn set_up(before: Scene, record: &[u8; 16], at: usize, out: &mut [u8]
     let after = came.node;
     match answer {
         SetUpAnswer::Refused(n) => {
-            scene::say_after(before, after, records::line::refused(before.number, n), out)
+            scene::say_after(before, after, lines::refused(before.number, n), out)
         }
         SetUpAnswer::Ready => {
-            let line = records::line::numbered(before.number).text(b"setup\n");
+            let line = lines::numbered(before.number).text(b"setup\n");
             scene::say_after(before, after, line, out)
         }
     }

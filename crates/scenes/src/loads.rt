@@ -49,7 +49,7 @@ fn send_side(record: &[u8; 16]) -> Tx {
 }
 
 fn loaded(before: Scene, node: Node, out: &mut [u8]) -> Scene {
-    let line = records::line::numbered(before.number).text(b"loaded\n");
+    let line = lines::numbered(before.number).text(b"loaded\n");
     scene::say_after(before, node, line, out)
 }
 

@@ -2,7 +2,7 @@
 use crate::judged;
 use crate::output;
 use crate::scene::Scene;
-use records::line::Line;
+use lines::Line;
 use rules::Berth;
 use rules::Rx;
 use rules::Sending;
@@ -71,7 +71,7 @@ fn send_side(line: Line, tx: Tx) -> Line {
 fn state(number: u64, berth: Berth) -> Line {
     let rx = berth.rx;
     let tx = berth.tx;
-    let line = receive_side(records::line::numbered(number).text(b"state"), rx);
+    let line = receive_side(lines::numbered(number).text(b"state"), rx);
     send_side(numbers(line.text(b" last"), &[berth.last as u64]), tx).put(b'\n')
 }
 
@@ -82,14 +82,14 @@ fn own(number: u64, settings: Settings, served: u8) -> Line {
         settings.stmin as u64,
         served as u64,
     ];
-    numbers(records::line::numbered(number).text(b"node"), &list).put(b'\n')
+    numbers(lines::numbered(number).text(b"node"), &list).put(b'\n')
 }
 
 fn needed(number: u64, record: &[u8; 16]) -> Line {
     let high = judged::four(record, 1);
     let low = judged::four(record, 5);
     let n = carumpek::frames_needed(high as u64 * 4294967296 + low as u64);
-    numbers(records::line::numbered(number).text(b"needs"), &[n]).put(b'\n')
+    numbers(lines::numbered(number).text(b"needs"), &[n]).put(b'\n')
 }
 
 fn show<'a>(
@@ -110,7 +110,7 @@ fn show<'a>(
         k,
         record[2] == 1,
     );
-    let line = records::line::numbered(before.number).text(b"show");
+    let line = lines::numbered(before.number).text(b"show");
     output::put_bytes(out, before.waiting, line, part)
 }
 
@@ -123,7 +123,7 @@ fn area(before: Scene, berth: u8, store: &[u8], out: &mut [u8]) -> usize {
     let from = output::lent(store, start(berth, before.area));
     let rest = &store[from..];
     let n = output::lent(rest, before.area as usize);
-    let line = records::line::numbered(before.number).text(b"area");
+    let line = lines::numbered(before.number).text(b"area");
     output::put_bytes(out, before.waiting, line, &rest[..n])
 }
 

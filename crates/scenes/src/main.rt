@@ -15,7 +15,7 @@ use libc::STDIN_FILENO;
 // The header's areas are lent whole. A header that is refused or bad leaves the stores empty.
 fn header(before: Scene, record: &[u8; 16], out: &mut [u8]) -> Scene {
     if !records::record::unused(record, 8, 16) {
-        return scene::say(before, records::line::bad(0), out);
+        return scene::say(before, lines::bad(0), out);
     }
     let mut after = calls::set_up(before, record, 0, out);
     let node = after.node;
@@ -60,7 +60,7 @@ fn run_record(
     if judged::is_good(record) {
         return run_kind(before, record, incoming, outgoing, out);
     }
-    scene::say(before, records::line::bad(before.number), out)
+    scene::say(before, lines::bad(before.number), out)
 }
 
 fn record_at(rest: &[u8]) -> [u8; 16]
@@ -84,7 +84,7 @@ fn step(
     out: &mut [u8],
 ) -> Scene {
     if rest.len() < 16 {
-        return scene::say(before, records::line::short(before.number), out);
+        return scene::say(before, lines::short(before.number), out);
     }
     let record = record_at(rest);
     let mut after = run_record(before, &record, incoming, outgoing, out);

@@ -2,7 +2,7 @@
 // answers how many do then.
 ghost use Rattle.io.specs.Counts.{Counts};
 use libc::STDOUT_FILENO;
-use records::line::Line;
+use lines::Line;
 
 // How many bytes of a part there are: all that are asked for, or those of the whole.
 pub(crate) fn lent(whole: &[u8], asked: usize) -> usize
@@ -23,11 +23,11 @@ pub(crate) fn flush(output: &[u8], waiting: usize) {
 pub(crate) fn put(output: &mut [u8], waiting: usize, line: Line) -> usize {
     if waiting < output.len() {
         if line.length < output.len() - waiting {
-            return records::line::copy(line, output, waiting);
+            return lines::copy(line, output, waiting);
         }
     }
     flush(output, waiting);
-    records::line::copy(line, output, 0)
+    lines::copy(line, output, 0)
 }
 
 // A line that goes on: without its LF.

@@ -1,6 +1,6 @@
 // A scene: the node, how much of the stores is lent to it, and how far the records have come.
 use crate::output;
-use records::line::Line;
+use lines::Line;
 use rules::Berth;
 use rules::Node;
 use rules::Rx;

@@ -5,7 +5,7 @@ use mathlib.Core.List.{_++_}
 use native.Mathlib.Omega.{arith}
 use lib.ListN.{length, take, length-set}
 use Rattle.records.specs.Records.{risingFrom}
-use Rattle.records.proofs.Copied.{rising-step, rising-whole}
+use Rattle.records.proofs.Rising.{rising-step, rising-whole}
 use Rattle.records.proofs.message.rise.Statement.{statement}
 use Rattle.records.proofs.message.rise.Tie as tie
 

@@ -1,0 +1,2 @@
+-- The lines of the exerciser.
+pub mod Lines
