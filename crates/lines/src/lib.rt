@@ -85,7 +85,7 @@ impl Line {
         self.put(hex_digit(b / 16)).put(hex_digit(b % 16))
     }
 
-    fn hex(self, bytes: &[u8]) -> Line
+    pub fn hex(self, bytes: &[u8]) -> Line
         ensures { λ r. ⌜ textOf r ≡ clipped (textOf self ++ hexText (now (bytes .entry))) ⌝ }
     {
         let mut line = self;

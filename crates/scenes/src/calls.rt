@@ -1,10 +1,16 @@
-// The records that go to the node's calls.
+// The records that go to the node's calls. A store comes as long as it is lent.
 ghost use Prim.Native.Nat.{_<_};
-use crate::judged;
-use crate::output;
-use crate::scene;
-use crate::scene::Scene;
+use lines::Line;
+use rules::Node;
 use rules::SetUpAnswer;
+use script::judged;
+use script::output;
+
+// What a record leaves beside the stores: its line and the node.
+pub(crate) struct Outcome {
+    pub line: Line,
+    pub node: Node,
+}
 
 // At most 15 data bytes: the record's eight, and zeros behind them.
 fn payload(record: &[u8; 16]) -> [u8; 15] {
@@ -17,82 +23,80 @@ fn payload(record: &[u8; 16]) -> [u8; 15] {
     data
 }
 
-pub(crate) fn frame(
-    before: Scene,
-    record: &[u8; 16],
-    incoming: &mut [u8],
-    out: &mut [u8],
-) -> Scene {
+pub(crate) fn frame(number: u64, node: Node, record: &[u8; 16], incoming: &mut [u8]) -> Outcome {
     let data = payload(record);
     let n = output::lent(&data, judged::two(0, record[4]) as usize);
-    let store = output::lent(incoming, before.incoming);
-    let node = before.node;
     let id = judged::two(record[2], record[3]);
-    let came = carumpek::local::frame(node, &mut incoming[..store], id, &data[..n]);
+    let came = carumpek::local::frame(node, incoming, id, &data[..n]);
     let answer = came.answer;
     let after = came.node;
-    scene::say_after(before, after, lines::frame(before.number, answer), out)
+    Outcome {
+        line: lines::frame(number, answer),
+        node: after,
+    }
 }
 
-pub(crate) fn tick(before: Scene, out: &mut [u8]) -> Scene {
-    let node = before.node;
+pub(crate) fn tick(number: u64, node: Node) -> Outcome {
     let came = carumpek::local::tick(node);
     let answer = came.answer;
     let after = came.node;
-    scene::say_after(before, after, lines::tick(before.number, answer), out)
+    Outcome {
+        line: lines::tick(number, answer),
+        node: after,
+    }
 }
 
-pub(crate) fn send(before: Scene, record: &[u8; 16], outgoing: &mut [u8], out: &mut [u8]) -> Scene {
+pub(crate) fn send(number: u64, node: Node, record: &[u8; 16], outgoing: &mut [u8]) -> Outcome {
     let mut message = [0u8; 4096];
     records::message::rise(&mut message, record[8]);
     let n = output::lent(&message, judged::two(record[2], record[3]) as usize);
-    let store = output::lent(outgoing, before.outgoing);
-    let node = before.node;
     let k = judged::two(0, record[1]);
-    let came = carumpek::local::send(node, &mut outgoing[..store], k, &message[..n]);
+    let came = carumpek::local::send(node, outgoing, k, &message[..n]);
     let answer = came.answer;
     let after = came.node;
-    scene::say_after(before, after, lines::send(before.number, answer), out)
+    Outcome {
+        line: lines::send(number, answer),
+        node: after,
+    }
 }
 
 // The line goes on with the whole buffer, also after `none` and a refusal.
-fn turned(before: Scene, outgoing: &[u8], buffer: &mut [u8], out: &mut [u8]) -> Scene {
-    let node = before.node;
+fn turned(number: u64, node: Node, outgoing: &[u8], buffer: &mut [u8]) -> Outcome {
     let came = carumpek::local::turn(node, outgoing, buffer);
     let answer = came.answer;
-    let line = output::open(lines::turn(before.number, answer, buffer));
-    let next = came.node;
-    let mut after = before;
-    after.node = next;
-    after.waiting = output::put_bytes(out, before.waiting, line.text(b" buffer"), buffer);
-    after
+    let after = came.node;
+    let line = output::open(lines::turn(number, answer, buffer));
+    Outcome {
+        line: output::with_bytes(line.text(b" buffer"), buffer),
+        node: after,
+    }
 }
 
-pub(crate) fn turn(before: Scene, record: &[u8; 16], outgoing: &[u8], out: &mut [u8]) -> Scene {
+pub(crate) fn turn(number: u64, node: Node, record: &[u8; 16], outgoing: &[u8]) -> Outcome {
     let mut buffer = [0xEEu8; 32];
     let n = output::lent(&buffer, judged::buffer_length(record[1]));
-    let store = output::lent(outgoing, before.outgoing);
-    turned(before, &outgoing[..store], &mut buffer[..n], out)
+    turned(number, node, outgoing, &mut buffer[..n])
 }
 
-// Set-up on the node as it is, with the settings from a place of the record on; the stores and the header's area size stay.
-pub(crate) fn set_up(before: Scene, record: &[u8; 16], at: usize, out: &mut [u8]) -> Scene
+fn set_up_line(number: u64, answer: SetUpAnswer) -> Line {
+    match answer {
+        SetUpAnswer::Refused(n) => lines::refused(number, n),
+        SetUpAnswer::Ready => lines::numbered(number).text(b"setup\n"),
+    }
+}
+
+// Set-up on the node as it is, with the settings from a place of the record on.
+pub(crate) fn set_up(number: u64, node: Node, record: &[u8; 16], at: usize) -> Outcome
     requires { ⌜ at < 2 ⌝ }
 {
     let area = judged::four(record, at);
     let block = judged::two(record[at + 4], record[at + 5]);
     let stmin = judged::two(record[at + 6], record[at + 7]);
-    let node = before.node;
     let came = carumpek::local::set_up(node, area, block, stmin);
     let answer = came.answer;
     let after = came.node;
-    match answer {
-        SetUpAnswer::Refused(n) => {
-            scene::say_after(before, after, lines::refused(before.number, n), out)
-        }
-        SetUpAnswer::Ready => {
-            let line = lines::numbered(before.number).text(b"setup\n");
-            scene::say_after(before, after, line, out)
-        }
+    Outcome {
+        line: set_up_line(number, answer),
+        node: after,
     }
 }

@@ -1,50 +1,86 @@
 // The scenes, for tests: the node's calls on any node and any stores, which the exerciser cannot show. Records of sixteen bytes
 // from standard input, a line for each to standard output. The first record is the header, with number 0.
 mod calls;
-mod judged;
 mod loads;
 mod looks;
-mod output;
 mod scene;
 
 ghost use Prim.Native.Nat.{_≤_, _<_};
 ghost use lib.ListN.{length};
+use crate::calls::Outcome;
 use crate::scene::Scene;
 use libc::STDIN_FILENO;
+use rules::Node;
+use script::judged;
+use script::output;
+use script::sides;
 
 // The header's areas are lent whole. A header that is refused or bad leaves the stores empty.
 fn header(before: Scene, record: &[u8; 16], out: &mut [u8]) -> Scene {
     if !records::record::unused(record, 8, 16) {
         return scene::say(before, lines::bad(0), out);
     }
-    let mut after = calls::set_up(before, record, 0, out);
-    let node = after.node;
-    let settings = node.settings;
+    let node = before.node;
+    let came = calls::set_up(0, node, record, 0);
+    let fresh = came.node;
+    let line = came.line;
+    let settings = fresh.settings;
+    let mut after = scene::say_after(before, fresh, line, out);
     after.area = settings.area;
     after.incoming = 10 * settings.area as usize;
     after.outgoing = 10 * settings.area as usize;
     after
 }
 
-// A record whose kind and fields were judged.
-fn run_kind(
+// A good record, with the stores as they are lent.
+fn answered(
+    number: u64,
+    node: Node,
+    record: &[u8; 16],
+    incoming: &mut [u8],
+    outgoing: &mut [u8],
+) -> Outcome {
+    match record[0] {
+        1 => calls::frame(number, node, record, incoming),
+        2 => calls::tick(number, node),
+        3 => calls::send(number, node, record, outgoing),
+        4 => calls::turn(number, node, record, outgoing),
+        7 => loads::receive(number, node, record),
+        8 => loads::send(number, node, record),
+        9 => loads::own(number, node, record),
+        12 => calls::set_up(number, node, record, 1),
+        _ => Outcome {
+            line: looks::line(number, node, record),
+            node: node,
+        },
+    }
+}
+
+fn run_good(
     before: Scene,
     record: &[u8; 16],
     incoming: &mut [u8],
     outgoing: &mut [u8],
     out: &mut [u8],
 ) -> Scene {
-    match record[0] {
-        1 => calls::frame(before, record, incoming, out),
-        2 => calls::tick(before, out),
-        3 => calls::send(before, record, outgoing, out),
-        4 => calls::turn(before, record, outgoing, out),
-        7 => loads::receive(before, record, out),
-        8 => loads::send(before, record, out),
-        9 => loads::own(before, record, out),
-        12 => calls::set_up(before, record, 1, out),
-        _ => looks::look(before, record, incoming, outgoing, out),
+    let a = output::lent(incoming, before.incoming);
+    let b = output::lent(outgoing, before.outgoing);
+    let node = before.node;
+    let came = answered(
+        before.number,
+        node,
+        record,
+        &mut incoming[..a],
+        &mut outgoing[..b],
+    );
+    let line = came.line;
+    let next = came.node;
+    let mut after = scene::say_after(before, next, line, out);
+    if record[0] == 9 {
+        after.incoming = sides::store_length(before.area, record[6]);
+        after.outgoing = sides::store_length(before.area, record[7]);
     }
+    after
 }
 
 fn run_record(
@@ -57,10 +93,15 @@ fn run_record(
     if before.number == 0 {
         return header(before, record, out);
     }
-    if judged::is_good(record) {
-        return run_kind(before, record, incoming, outgoing, out);
+    if !judged::is_good(record) {
+        return scene::say(before, lines::bad(before.number), out);
     }
-    scene::say(before, lines::bad(before.number), out)
+    if record[0] == 5 || record[0] == 6 {
+        let mut after = before;
+        after.waiting = looks::bytes(before, record, incoming, outgoing, out);
+        return after;
+    }
+    run_good(before, record, incoming, outgoing, out)
 }
 
 fn record_at(rest: &[u8]) -> [u8; 16]

@@ -1,22 +1,27 @@
 // Which records are good, and the numbers in them, high byte first.
 ghost use Prim.Native.Nat.{_<_};
 
-pub(crate) fn two(high: u8, low: u8) -> u32
+pub fn two(high: u8, low: u8) -> u32
     ensures { λ r. ⌜ r < 65536 ⌝ }
 {
     high as u32 * 256 + low as u32
 }
 
 // Four bytes from a place on.
-pub(crate) fn four(record: &[u8; 16], at: usize) -> u32
+pub fn four(record: &[u8; 16], at: usize) -> u32
     requires { ⌜ at < 13 ⌝ }
     ensures { λ r. ⌜ r < 4294967296 ⌝ }
 {
     two(record[at], record[at + 1]) * 65536 + two(record[at + 2], record[at + 3])
 }
 
+// Eight bytes behind the kind.
+pub fn eight(record: &[u8; 16]) -> u64 {
+    four(record, 1) as u64 * 4294967296 + four(record, 5) as u64
+}
+
 // The length of a turn's buffer: 0 stands for 8 and 255 for an empty buffer.
-pub(crate) fn buffer_length(b: u8) -> usize {
+pub fn buffer_length(b: u8) -> usize {
     if b == 0 {
         return 8;
     }
@@ -46,7 +51,7 @@ fn send_fits(record: &[u8; 16]) -> bool {
         && records::record::unused(record, 9, 16)
 }
 
-pub(crate) fn is_good(record: &[u8; 16]) -> bool {
+pub fn is_good(record: &[u8; 16]) -> bool {
     match record[0] {
         1 => frame_fits(record),
         2 => fits(record, 0, 0, 1),
