@@ -9,6 +9,77 @@ use rules::Rx;
 use rules::Sending;
 use rules::Tx;
 
+fn rx_ticked(rx: Rx) -> Rx
+    ensures { λ r. ⌜ r ≡ rxTicked rx ⌝ }
+{
+    match rx {
+        Rx::Idle => Rx::Idle,
+        Rx::OwesOverflow(t) => {
+            if t < rules::TIMEOUT - 1 {
+                return Rx::OwesOverflow(t + 1);
+            }
+            Rx::Idle
+        }
+        Rx::OwesGo(p, t) => {
+            if t < rules::TIMEOUT - 1 {
+                return Rx::OwesGo(p, t + 1);
+            }
+            Rx::Idle
+        }
+        Rx::Awaits(p, t) => {
+            if t < rules::TIMEOUT - 1 {
+                return Rx::Awaits(p, t + 1);
+            }
+            Rx::Idle
+        }
+    }
+}
+
+// The gap left falls by one.
+fn closer(o: Sending) -> Sending
+    requires { ⌜ 0 < o .left ⌝ }
+    ensures { λ r. ⌜ r ≡ closer o ⌝ }
+{
+    let mut q = o;
+    q.left = o.left - 1;
+    q
+}
+
+fn tx_ticked(tx: Tx) -> Tx
+    ensures { λ r. ⌜ r ≡ txTicked tx ⌝ }
+{
+    match tx {
+        Tx::Idle => Tx::Idle,
+        Tx::SingleDue(n, t) => {
+            if t < rules::TIMEOUT - 1 {
+                return Tx::SingleDue(n, t + 1);
+            }
+            Tx::Idle
+        }
+        Tx::FirstDue(n, t) => {
+            if t < rules::TIMEOUT - 1 {
+                return Tx::FirstDue(n, t + 1);
+            }
+            Tx::Idle
+        }
+        Tx::AwaitsFlow(o, t) => {
+            if t < rules::TIMEOUT - 1 {
+                return Tx::AwaitsFlow(o, t + 1);
+            }
+            Tx::Idle
+        }
+        Tx::Consecutive(o, t) => {
+            if o.left != 0 {
+                return Tx::Consecutive(closer(o), t);
+            }
+            if t < rules::TIMEOUT - 1 {
+                return Tx::Consecutive(o, t + 1);
+            }
+            Tx::Idle
+        }
+    }
+}
+
 // The code where the tick ends a side whose timer is t, else 0.
 fn code_at(t: u16, code: u8) -> u8
     ensures { λ r. ⌜ r ≡ ran t (λ u. 0) code ⌝ }
@@ -41,51 +112,6 @@ fn tx_code(tx: Tx) -> u8
                 return 0;
             }
             code_at(t, rules::N_TIMEOUT_A)
-        }
-    }
-}
-
-// A tick that has a code ends the side; one that has none adds one to its timer.
-fn rx_ticked(rx: Rx) -> Rx
-    ensures { λ r. ⌜ r ≡ rxTicked rx ⌝ }
-{
-    if rx_code(rx) != 0 {
-        return Rx::Idle;
-    }
-    match rx {
-        Rx::Idle => rx,
-        Rx::OwesOverflow(t) => Rx::OwesOverflow(t + 1),
-        Rx::OwesGo(p, t) => Rx::OwesGo(p, t + 1),
-        Rx::Awaits(p, t) => Rx::Awaits(p, t + 1),
-    }
-}
-
-// The gap left falls by one.
-fn closer(o: Sending) -> Sending
-    requires { ⌜ 0 < o .left ⌝ }
-    ensures { λ r. ⌜ r ≡ closer o ⌝ }
-{
-    let mut q = o;
-    q.left = o.left - 1;
-    q
-}
-
-fn tx_ticked(tx: Tx) -> Tx
-    ensures { λ r. ⌜ r ≡ txTicked tx ⌝ }
-{
-    if tx_code(tx) != 0 {
-        return Tx::Idle;
-    }
-    match tx {
-        Tx::Idle => tx,
-        Tx::SingleDue(n, t) => Tx::SingleDue(n, t + 1),
-        Tx::FirstDue(n, t) => Tx::FirstDue(n, t + 1),
-        Tx::AwaitsFlow(o, t) => Tx::AwaitsFlow(o, t + 1),
-        Tx::Consecutive(o, t) => {
-            if o.left != 0 {
-                return Tx::Consecutive(closer(o), t);
-            }
-            Tx::Consecutive(o, t + 1)
         }
     }
 }
