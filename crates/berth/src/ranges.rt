@@ -1,5 +1,6 @@
 // Paper 01, "What each side of a berth remembers": the tests of the ranges. A range that is broken makes a berth out of order.
-// No test guards another, so they are joined by & and |, as the rules' lists join them.
+// No test guards another, so they are joined by & and |, as the rules' lists join them. Only between the sides is a branch: it saves
+// instructions where a berth is busy.
 ghost use mathlib.Core.Path.{_≡_};
 ghost use Rattle.rules.specs.Ranges.{stminAllowed, settingsAllowed, inBlock, underWayInRange, takingInRange, rxInRange, sendingInRange, txInRange, berthInOrder};
 use rules::Berth;
@@ -29,10 +30,7 @@ pub fn settings_allowed(area: u32, block: u32, stmin: u32) -> bool
 fn in_block(block: u8, n: u8) -> bool
     ensures { λ r. ⌜ r ≡ inBlock block n ⌝ }
 {
-    if block == 0 {
-        return n == 0;
-    }
-    n < block
+    ((block == 0) & (n == 0)) | (n < block)
 }
 
 fn under_way_in_range(area: u32, length: u32, done: u32, sn: u8) -> bool
@@ -98,5 +96,8 @@ pub fn berth_in_order(settings: Settings, berth: Berth) -> bool
 {
     let rx = berth.rx;
     let tx = berth.tx;
-    rx_in_range(settings, berth.last, rx) & tx_in_range(settings, tx)
+    if rx_in_range(settings, berth.last, rx) {
+        return tx_in_range(settings, tx);
+    }
+    false
 }
