@@ -1,10 +1,10 @@
 // The records that go to the node's calls. A store comes as long as it is lent.
 ghost use Prim.Native.Nat.{_<_};
+use crate::judged;
+use crate::output;
 use lines::Line;
 use rules::Node;
 use rules::SetUpAnswer;
-use script::judged;
-use script::output;
 
 // What a record leaves beside the stores: its line and the node.
 pub(crate) struct Outcome {

@@ -1,9 +1,9 @@
 // The records that load a state, which the node may not be able to reach by its calls.
 use crate::calls::Outcome;
+use crate::judged;
+use crate::sides;
 use rules::Node;
 use rules::Settings;
-use script::judged;
-use script::sides;
 
 fn loaded(number: u64, node: Node) -> Outcome {
     Outcome {

@@ -1,10 +1,10 @@
 // The records that look: a message shown, an area, a berth's state, the node's own, and the frames needed.
+use crate::judged;
+use crate::output;
 use crate::scene::Scene;
+use crate::words;
 use lines::Line;
 use rules::Node;
-use script::judged;
-use script::output;
-use script::words;
 
 fn show<'a>(
     before: Scene,

@@ -1,9 +1,13 @@
 // The scenes, for tests: the node's calls on any node and any stores, which the exerciser cannot show. Records of sixteen bytes
 // from standard input, a line for each to standard output. The first record is the header, with number 0.
 mod calls;
+mod judged;
 mod loads;
 mod looks;
+mod output;
 mod scene;
+mod sides;
+mod words;
 
 ghost use Prim.Native.Nat.{_≤_, _<_};
 ghost use lib.ListN.{length};
@@ -11,9 +15,6 @@ use crate::calls::Outcome;
 use crate::scene::Scene;
 use libc::STDIN_FILENO;
 use rules::Node;
-use script::judged;
-use script::output;
-use script::sides;
 
 // The header's areas are lent whole. A header that is refused or bad leaves the stores empty.
 fn header(before: Scene, record: &[u8; 16], out: &mut [u8]) -> Scene {

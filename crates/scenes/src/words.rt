@@ -65,14 +65,14 @@ fn send_side(line: Line, tx: Tx) -> Line {
 }
 
 // The number of each side's state and the fields that it carries, and between them the length of the last message arrived.
-pub fn state(number: u64, berth: Berth) -> Line {
+pub(crate) fn state(number: u64, berth: Berth) -> Line {
     let rx = berth.rx;
     let tx = berth.tx;
     let line = receive_side(lines::numbered(number).text(b"state"), rx);
     send_side(numbers(line.text(b" last"), &[berth.last as u64]), tx).put(b'\n')
 }
 
-pub fn own(number: u64, settings: Settings, served: u8) -> Line {
+pub(crate) fn own(number: u64, settings: Settings, served: u8) -> Line {
     let list = [
         settings.area as u64,
         settings.block as u64,
@@ -82,6 +82,6 @@ pub fn own(number: u64, settings: Settings, served: u8) -> Line {
     numbers(lines::numbered(number).text(b"node"), &list).put(b'\n')
 }
 
-pub fn needed(number: u64, n: u64) -> Line {
+pub(crate) fn needed(number: u64, n: u64) -> Line {
     numbers(lines::numbered(number).text(b"needs"), &[n]).put(b'\n')
 }

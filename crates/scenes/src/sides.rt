@@ -6,7 +6,7 @@ use rules::Sn;
 use rules::Taking;
 use rules::Tx;
 
-pub fn receive_side(record: &[u8; 16]) -> Rx {
+pub(crate) fn receive_side(record: &[u8; 16]) -> Rx {
     let timer = judged::two(record[9], record[10]) as u16;
     let taking = Taking {
         total: judged::two(record[3], record[4]),
@@ -22,7 +22,7 @@ pub fn receive_side(record: &[u8; 16]) -> Rx {
     }
 }
 
-pub fn send_side(record: &[u8; 16]) -> Tx {
+pub(crate) fn send_side(record: &[u8; 16]) -> Tx {
     let timer = judged::two(record[12], record[13]) as u16;
     let length = judged::two(record[3], record[4]);
     let sending = Sending {
@@ -44,7 +44,7 @@ pub fn send_side(record: &[u8; 16]) -> Tx {
 }
 
 // How much of a store is lent: ten areas and a signed byte more; 0 where that is below 0.
-pub fn store_length(area: u32, more: u8) -> usize {
+pub(crate) fn store_length(area: u32, more: u8) -> usize {
     let whole = 10 * area as usize;
     let n = more as usize;
     if n < 128 {

@@ -5,7 +5,7 @@ use libc::STDOUT_FILENO;
 use lines::Line;
 
 // How many bytes of a part there are: all that are asked for, or those of the whole.
-pub fn lent(whole: &[u8], asked: usize) -> usize
+pub(crate) fn lent(whole: &[u8], asked: usize) -> usize
     ensures { λ r. ⌜ Counts r (now (whole .entry)) ⌝ }
 {
     if asked < whole.len() {
@@ -15,12 +15,12 @@ pub fn lent(whole: &[u8], asked: usize) -> usize
     }
 }
 
-pub fn flush(output: &[u8], waiting: usize) {
+pub(crate) fn flush(output: &[u8], waiting: usize) {
     let n = lent(output, waiting);
     io::write_all(STDOUT_FILENO, &output[..n]);
 }
 
-pub fn put(output: &mut [u8], waiting: usize, line: Line) -> usize {
+pub(crate) fn put(output: &mut [u8], waiting: usize, line: Line) -> usize {
     if waiting < output.len() {
         if line.length < output.len() - waiting {
             return lines::copy(line, output, waiting);
@@ -31,7 +31,7 @@ pub fn put(output: &mut [u8], waiting: usize, line: Line) -> usize {
 }
 
 // A line that goes on: without its LF.
-pub fn open(line: Line) -> Line {
+pub(crate) fn open(line: Line) -> Line {
     let mut open = line;
     if 0 < open.length {
         open.length = open.length - 1;
@@ -50,7 +50,7 @@ fn hex(output: &mut [u8], waiting: usize, bytes: &[u8]) -> usize {
 }
 
 // A line that ends with bytes, few enough for it; without a space where there are none.
-pub fn with_bytes(line: Line, bytes: &[u8]) -> Line {
+pub(crate) fn with_bytes(line: Line, bytes: &[u8]) -> Line {
     if bytes.len() == 0 {
         return line.put(b'\n');
     }
@@ -58,7 +58,7 @@ pub fn with_bytes(line: Line, bytes: &[u8]) -> Line {
 }
 
 // A line that ends with any number of bytes.
-pub fn put_bytes(output: &mut [u8], waiting: usize, line: Line, bytes: &[u8]) -> usize {
+pub(crate) fn put_bytes(output: &mut [u8], waiting: usize, line: Line, bytes: &[u8]) -> usize {
     if bytes.len() <= 32 {
         return put(output, waiting, with_bytes(line, bytes));
     }

@@ -1,14 +1,14 @@
 // Which records are good, and the numbers in them, high byte first.
 ghost use Prim.Native.Nat.{_<_};
 
-pub fn two(high: u8, low: u8) -> u32
+pub(crate) fn two(high: u8, low: u8) -> u32
     ensures { λ r. ⌜ r < 65536 ⌝ }
 {
     high as u32 * 256 + low as u32
 }
 
 // Four bytes from a place on.
-pub fn four(record: &[u8; 16], at: usize) -> u32
+pub(crate) fn four(record: &[u8; 16], at: usize) -> u32
     requires { ⌜ at < 13 ⌝ }
     ensures { λ r. ⌜ r < 4294967296 ⌝ }
 {
@@ -16,12 +16,12 @@ pub fn four(record: &[u8; 16], at: usize) -> u32
 }
 
 // Eight bytes behind the kind.
-pub fn eight(record: &[u8; 16]) -> u64 {
+pub(crate) fn eight(record: &[u8; 16]) -> u64 {
     four(record, 1) as u64 * 4294967296 + four(record, 5) as u64
 }
 
 // The length of a turn's buffer: 0 stands for 8 and 255 for an empty buffer.
-pub fn buffer_length(b: u8) -> usize {
+pub(crate) fn buffer_length(b: u8) -> usize {
     if b == 0 {
         return 8;
     }
@@ -51,7 +51,7 @@ fn send_fits(record: &[u8; 16]) -> bool {
         && records::record::unused(record, 9, 16)
 }
 
-pub fn is_good(record: &[u8; 16]) -> bool {
+pub(crate) fn is_good(record: &[u8; 16]) -> bool {
     match record[0] {
         1 => frame_fits(record),
         2 => fits(record, 0, 0, 1),

@@ -4,8 +4,8 @@ use mathlib.Core.Path.{sym, ap}
 use native.Mathlib.Omega.{arith}
 use lib.ListN.{length}
 use lib.Seq.{length-take-le, take-length}
-use Rattle.script.proofs.output.lent.Statement.{statement}
-use Rattle.script.proofs.output.lent.Tie as tie
+use Rattle.scenes.proofs.output.lent.Statement.{statement}
+use Rattle.scenes.proofs.output.lent.Tie as tie
 
 returns : tie.Need-returns
 returns c =

@@ -3,8 +3,8 @@ use Prim.Native.Nat.{_-_}
 use mathlib.Core.Path.{_≡_, refl, _∙_}
 use native.Mathlib.Omega.{arith}
 use lib.ListN.{length}
-use Rattle.script.proofs.output.hex.Statement.{statement}
-use Rattle.script.proofs.output.hex.Tie as tie
+use Rattle.scenes.proofs.output.hex.Statement.{statement}
+use Rattle.scenes.proofs.output.hex.Tie as tie
 
 abbrev Inv-loop : tie.InvT-loop
 Inv-loop output₀ waiting bytes at₀ i₀ output at i = length output ≡ length output₀

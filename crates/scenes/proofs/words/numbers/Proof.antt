@@ -3,8 +3,8 @@ use Prim.Native.Nat.{_-_}
 use native.Mathlib.Omega.{arith}
 use lib.ListN.{length}
 use borrow.Author.Needs.{needs}
-use Rattle.script.proofs.words.numbers.Statement.{statement}
-use Rattle.script.proofs.words.numbers.Tie as tie
+use Rattle.scenes.proofs.words.numbers.Statement.{statement}
+use Rattle.scenes.proofs.words.numbers.Tie as tie
 
 abbrev Inv-loop : tie.InvT-loop
 Inv-loop list all₀ i₀ all i = Unit {0}
