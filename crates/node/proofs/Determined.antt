@@ -5,7 +5,7 @@ use mathlib.Core.Bool.{Bool}
 use mathlib.Core.List.{List, []}
 use Rattle.rules.specs.Tests.{unless}
 use Rattle.rules.specs.Answers.{shown, setUpSays, frameSays, tickSays, sendSays, turnSays}
-use Rattle.rules.specs.Refusals.{frame, tick, send, turn, show}
+use Rattle.rules.specs.Events.{frame, tick, send, turn, show}
 use Rattle.rules.specs.Calls.{Outcome, outcome, setUpOutcome}
 use Rattle.rules.specs.declared.Node.{Node}
 use Rattle.rules.specs.declared.SetUpAnswer.{SetUpAnswer}
@@ -14,7 +14,7 @@ use Rattle.rules.specs.declared.Codes.{Codes}
 use Rattle.rules.specs.declared.TickAnswer.{TickAnswer}
 use Rattle.rules.specs.declared.SendAnswer.{SendAnswer}
 use Rattle.rules.specs.declared.TurnAnswer.{TurnAnswer}
-use Rattle.node.specs.Promises.{lent, left, Agrees, noCodes, SetUpPromise, FramePromise, TickPromise, SendPromise, TurnPromise, ShowPromise, NeededPromise}
+use Rattle.node.specs.Promises.{lent, left, Agrees, tenZeros, SetUpPromise, FramePromise, TickPromise, SendPromise, TurnPromise, ShowPromise, NeededPromise}
 use Rattle.rules.proofs.Answers.{paper-one}
 
 -- outcomes that agree are equal
@@ -89,7 +89,7 @@ turn-tells b₁ b₂ (TurnAnswer.HandedOver i c p) (TurnAnswer.HandedOver j d q)
 
 -- a tick's answer: its number and its codes; beside a refusal stand ten pairs of zeros
 abbrev Beside : ℕ → List Codes → Type 0
-Beside number cs = unless number (λ n. cs ≡ noCodes) (Unit {0})
+Beside number cs = unless number (λ n. cs ≡ tenZeros) (Unit {0})
 
 abbrev ticks : ℕ → List Codes → TickAnswer
 ticks number cs = record { refused = number; codes = cs }

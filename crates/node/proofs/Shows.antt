@@ -9,10 +9,12 @@ use lib.Seq.{take-take}
 use mir.Facts.{eqb-yes, ltb-yes}
 use Rattle.rules.specs.Numbers.{berthCount, leastArea}
 use Rattle.rules.specs.Tests.{pick}
-use Rattle.rules.specs.Ranges.{RxRange, TxRange, InOrder, BerthRange, inOrder, berthAt}
+use Rattle.rules.specs.Nodes.{berthAt}
+use Rattle.rules.specs.Ranges.{RxRange, TxRange, InOrder, BerthRange, inOrder}
 use Rattle.rules.specs.Turns.{lengthSending}
 use Rattle.rules.specs.Stores.{rightStore, areaOf}
-use Rattle.rules.specs.Refusals.{show, needs, refusal}
+use Rattle.rules.specs.Events.{show}
+use Rattle.rules.specs.Refusals.{needs, refusal}
 use Rattle.rules.specs.Calls.{showable, shownLength, showing, done, reply, written}
 use Rattle.rules.specs.declared.Settings.{Settings}
 use Rattle.rules.specs.declared.Rx.{Rx}

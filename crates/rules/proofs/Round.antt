@@ -10,7 +10,8 @@ use lib.ListN.{length, getD}
 use lib.Dec.{T, ltb, lit<}
 use Rattle.rules.specs.Tests.{pick}
 use Rattle.rules.specs.Numbers.{berthCount}
-use Rattle.rules.specs.Ranges.{fresh, berthAt, InOrder}
+use Rattle.rules.specs.Nodes.{fresh, berthAt}
+use Rattle.rules.specs.Ranges.{InOrder}
 use Rattle.rules.specs.Turns.{due}
 use Rattle.rules.specs.Stores.{distance, leastDistance, passedOver, reached}
 use Rattle.rules.specs.declared.Berth.{Berth}

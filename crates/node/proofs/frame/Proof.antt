@@ -3,7 +3,8 @@ use mathlib.Core.Path.{sym, refl, _∙_}
 use denote.Ref.{now}
 use borrow.Author.Needs.{needs}
 use Rattle.rules.specs.Answers.{frameSays}
-use Rattle.rules.specs.Refusals.{frame, toHear, refusal, needs as needsOf}
+use Rattle.rules.specs.Events.{frame}
+use Rattle.rules.specs.Refusals.{toHear, refusal, needs as needsOf}
 use Rattle.node.proofs.Outcomes.{stands, refuses}
 use Rattle.node.specs.Promises.{lent}
 use Rattle.node.proofs.frame.Statement.{statement}

@@ -7,11 +7,11 @@ use lib.ListN.{length, length-take, length-drop}
 use lib.Seq.{sets}
 use denote.Ref.{now}
 use borrow.Author.Needs.{needs}
-use Rattle.rules.specs.Ranges.{berthAt}
-use Rattle.rules.specs.Stores.{withBerth, stored}
+use Rattle.rules.specs.Nodes.{berthAt, withBerth}
+use Rattle.rules.specs.Stores.{stored}
 use Rattle.rules.specs.Turns.{sent as sentBerth}
 use Rattle.rules.specs.Answers.{sent, sendSays}
-use Rattle.rules.specs.Refusals.{send}
+use Rattle.rules.specs.Events.{send}
 use Rattle.rules.specs.Calls.{done, reply, written}
 use Rattle.rules.proofs.Answered.{SendAnswered, send-answered}
 use Rattle.rules.proofs.Ranges.{in-order-range}

@@ -7,7 +7,7 @@ use lib.ListN.{take, drop}
 use denote.Ref.{now}
 use borrow.Author.Needs.{needs}
 use Rattle.rules.specs.Tests.{pick}
-use Rattle.rules.specs.Ranges.{berthAt}
+use Rattle.rules.specs.Nodes.{berthAt}
 use Rattle.rules.specs.Turns.{lengthSending}
 use Rattle.rules.specs.Calls.{showable}
 use Rattle.node.proofs.Shows.{shown-fits, Able, able, shows-none, shows}

@@ -8,7 +8,7 @@ use borrow.Author.Needs.{needs}
 use Rattle.rules.specs.Numbers.{berthCount}
 use Rattle.rules.specs.Stores.{passedOver}
 use Rattle.rules.specs.Answers.{turnSays}
-use Rattle.rules.specs.Refusals.{turn}
+use Rattle.rules.specs.Events.{turn}
 use Rattle.rules.specs.Calls.{done, reply, written}
 use Rattle.rules.proofs.Answered.{turn-answered}
 use Rattle.rules.proofs.Ranges.{in-order-range}

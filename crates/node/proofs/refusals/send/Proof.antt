@@ -12,7 +12,7 @@ use borrow.Author.Needs.{needs}
 use Rattle.rules.specs.Numbers.{berthCount, noSuchBerth, emptyMessage, messageTooLong}
 use Rattle.rules.specs.Tests.{Need, need, firstUnmet}
 use Rattle.rules.specs.Turns.{busy}
-use Rattle.rules.specs.Ranges.{berthAt}
+use Rattle.rules.specs.Nodes.{berthAt}
 use Rattle.rules.specs.Refusals.{orderAndStore, refusal, needs as needsOf}
 use Rattle.rules.proofs.Cases.{split}
 use Rattle.node.proofs.Outcomes.{meets, unmet, all-met, stands, go-on}
