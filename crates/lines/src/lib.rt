@@ -209,7 +209,7 @@ pub fn frame(number: u64, answer: FrameAnswer) -> Line
 {
     match answer {
         FrameAnswer::Refused(n) => refused(number, n),
-        FrameAnswer::Heard(berth, old, word) => {
+        FrameAnswer::Heard { berth, old, word } => {
             let line = numbered(number).text(b"berth ").small(berth);
             line.text(b" old ").small(old).word(word).put(b'\n')
         }
