@@ -1,0 +1,2 @@
+-- The laws of the code's runs.
+pub mod Runs
