@@ -69,7 +69,8 @@ unfolding owns own ownDone answers final done reply written outcome refusedOutco
 two-computed = (refl, refl, refl)
 
 -- so each is as it would be alone
-pub two-alone : Alone (two .node .settings) (partOf 3 two) 3 two twoRun × Alone (two .node .settings) (partOf 5 two) 5 two twoRun
+pub two-alone : Alone (two .node .settings) (partOf 3 two) 3 two (owns 3 two twoRun) (answers two twoRun) (final two twoRun)
+    × Alone (two .node .settings) (partOf 5 two) 5 two (owns 5 two twoRun) (answers two twoRun) (final two twoRun)
 two-alone = (each-alone two twoRun 3 (lit< tt), each-alone two twoRun 5 (lit< tt))
 
 -- ---- fairness: all ten are due, berth 4 was served last, and nine others are served before it

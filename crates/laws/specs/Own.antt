@@ -12,7 +12,7 @@ use Rattle.rules.specs.Ranges.{fresh, InOrder}
 use Rattle.rules.specs.Stores.{Held, areaOf, passedOver, reached}
 use Rattle.rules.specs.Answers.{Answer, refused, ready, heard, codes, sent, handed, none, shown, receive, send as sendSide, Report, reported, wordReports, reports}
 use Rattle.rules.specs.Refusals.{Call, frame, tick, send, turn, show, senderOf, refusal}
-use Rattle.rules.specs.Calls.{outcome, setUpOutcome, answers, final, showing}
+use Rattle.rules.specs.Calls.{outcome, setUpOutcome, showing}
 use Rattle.rules.specs.Alone.{partOf, alone, saysAll, Part, Event, arrives, ticks, sends, turns, Says, hears, expires, accepts, hands}
 use Rattle.rules.specs.declared.Settings.{Settings}
 use Rattle.rules.specs.declared.Codes.{Codes}
@@ -101,10 +101,11 @@ freshPart h s k = record { berth = fresh; incoming = areaOf (s .area) k (h .inco
 
 -- ---- demand 3, first half
 
--- what demand 3 says of berth k in a run: its state and areas; its words, codes and frames; its reports; and, if the node is in order
--- and the stores have their lengths, what a show of it returns after the run, are those of its own events on that berth alone
-pub record Alone (s : Settings) (start : Part) (k : ℕ) (h : Held) (cs : List Call) : Type 0 where
-  pub part : partOf k (final h cs) ≡ alone s start (owns k h cs)
-  pub says : over (heardOf k) (answers h cs) ≡ saysAll s start (owns k h cs)
-  pub reported : ofBerth k (over reports (answers h cs)) ≡ over (saidReports k) (saysAll s start (owns k h cs))
-  pub shown : Sound h → (choice : Bool) → showing (final h cs) k choice ≡ partShown (alone s start (owns k h cs)) choice
+-- what demand 3 says of berth k in a run that begins with h, if its own events, the answers and what the run leaves are these: its
+-- state and areas; its words, codes and frames; its reports; and, if the node is in order and the stores have their lengths, what a
+-- show of it returns after the run, are those of its own events on that berth alone
+pub record Alone (s : Settings) (start : Part) (k : ℕ) (h : Held) (own : List Event) (said : List Answer) (end : Held) : Type 0 where
+  pub part : partOf k end ≡ alone s start own
+  pub says : over (heardOf k) said ≡ saysAll s start own
+  pub reported : ofBerth k (over reports said) ≡ over (saidReports k) (saysAll s start own)
+  pub shown : Sound h → (choice : Bool) → showing end k choice ≡ partShown (alone s start own) choice
