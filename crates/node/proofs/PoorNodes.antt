@@ -270,12 +270,9 @@ area-length a k store h e =
     let m : suc k * a ≤ berthCount * a = mul-le-mul-right a h in
     simp (length-take, length-drop) (omega arith)
 
--- AN AREA IS LEFT AS IT WAS by bytes put down only if they stood there before
-pub stored-before : (a k : ℕ) (store : List ℕ) (at : ℕ) (v : List ℕ) → k < berthCount → length store ≡ berthCount * a → at + length v ≤ a
-    → sets (areaOf a k store) at v ≡ areaOf a k store → take (length v) (drop at (areaOf a k store)) ≡ v
-stored-before a k store at v l e fits same-area =
-    ap (λ (x : List ℕ). take (length v) (drop at x)) (sym same-area)
-    ∙ bytes-there (areaOf a k store) at v (omega (arith, area-length a k store l e))
+-- BYTES PUT DOWN leave an area as it was only if they stood there before
+pub stood-before : (area : List ℕ) (at : ℕ) (v : List ℕ) → at + length v ≤ length area → sets area at v ≡ area → take (length v) (drop at area) ≡ v
+stood-before area at v h e = ap (λ (x : List ℕ). take (length v) (drop at x)) (sym e) ∙ bytes-there area at v h
 
 module _ (h : Held) (id : ℕ) (d : List ℕ) (a : FrameAnswer) (n : Node) (incoming : List ℕ) (e : refusal h (frame id d) ≡ 0) where
   area-after : FramePromise (h .node) (h .incoming) id d a n incoming
@@ -295,7 +292,8 @@ module _ (h : Held) (id : ℕ) (d : List ℕ) (a : FrameAnswer) (n : Node) (inco
       → FramePromise (h .node) (h .incoming) id d a n incoming → ⊥
   not-idle-bytes differ kept p =
       let ok = frame-answered h id d e in
-      differ (stored-before (h .node .settings .area) (senderOf id) (h .incoming) _ _ (ok .heard .mine) (ok .heard .store) (ok .fits) (sym (area-after p) ∙ kept))
+      let room = area-length (h .node .settings .area) (senderOf id) (h .incoming) (ok .heard .mine) (ok .heard .store) in
+      differ (stood-before (areaOf (h .node .settings .area) (senderOf id) (h .incoming)) _ _ (omega (arith, ok .fits)) (sym (area-after p) ∙ kept))
 
 -- ---- one that stores the first frame and only counts the rest
 

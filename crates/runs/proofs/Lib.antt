@@ -1,2 +1,4 @@
 -- The laws of the code's runs.
 pub mod Runs
+pub mod Every
+pub mod PoorNodes

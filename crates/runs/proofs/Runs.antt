@@ -1,6 +1,6 @@
 -- A chain of the code's calls is a run of the rules: each call's promise says that it left the rule's outcome, so by induction the chain
 -- says `answers` and leaves `final`, and what the laws say of these holds of the chain.
-use mathlib.Core.Path.{_≡_, refl, sym, ap, ap₂, _∙_}
+use mathlib.Core.Path.{_≡_, refl, ap, ap₂, _∙_}
 use Prim.Native.Nat.{ℕ, zero, suc, _<_}
 use mathlib.Core.List.{List, [], _∷_, _++_, map}
 use Rattle.rules.specs.Tests.{unless}
@@ -16,10 +16,10 @@ use Rattle.rules.specs.declared.SetUpAnswer.{SetUpAnswer}
 use Rattle.node.specs.Promises.{lent, left, SetUpPromise}
 use Rattle.node.proofs.Determined.{set-up-is, frame-is, tick-is, send-is, turn-is, show-is}
 use Rattle.laws.specs.Own.{own, owns, over, setUp, freshPart, Alone}
-use Rattle.laws.specs.Rounds.{DueAt, StaysDue, turnOf, Fair}
+use Rattle.laws.specs.Rounds.{StaysDue, turnOf, Fair}
 use Rattle.laws.proofs.SetUp.{each-alone, each-alone-after-set-up}
 use Rattle.laws.proofs.Fairness.{fair}
-use Rattle.runs.specs.Chains.{Step, frames, ticks, sends, turns, shows, Made, Chain, AfterSetUp, callsOf, saidBy, leftBy, ownIn, DueIn}
+use Rattle.runs.specs.Chains.{Step, frames, ticks, sends, turns, shows, Made, Chain, anew, AfterSetUp, callsOf, saidBy, leftBy, ownIn, DueIn, EachAlone}
 
 -- EACH CALL'S PROMISE says that it answered and left the rule's outcome.
 pub step-is : {h : Held} {c : Call} {o : Outcome} → Step h c o → o ≡ outcome h c
@@ -94,7 +94,7 @@ chain-fair k l h ms c t = rw (chain-says h ms c) (fair k l h (callsOf ms) (chain
 
 -- a set-up that is answered Ready was not refused, and left what the rules leave
 module _ (h : Held) (s : Settings) (n : Node) (p : SetUpPromise (h .node) (s .area) (s .block) (s .stmin) SetUpAnswer.Ready n) where
-  set-up-left : left ready (lent n (h .incoming) (h .outgoing)) [] ≡ setUpOutcome h (s .area) (s .block) (s .stmin)
+  set-up-left : left ready (anew h n) [] ≡ setUpOutcome h (s .area) (s .block) (s .stmin)
   unfolding setUpSays
   set-up-left = set-up-is (h .node) n (s .area) (s .block) (s .stmin) SetUpAnswer.Ready p (h .incoming) (h .outgoing)
 
@@ -107,15 +107,13 @@ module _ (h : Held) (s : Settings) (n : Node) (p : SetUpPromise (h .node) (s .ar
       go zero e = refl
       go (suc number) e = cc
 
-  ready-held : lent n (h .incoming) (h .outgoing) ≡ setUp h s
+  ready-held : anew h n ≡ setUp h s
   ready-held = ap (λ (o : Outcome). o .held) set-up-left
 
 -- DEMAND 3, FIRST HALF, OF THE CODE. Take any chain of calls after a set-up that the code answered with Ready. Each berth's state,
 -- areas, words, codes, frames and reports, and what is shown of it, are those that the rules give for that berth alone, fresh at
 -- the start: its own frames and sends, all ticks, and the turns it received, refused calls left out.
-pub chain-alone-after-set-up : (h : Held) (s : Settings) (n : Node) (ms : List Made) (k : ℕ) → k < berthCount → AfterSetUp h s n ms
-    → Alone s (freshPart h s k) k (lent n (h .incoming) (h .outgoing))
-    (ownIn k (lent n (h .incoming) (h .outgoing)) ms) (saidBy ms) (leftBy (lent n (h .incoming) (h .outgoing)) ms)
-chain-alone-after-set-up h s n ms k l r =
-    as-run s (freshPart h s k) k (lent n (h .incoming) (h .outgoing)) ms (r .chain)
+pub chain-alone-after-set-up : (h : Held) (s : Settings) (n : Node) (ms : List Made) → AfterSetUp h s n ms → EachAlone h s n ms
+chain-alone-after-set-up h s n ms r k l =
+    as-run s (freshPart h s k) k (anew h n) ms (r .chain)
     (rw (ready-held h s n (r .ready)) (each-alone-after-set-up h s (callsOf ms) k l (ready-free h s n (r .ready))))

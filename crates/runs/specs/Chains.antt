@@ -1,12 +1,13 @@
 -- A run of the code: a chain of calls, the same node and the same two stores throughout. Of a call only its promise is known; it is
 -- the same promise by value and on a lent node.
-use Prim.Native.Nat.{ℕ}
+use Prim.Native.Nat.{ℕ, _<_}
 use mathlib.Core.Bool.{Bool}
 use mathlib.Core.List.{List, [], _∷_, _++_, map}
+use Rattle.rules.specs.Numbers.{berthCount}
 use Rattle.rules.specs.Stores.{Held}
 use Rattle.rules.specs.Answers.{Answer, shown, frameSays, tickSays, sendSays, turnSays}
 use Rattle.rules.specs.Refusals.{Call, frame, tick, send, turn, show}
-use Rattle.rules.specs.Calls.{Outcome}
+use Rattle.rules.specs.Calls.{Outcome, outcome}
 use Rattle.rules.specs.Alone.{Event}
 use Rattle.rules.specs.declared.Settings.{Settings}
 use Rattle.rules.specs.declared.Node.{Node}
@@ -16,7 +17,7 @@ use Rattle.rules.specs.declared.TickAnswer.{TickAnswer}
 use Rattle.rules.specs.declared.SendAnswer.{SendAnswer}
 use Rattle.rules.specs.declared.TurnAnswer.{TurnAnswer}
 use Rattle.node.specs.Promises.{lent, left, SetUpPromise, FramePromise, TickPromise, SendPromise, TurnPromise, ShowPromise}
-use Rattle.laws.specs.Own.{own}
+use Rattle.laws.specs.Own.{own, freshPart, Alone}
 use Rattle.laws.specs.Rounds.{DueAt}
 
 -- one call of the code: it was given h, and answered and left this. A store that it is not given is h's own
@@ -43,10 +44,19 @@ unfoldable pub Chain : Held → List Made → Type 0
 Chain h [] = Unit {0}
 Chain h (m ∷ ms) = Step h (m .call) (m .out) × Chain (m .out .held) ms
 
--- a set-up that the code answered with Ready, and a chain on the node that it left and the stores that it did not touch
+-- the node that a set-up left, with the stores, which it does not touch
+abbrev pub anew : Held → Node → Held
+anew h n = lent n (h .incoming) (h .outgoing)
+
+-- a set-up that the code answered with Ready, and a chain on what it left
 pub record AfterSetUp (h : Held) (s : Settings) (n : Node) (ms : List Made) : Type 0 where
   pub ready : SetUpPromise (h .node) (s .area) (s .block) (s .stmin) SetUpAnswer.Ready n
-  pub chain : Chain (lent n (h .incoming) (h .outgoing)) ms
+  pub chain : Chain (anew h n) ms
+
+-- a run of the rules as a chain: the calls of a list, each with the rule's outcome
+unfoldable pub madeOf : Held → List Call → List Made
+madeOf h [] = []
+madeOf h (c ∷ cs) = record { call = c; out = outcome h c } ∷ madeOf (outcome h c .held) cs
 
 -- ---- what a chain said and left, read off its calls
 
@@ -69,3 +79,8 @@ ownIn k h (m ∷ ms) = own k h (m .call) ++ ownIn k (m .out .held) ms
 unfoldable pub DueIn : ℕ → Held → List Made → Type 0
 DueIn k h [] = Unit {0}
 DueIn k h (m ∷ ms) = DueAt k h (m .call) × DueIn k (m .out .held) ms
+
+-- what demand 3 says of the answers and of what is left after a set-up, of every berth
+abbrev pub EachAlone : Held → Settings → Node → List Made → Type 0
+EachAlone h s n ms =
+    (k : ℕ) → k < berthCount → Alone s (freshPart h s k) k (anew h n) (ownIn k (anew h n) ms) (saidBy ms) (leftBy (anew h n) ms)
