@@ -5,7 +5,7 @@ ghost use Prim.Native.Nat.{_+_, _%_, min};
 ghost use mathlib.Core.List.{[], _∷_, _++_};
 ghost use lib.ListN.{take};
 ghost use lib.Seq.{paste};
-ghost use Rattle.rules.specs.Numbers.{frameLength};
+ghost use Rattle.rules.specs.Numbers.{frameSize};
 ghost use Rattle.rules.specs.Answers.{refused as Answers·refused, frameSays, tickSays, sendSays, turnSays};
 ghost use Rattle.lines.specs.Lines.{textOf, clipped, copies, decimal, hexDigit, hexText, idText, wordText, codeText, codesText, lineOf, badLine, shortLine};
 use rules::Codes;
@@ -99,7 +99,7 @@ impl Line {
 
     // The frame that was handed over is the buffer's first eight bytes.
     fn handed(self, buffer: &[u8]) -> Line
-        ensures { λ r. ⌜ textOf r ≡ clipped (textOf self ++ hexText (take frameLength (now (buffer .entry)))) ⌝ }
+        ensures { λ r. ⌜ textOf r ≡ clipped (textOf self ++ hexText (take frameSize (now (buffer .entry)))) ⌝ }
     {
         if buffer.len() < 8 {
             return self.hex(buffer);
@@ -209,7 +209,7 @@ pub fn frame(number: u64, answer: FrameAnswer) -> Line
 {
     match answer {
         FrameAnswer::Refused(n) => refused(number, n),
-        FrameAnswer::Heard(berth, old, word) => {
+        FrameAnswer::Heard { berth, old, word } => {
             let line = numbered(number).text(b"berth ").small(berth);
             line.text(b" old ").small(old).word(word).put(b'\n')
         }

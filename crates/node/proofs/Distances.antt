@@ -8,7 +8,7 @@ use mathlib.Core.List.{List, [], _∷_}
 use lib.ListN.{length, getD}
 use Rattle.rules.specs.Numbers.{berthCount}
 use Rattle.rules.specs.Tests.{pick}
-use Rattle.rules.specs.Ranges.{fresh}
+use Rattle.rules.specs.Nodes.{fresh}
 use Rattle.rules.specs.Turns.{due}
 use Rattle.rules.specs.Stores.{distance, leastDistance}
 use Rattle.rules.specs.declared.Berth.{Berth}

@@ -4,21 +4,22 @@ use Prim.Native.Nat.{ℕ, suc, _+_, _-_, _*_, _≤_, _<_}
 use native.Mathlib.Omega.{arith}
 use native.Mathlib.Nat.{mul-le-mul-right}
 use mathlib.Core.Path.{_≡_, refl, sym, ap, _∙_}
-use mathlib.Core.Bool.{Bool}
 use mathlib.Core.List.{List, [], _∷_, _++_, append-assoc}
 use lib.ListN.{length, getD, take, drop, replicate, length-take, length-drop}
 use lib.Seq.{sets, sets-eq, take-at, drop-at, getD-set-same, length-take-le}
 use lib.Dec.{T, eqb, ltb, leb}
 use Rattle.rules.specs.Tests.{all, each, firstUnmet}
-use Rattle.rules.specs.Numbers.{berthCount, toBerth, timeout, consecutiveKind, consecutiveMost, frameLength, outOfOrder, badSetting}
+use Rattle.rules.specs.Numbers.{berthCount, toBerth, timeout, consecutiveKind, consecutiveMost, frameSize, outOfOrder, badSetting}
 use Rattle.rules.specs.Frames.{kind, low, singleFits, consecutiveFits, share}
-use Rattle.rules.specs.Ranges.{settingsAllowed, inBlock, takingInRange, berthInOrder, fresh, berthAt, inOrder}
+use Rattle.rules.specs.Ranges.{settingsAllowed, inBlock, takingInRange, berthInOrder, inOrder}
 use Rattle.rules.specs.Arrivals.{Heard, singleCame, missing, piece, completed, took, awaitedCame, heardBy, byKind, frameCame}
 use Rattle.rules.specs.Ticks.{ran, closer, rxTicked, txTicked, ticked}
-use Rattle.rules.specs.Stores.{Held, rightStore, areaOf, stored, inside, distance, leastDistance, passedOver, reached, cameAt, handedAt}
-use Rattle.rules.specs.Answers.{Answer, refused, ready, heard, codes, sent, handed, none, shown, setUpSays, frameSays, tickSays, sendSays, turnSays, wordPaper}
-use Rattle.rules.specs.Refusals.{Call, frame, tick, send, turn, show, senderOf, needs, refusal, setUpRefusal}
+use Rattle.rules.specs.Stores.{rightStore, areaOf, stored, inside, distance, leastDistance, passedOver, reached, cameAt, handedAt}
+use Rattle.rules.specs.Answers.{Answer, refused, ready, heard, codes, sent, handed, none, shown, setUpSays, frameSays, tickSays, sendSays, turnSays, wordPaper, send}
+use Rattle.rules.specs.Refusals.{needs, refusal, setUpRefusal}
 use Rattle.rules.specs.Calls.{Outcome, showing, afterFrame, done, reply, written, refusedOutcome, outcome, setUpOutcome}
+use Rattle.rules.specs.Nodes.{fresh, berthAt, Held}
+use Rattle.rules.specs.Events.{Call, frame, tick, turn, show, senderOf}
 use Rattle.rules.specs.declared.Settings.{Settings}
 use Rattle.rules.specs.declared.Taking.{Taking}
 use Rattle.rules.specs.declared.Sending.{Sending}
@@ -26,6 +27,7 @@ use Rattle.rules.specs.declared.Rx.{Rx}
 use Rattle.rules.specs.declared.Tx.{Tx}
 use Rattle.rules.specs.declared.Berth.{Berth}
 use Rattle.rules.specs.declared.Node.{Node}
+use Rattle.rules.specs.declared.Choice.{Choice}
 use Rattle.rules.specs.declared.SetUpAnswer.{SetUpAnswer}
 use Rattle.rules.specs.declared.FrameAnswer.{FrameAnswer}
 use Rattle.rules.specs.declared.TickAnswer.{TickAnswer}
@@ -205,7 +207,7 @@ not-fixed-set-up n s t e f a =
     (λ p. ap (λ (o : Outcome). named (o .answer)) (same (p .1 [] [])) ∙ rw e)
     (λ p. ap (λ (o : Outcome). named (o .answer)) (same (p .1 [] [])) ∙ rw f)
 
-pub not-fixed-part : (h : Held) (choice : Bool) (j k : ℕ) → (length (showing h j choice) ≡ length (showing h k choice) → ⊥) → (part : List ℕ)
+pub not-fixed-part : (h : Held) (choice : Choice) (j k : ℕ) → (length (showing h j choice) ≡ length (showing h k choice) → ⊥) → (part : List ℕ)
     → (i : ℕ) × ((at in-at out-at : ℕ × ℕ) × ShowPromise (h .node) (h .incoming) (h .outgoing) i choice part in-at out-at at → ⊥)
 unfolding reply refusal needs firstUnmet
 not-fixed-part h choice j k ne part =
@@ -328,15 +330,15 @@ unfolding reply turnSays
 not-made-up h buffer buffer′ n k code passed e other p = go (ltb-cases (passedOver (h .node)) berthCount) (ap (λ (o : Outcome). o .answer) (answered h (turn buffer) e (p (h .incoming))))
   where
     go : Tested (ltb (passedOver (h .node)) berthCount) (passedOver (h .node) < berthCount) (berthCount ≤ passedOver (h .node))
-        → handed (toBerth + k) (take frameLength buffer′) code passed ≡ reply h (turn buffer) → ⊥
+        → handed (toBerth + k) (take frameSize buffer′) code passed ≡ reply h (turn buffer) → ⊥
     go (holds t l) q =
-        let z : handed (toBerth + k) (take frameLength buffer′) code passed
+        let z : handed (toBerth + k) (take frameSize buffer′) code passed
         ≡ handed (toBerth + reached (h .node)) (handedAt h (reached (h .node)) .frame) (handedAt h (reached (h .node)) .code) (passedOver (h .node)) = rw t at q in
         let same-id : toBerth + k ≡ toBerth + reached (h .node) = cc in
         let same-number : passed ≡ passedOver (h .node) = cc in
         let (is-due, least) = reached-due (h .node) (in-order-range (h .node) (turn-answered h buffer e .order)) l in
         other (same-number ∙ least ∙ ap (distance (h .node .served)) (omega arith))
-    go (fails t l) q = let z : handed (toBerth + k) (take frameLength buffer′) code passed ≡ none berthCount = rw t at q in clash (cc)
+    go (fails t l) q = let z : handed (toBerth + k) (take frameSize buffer′) code passed ≡ none berthCount = rw t at q in clash (cc)
 
 pub not-made-up-none : (h : Held) (buffer buffer′ : List ℕ) (n : Node) (passed : ℕ) → refusal h (turn buffer) ≡ 0
     → (passed ≡ berthCount → ⊥) → TurnPromise (h .node) (h .outgoing) buffer (TurnAnswer.None passed) n buffer′ → ⊥

@@ -5,11 +5,13 @@ use Prim.Native.Nat.{ℕ, _+_}
 use mathlib.Core.List.{List, [], _∷_, _++_, map}
 use lib.ListN.{length, replicate}
 use Rattle.rules.specs.Tests.{all, each, firstUnmet}
-use Rattle.rules.specs.Ranges.{settingsAllowed, inBlock, takingInRange, sendingInRange, berthInOrder, fresh, berthAt, inOrder}
+use Rattle.rules.specs.Nodes.{fresh, berthAt, Held}
+use Rattle.rules.specs.Ranges.{settingsAllowed, inBlock, takingInRange, sendingInRange, berthInOrder, inOrder}
 use Rattle.rules.specs.Frames.{kind, low, singleFits, flowFits}
 use Rattle.rules.specs.Arrivals.{ignored, singleCame, flowIgnored, heardBy, toldBy, byKind, frameCame}
-use Rattle.rules.specs.Stores.{Held, rightStore, inside, cameAt}
-use Rattle.rules.specs.Refusals.{Call, frame, tick, send, turn, needs, refusal, setUpRefusal}
+use Rattle.rules.specs.Stores.{rightStore, inside, cameAt}
+use Rattle.rules.specs.Events.{Call, frame, tick, send, turn}
+use Rattle.rules.specs.Refusals.{needs, refusal, setUpRefusal}
 use Rattle.rules.specs.declared.Settings.{Settings}
 use Rattle.rules.specs.declared.Taking.{Taking}
 use Rattle.rules.specs.declared.Sending.{Sending}

@@ -12,8 +12,9 @@ use Rattle.rules.specs.Numbers.{singleKind, firstKind, consecutiveKind, 
 use Rattle.rules.specs.Frames.{kind, low, singleFits, announced, firstFits, consecutiveFits, flowFits, share}
 use Rattle.rules.specs.Arrivals.{Heard, ignored, singleCame, aboveArea, turnedAway, begun, firstCame, missing, piece, completed, took, wrongSn, awaitedCame, consecutiveCame, Told, granted, byStatus, flowIgnored, flowCame, Came, heardBy, toldBy, byKind, frameCame}
 use Rattle.rules.specs.Turns.{newBlock, afterFlow}
-use Rattle.rules.specs.Stores.{Held}
-use Rattle.rules.specs.Refusals.{Call, refusal, setUpRefusal}
+use Rattle.rules.specs.Nodes.{Held}
+use Rattle.rules.specs.Events.{Call}
+use Rattle.rules.specs.Refusals.{refusal, setUpRefusal}
 use Rattle.rules.specs.Calls.{bufferOf, refusedOutcome, outcome, setUpOutcome}
 use Rattle.rules.specs.declared.Settings.{Settings}
 use Rattle.rules.specs.declared.Taking.{Taking}

@@ -15,7 +15,8 @@ use Rattle.rules.specs.Frames.{kind, low, padded, singleFrame, firstFram
 use Rattle.rules.specs.Arrivals.{Told, granted, byStatus, flowIgnored, flowCame, Came, heardBy, toldBy, frameCame}
 use Rattle.rules.specs.Ticks.{ran, txTicked, ticked}
 use Rattle.rules.specs.Turns.{flowDue, messageDue, flowFrame, toGo, messageFrame, messageCode, moved, afterConsecutive, afterMessage, HandedOver, handOver, beginsWith, sent, busy}
-use Rattle.rules.specs.Alone.{Part, Event, arrives, ticks, sends, turns, Says, hears, expires, accepts, hands, partAfter, says, alone, saysAll}
+use Rattle.rules.specs.Events.{Event, arrives, ticks, sends, turns}
+use Rattle.rules.specs.Alone.{Part, Says, hears, expires, accepts, hands, partAfter, says, alone, saysAll}
 use Rattle.rules.specs.declared.Settings.{Settings}
 use Rattle.rules.specs.declared.Sending.{Sending}
 use Rattle.rules.specs.declared.Rx.{Rx}

@@ -4,16 +4,18 @@ use Prim.Native.Nat.{ℕ, zero, suc, _+_, _%_}
 use mathlib.Core.List.{List, [], _∷_}
 use lib.ListN.{length, replicate}
 use Rattle.rules.specs.Tests.{all, each, firstUnmet}
-use Rattle.rules.specs.Ranges.{settingsAllowed, inBlock, takingInRange, sendingInRange, berthInOrder, fresh, berthAt, inOrder}
+use Rattle.rules.specs.Nodes.{fresh, berthAt, Held, withBerth}
+use Rattle.rules.specs.Ranges.{settingsAllowed, inBlock, takingInRange, sendingInRange, berthInOrder, inOrder}
 use Rattle.rules.specs.Frames.{kind, low, singleFits, shortLength, escapeLength, announced, firstFits, consecutiveFits, flowFits, padded, singleFrame, firstFrame, consecutiveFrame, goFrame, overflowFrame, nextSn, counted, fillsBlock, gapOf, share, needed, framesNeeded}
 use Rattle.rules.specs.Arrivals.{ignored, singleCame, turnedAway, begun, firstCame, piece, grown, completed, afterTook, took, wrongSn, awaitedCame, granted, byStatus, flowIgnored, heardBy, toldBy, byKind, frameCame}
-use Rattle.rules.specs.Ticks.{ran, ticked}
+use Rattle.rules.specs.Ticks.{ran, ticked, codesOf}
 use Rattle.rules.specs.Turns.{due, moved, afterConsecutive, handOver, beginsWith, sent as sentBerth}
-use Rattle.rules.specs.Stores.{Held, rightStore, areaOf, stored, inside, withBerth, tickedNode, servedNode, distance, leastDistance, passedOver, reached, cameAt, handedAt}
+use Rattle.rules.specs.Stores.{rightStore, areaOf, stored, inside, tickedNode, servedNode, distance, leastDistance, passedOver, reached, cameAt, handedAt}
 use Rattle.rules.specs.Answers.{Answer, heard, codes, sent, handed}
-use Rattle.rules.specs.Refusals.{Call, frame, tick, send, turn, needs, refusal}
-use Rattle.rules.specs.Calls.{afterFrame, done, codesOf, reply, written, refusedOutcome, outcome, answers}
-use Rattle.rules.specs.Alone.{Part, Event, arrives, turns, Says, hands, partAfter, says, saysAll}
+use Rattle.rules.specs.Events.{Call, frame, tick, send, turn, Event, arrives, turns}
+use Rattle.rules.specs.Refusals.{needs, refusal}
+use Rattle.rules.specs.Calls.{afterFrame, done, reply, written, refusedOutcome, outcome, answers}
+use Rattle.rules.specs.Alone.{Part, Says, hands, partAfter, says, saysAll}
 use Rattle.rules.specs.declared.Settings.{Settings}
 use Rattle.rules.specs.declared.Taking.{Taking}
 use Rattle.rules.specs.declared.Sending.{Sending}

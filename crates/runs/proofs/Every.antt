@@ -7,12 +7,15 @@ use mathlib.Core.List.{List, [], _∷_, _++_, map}
 use lib.ListN.{drop, replicate}
 use lib.Seq.{take-at}
 use lib.Dec.{ltb}
-use Rattle.rules.specs.Numbers.{berthCount, toBerth, frameLength}
+use Rattle.rules.specs.Numbers.{berthCount, toBerth, frameSize}
 use Rattle.rules.specs.Tests.{firstUnmet}
-use Rattle.rules.specs.Stores.{Held, passedOver, reached, cameAt, handedAt, servedNode, setUpNode}
-use Rattle.rules.specs.Answers.{handed, setUpSays, frameSays, tickSays, sendSays, turnSays}
-use Rattle.rules.specs.Refusals.{Call, frame, tick, send, turn, show, senderOf, needs, refusal, setUpRefusal}
-use Rattle.rules.specs.Calls.{Outcome, codesOf, showing, afterFrame, done, reply, written, outcome, setUpOutcome}
+use Rattle.rules.specs.Stores.{passedOver, reached, cameAt, handedAt, servedNode, setUpNode}
+use Rattle.rules.specs.Answers.{handed, setUpSays, frameSays, tickSays, sendSays, turnSays, send}
+use Rattle.rules.specs.Refusals.{needs, refusal, setUpRefusal}
+use Rattle.rules.specs.Calls.{Outcome, showing, afterFrame, done, reply, written, outcome, setUpOutcome}
+use Rattle.rules.specs.Nodes.{Held}
+use Rattle.rules.specs.Events.{Call, frame, tick, turn, show, senderOf}
+use Rattle.rules.specs.Ticks.{codesOf}
 use Rattle.rules.specs.declared.Settings.{Settings}
 use Rattle.rules.specs.declared.FrameAnswer.{FrameAnswer}
 use Rattle.rules.specs.declared.SendAnswer.{SendAnswer}
@@ -81,10 +84,10 @@ module _ (h : Held) where
       go zero e (holds t l) =
           let says : outcome h (turn buffer) .answer ≡ handed (toBerth + k) (handedAt h k .frame) (handedAt h k .code) (passedOver (h .node)) = rw (e, t) in
           let eight = handed-fit h buffer _ _ _ _ says .0 .eight in
-          as-outcome (turns buffer (TurnAnswer.HandedOver (toBerth + k) (handedAt h k .code) (passedOver (h .node))) (servedNode (h .node) k (handedAt h k .berth)) (handedAt h k .frame ++ drop frameLength buffer)
+          as-outcome (turns buffer (TurnAnswer.HandedOver (toBerth + k) (handedAt h k .code) (passedOver (h .node))) (servedNode (h .node) k (handedAt h k .berth)) (handedAt h k .frame ++ drop frameSize buffer)
           (λ incoming. does (lent (h .node) incoming (h .outgoing)) (turn buffer) refl (sym e)
-          (rw t (ap (λ (f : List ℕ). left (handed (toBerth + k) f (handedAt h k .code) (passedOver (h .node))) (lent (servedNode (h .node) k (handedAt h k .berth)) incoming (h .outgoing)) (handedAt h k .frame ++ drop frameLength buffer))
-          (take-at (handedAt h k .frame) (drop frameLength buffer) frameLength eight)))))
+          (rw t (ap (λ (f : List ℕ). left (handed (toBerth + k) f (handedAt h k .code) (passedOver (h .node))) (lent (servedNode (h .node) k (handedAt h k .berth)) incoming (h .outgoing)) (handedAt h k .frame ++ drop frameSize buffer))
+          (take-at (handedAt h k .frame) (drop frameSize buffer) frameSize eight)))))
       go zero e (fails t l) =
           as-outcome (turns buffer (TurnAnswer.None berthCount) (h .node) buffer
           (λ incoming. does (lent (h .node) incoming (h .outgoing)) (turn buffer) refl (sym e) (rw t)))

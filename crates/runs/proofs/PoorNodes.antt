@@ -9,9 +9,10 @@ use lib.Dec.{T}
 use Rattle.rules.specs.Numbers.{berthCount, consecutiveKind}
 use Rattle.rules.specs.Frames.{kind, low, consecutiveFits}
 use Rattle.rules.specs.Arrivals.{missing, piece, frameCame}
-use Rattle.rules.specs.Stores.{Held}
 use Rattle.rules.specs.Answers.{refused}
-use Rattle.rules.specs.Alone.{Part, partOf, Event, arrives, ticks, Says, partAfter, says, alone, saysAll}
+use Rattle.rules.specs.Alone.{Part, partOf, Says, partAfter, says, alone, saysAll}
+use Rattle.rules.specs.Nodes.{Held}
+use Rattle.rules.specs.Events.{Event, arrives, ticks}
 use Rattle.rules.specs.declared.Settings.{Settings}
 use Rattle.rules.specs.declared.Taking.{Taking}
 use Rattle.rules.specs.declared.Rx.{Rx}

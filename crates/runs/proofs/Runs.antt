@@ -5,11 +5,13 @@ use Prim.Native.Nat.{ℕ, zero, suc, _<_}
 use mathlib.Core.List.{List, [], _∷_, _++_, map}
 use Rattle.rules.specs.Tests.{unless}
 use Rattle.rules.specs.Numbers.{berthCount}
-use Rattle.rules.specs.Stores.{Held, setUpNode}
+use Rattle.rules.specs.Stores.{setUpNode}
 use Rattle.rules.specs.Answers.{Answer, ready, setUpSays}
-use Rattle.rules.specs.Refusals.{Call, setUpRefusal}
+use Rattle.rules.specs.Refusals.{setUpRefusal}
 use Rattle.rules.specs.Calls.{Outcome, refusedOutcome, outcome, setUpOutcome, outcomes, answers, final}
-use Rattle.rules.specs.Alone.{Part, Event, partOf}
+use Rattle.rules.specs.Alone.{Part, partOf}
+use Rattle.rules.specs.Nodes.{Held}
+use Rattle.rules.specs.Events.{Call, Event}
 use Rattle.rules.specs.declared.Settings.{Settings}
 use Rattle.rules.specs.declared.Node.{Node}
 use Rattle.rules.specs.declared.SetUpAnswer.{SetUpAnswer}

@@ -1,14 +1,13 @@
 -- A run of the code: a chain of calls, the same node and the same two stores throughout. Of a call only its promise is known; it is
 -- the same promise by value and on a lent node.
 use Prim.Native.Nat.{ℕ, _<_}
-use mathlib.Core.Bool.{Bool}
+use Rattle.rules.specs.declared.Choice.{Choice}
 use mathlib.Core.List.{List, [], _∷_, _++_, map}
 use Rattle.rules.specs.Numbers.{berthCount}
-use Rattle.rules.specs.Stores.{Held}
-use Rattle.rules.specs.Answers.{Answer, shown, frameSays, tickSays, sendSays, turnSays}
-use Rattle.rules.specs.Refusals.{Call, frame, tick, send, turn, show}
+use Rattle.rules.specs.Answers.{Answer, shown, frameSays, tickSays, sendSays, turnSays, send}
 use Rattle.rules.specs.Calls.{Outcome, outcome}
-use Rattle.rules.specs.Alone.{Event}
+use Rattle.rules.specs.Nodes.{Held}
+use Rattle.rules.specs.Events.{Call, frame, tick, turn, show, Event}
 use Rattle.rules.specs.declared.Settings.{Settings}
 use Rattle.rules.specs.declared.Node.{Node}
 use Rattle.rules.specs.declared.SetUpAnswer.{SetUpAnswer}
@@ -30,7 +29,7 @@ pub data Step (h : Held) : Call → Outcome → Type 0 where
       → Step h (send k m) (left (sendSays a) (lent n (h .incoming) outgoing) [])
   turns : (buffer : List ℕ) (a : TurnAnswer) (n : Node) (buffer′ : List ℕ) → TurnPromise (h .node) (h .outgoing) buffer a n buffer′
       → Step h (turn buffer) (left (turnSays a buffer′) (lent n (h .incoming) (h .outgoing)) buffer′)
-  shows : (k : ℕ) (choice : Bool) (part : List ℕ) (in-at out-at part-at : ℕ × ℕ)
+  shows : (k : ℕ) (choice : Choice) (part : List ℕ) (in-at out-at part-at : ℕ × ℕ)
       → ShowPromise (h .node) (h .incoming) (h .outgoing) k choice part in-at out-at part-at
       → Step h (show k choice) (left (shown part) h [])
 

@@ -4,7 +4,15 @@ use crate::output;
 use crate::scene::Scene;
 use crate::words;
 use lines::Line;
+use rules::Choice;
 use rules::Node;
+
+fn chosen(b: u8) -> Choice {
+    if b == 1 {
+        return Choice::Sending;
+    }
+    Choice::Arrived
+}
 
 fn show<'a>(
     before: Scene,
@@ -17,13 +25,8 @@ fn show<'a>(
     let other = output::lent(outgoing, before.outgoing);
     let node = before.node;
     let k = judged::two(0, record[1]);
-    let part = carumpek::local::show(
-        node,
-        &incoming[..store],
-        &outgoing[..other],
-        k,
-        record[2] == 1,
-    );
+    let choice = chosen(record[2]);
+    let part = carumpek::local::show(node, &incoming[..store], &outgoing[..other], k, choice);
     let line = lines::numbered(before.number).text(b"show");
     output::put_bytes(out, before.waiting, line, part)
 }
