@@ -26,10 +26,10 @@ use Rattle.rules.specs.declared.Berth.{Berth}
 use Rattle.rules.specs.declared.Codes.{Codes}
 use Rattle.rules.specs.declared.Word.the-variants.{Delivered, Ignored}
 use Rattle.rules.proofs.Ranges.{in-order-range}
-use Rattle.laws.specs.Own.{over, only, ownDone, own, owns, heardOf, ofBerth, Sound, Alone}
+use Rattle.laws.specs.Own.{over, only, ownDone, own, owns, saysOf, ofBerth, Sound, Alone}
 use Rattle.laws.specs.Rounds.{served, turnOf, StaysDue, Fair}
 use Rattle.laws.specs.Sides.{frameSide, ofSide, handedSide, framesBy}
-use Rattle.laws.specs.Line.{there, back, deliveredIn, callA, callB, carriedA, carriedB, Deed, atA, atB, carryA, carryB, acts, living, spares, AllApart, gapLeft, AtRest, begin, MayBegin, Arrived, blank}
+use Rattle.laws.specs.Line.{there, back, deliveredIn, leftA, leftB, callA, callB, carriedA, carriedB, Deed, atA, atB, carryA, carryB, acts, living, spares, AllApart, gapLeft, AtRest, begin, MayBegin, Arrived, blank}
 use Rattle.laws.proofs.SetUp.{each-alone}
 use Rattle.laws.proofs.Fairness.{fair}
 use Rattle.laws.proofs.World.{line-law}
@@ -157,7 +157,7 @@ pub deeds-computed : AllApart 2 7 (begin 2 programme scheduler mast) deeds
     ∷ back (0x30 ∷ 2 ∷ 2 ∷ 0xCC ∷ 0xCC ∷ 0xCC ∷ 0xCC ∷ 0xCC ∷ [])
     ∷ there (0x25 ∷ 35 ∷ 36 ∷ 0xCC ∷ 0xCC ∷ 0xCC ∷ 0xCC ∷ 0xCC ∷ [])
     ∷ [])
-unfolding gapLeft AllApart spares frameSide living acts callA callB carriedA carriedB framesBy handedSide ofSide ofBerth only reports reported wordReports codesReports failedSide heardOf deliveredIn over answers final done reply written outcome refusedOutcome refusal needs firstUnmet rightStore inside berthAt inOrder all each settingsAllowed berthInOrder takingInRange sendingInRange inBlock afterFrame cameAt frameCame byKind kind low heardBy toldBy ignored singleCame singleFits withBerth stored tickedNode ticked ran codesOf sentBerth beginsWith passedOver leastDistance distance due reached servedNode handedAt handOver areaOf singleFrame padded showing showable shownLength setUpNode firstCame shortLength escapeLength announced firstFits begun awaitedCame consecutiveFits piece grown completed afterTook took wrongSn counted fillsBlock nextSn share flowFits byStatus granted gapOf goFrame firstFrame consecutiveFrame moved afterConsecutive
+unfolding gapLeft AllApart spares frameSide living acts leftA leftB carriedA carriedB framesBy handedSide ofSide ofBerth only reports reported wordReports codesReports failedSide saysOf deliveredIn over answers final done reply written outcome refusedOutcome refusal needs firstUnmet rightStore inside berthAt inOrder all each settingsAllowed berthInOrder takingInRange sendingInRange inBlock afterFrame cameAt frameCame byKind kind low heardBy toldBy ignored singleCame singleFits withBerth stored tickedNode ticked ran codesOf sentBerth beginsWith passedOver leastDistance distance due reached servedNode handedAt handOver areaOf singleFrame padded showing showable shownLength setUpNode firstCame shortLength escapeLength announced firstFits begun awaitedCame consecutiveFits piece grown completed afterTook took wrongSn counted fillsBlock nextSn share flowFits byStatus granted gapOf goFrame firstFrame consecutiveFrame moved afterConsecutive
 deeds-computed = (
   ((λ e. tt), ((λ e. tt), (tt, ((λ e. tt), ((λ e. tt), ((λ e. tt), ((λ e. tt), (tt, ((λ e. tt), ((λ e. tt), (tt, ((λ e. tt), ((λ e. tt), ((λ e. tt), ((λ e. tt), ((λ e. tt), (tt, ((λ e. tt), (tt, ((λ e. tt), (tt, ((λ e. tt), ((λ e. tt), ((λ e. tt), ((λ e. tt), ((λ e. tt), (tt, ((λ e. tt), (tt, ((λ e. tt), (tt, tt))))))))))))))))))))))))))))))),
   record { none-there = refl; none-back = refl; none-due = refl; no-gap = refl; no-flow = refl },

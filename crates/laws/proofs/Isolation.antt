@@ -28,7 +28,7 @@ use Rattle.rules.proofs.Areas.{area-same, area-other}
 use Rattle.rules.proofs.Ranges.{in-order-range}
 use Rattle.rules.proofs.Order.{reached-small, berth-ticked}
 use Rattle.rules.proofs.Answered.{FrameAnswered, frame-answered, SendAnswered, send-answered, turn-answered}
-use Rattle.laws.specs.Own.{over, ownDone, own, owns, takerOf, noCodes, heardOf}
+use Rattle.laws.specs.Own.{over, ownDone, own, owns, takerOf, noCodes, saysOf}
 
 -- ---- one berth is written
 
@@ -123,8 +123,8 @@ module _ (k : ℕ) where
 
   -- ---- what is said
 
-  says-tick : (h : Held) → heardOf k (reply h tick) ≡ saysAll (h .node .settings) (partOf k h) (ownDone k h tick)
-  unfolding heardOf reply saysAll ownDone says partOf berthAt codesOf
+  says-tick : (h : Held) → saysOf k (reply h tick) ≡ saysAll (h .node .settings) (partOf k h) (ownDone k h tick)
+  unfolding saysOf reply saysAll ownDone says partOf berthAt codesOf
   says-tick h =
       ap {A = Codes} (λ p. expires (p .receive) (p .send) ∷ [])
       (ap (getD (map codesOf (h .node .berths)) k) (sym codes-fresh) ∙ List·getD-map codesOf (h .node .berths) k fresh)
@@ -132,37 +132,37 @@ module _ (k : ℕ) where
   said-to : (n : Node) → takerOf (toBerth + reached n) ≡ reached n
   said-to n = omega arith
 
-  pub says-done : (h : Held) (c : Call) → heardOf k (reply h c) ≡ saysAll (h .node .settings) (partOf k h) (ownDone k h c)
-  unfolding heardOf reply saysAll ownDone says partOf cameAt handedAt
+  pub says-done : (h : Held) (c : Call) → saysOf k (reply h c) ≡ saysAll (h .node .settings) (partOf k h) (ownDone k h c)
+  unfolding saysOf reply saysAll ownDone says partOf cameAt handedAt
   says-done h (frame id d) = go (eqb-cases (senderOf id) k)
     where
       go : Tested (eqb (senderOf id) k) (senderOf id ≡ k) (senderOf id ≡ k → ⊥)
-          → heardOf k (reply h (frame id d)) ≡ saysAll (h .node .settings) (partOf k h) (ownDone k h (frame id d))
+          → saysOf k (reply h (frame id d)) ≡ saysAll (h .node .settings) (partOf k h) (ownDone k h (frame id d))
       go (holds t e) = rw (t, e)
       go (fails t ne) = rw t
   says-done h tick = says-tick h
   says-done h (send j m) = go (eqb-cases j k)
     where
       go : Tested (eqb j k) (j ≡ k) (j ≡ k → ⊥)
-          → heardOf k (reply h (send j m)) ≡ saysAll (h .node .settings) (partOf k h) (ownDone k h (send j m))
+          → saysOf k (reply h (send j m)) ≡ saysAll (h .node .settings) (partOf k h) (ownDone k h (send j m))
       go (holds t e) = rw t
       go (fails t ne) = rw t
   says-done h (turn buffer) = go (ltb-cases (passedOver (h .node)) berthCount) (eqb-cases (reached (h .node)) k)
     where
       go : Tested (ltb (passedOver (h .node)) berthCount) (passedOver (h .node) < berthCount) (berthCount ≤ passedOver (h .node))
           → Tested (eqb (reached (h .node)) k) (reached (h .node) ≡ k) (reached (h .node) ≡ k → ⊥)
-          → heardOf k (reply h (turn buffer)) ≡ saysAll (h .node .settings) (partOf k h) (ownDone k h (turn buffer))
+          → saysOf k (reply h (turn buffer)) ≡ saysAll (h .node .settings) (partOf k h) (ownDone k h (turn buffer))
       go (fails u l) t = rw u
       go (holds u l) (holds t e) = rw (u, said-to (h .node), t, e)
       go (holds u l) (fails t ne) = rw (u, said-to (h .node), t)
   says-done h (show j choice) = refl
 
-  pub says-step : (h : Held) (c : Call) → heardOf k (outcome h c .answer) ≡ saysAll (h .node .settings) (partOf k h) (own k h c)
-  unfolding outcome refusedOutcome own saysAll heardOf
+  pub says-step : (h : Held) (c : Call) → saysOf k (outcome h c .answer) ≡ saysAll (h .node .settings) (partOf k h) (own k h c)
+  unfolding outcome refusedOutcome own saysAll saysOf
   says-step h c = go (refusal h c)
     where
       go : (n : ℕ)
-          → heardOf k (unless n (refusedOutcome h (bufferOf c)) (record { answer = reply h c; held = done h c; buffer = written h c }) .answer)
+          → saysOf k (unless n (refusedOutcome h (bufferOf c)) (record { answer = reply h c; held = done h c; buffer = written h c }) .answer)
           ≡ saysAll (h .node .settings) (partOf k h) (unless n (λ m. []) (ownDone k h c))
       go zero = says-done h c
       go (suc n) = refl
@@ -218,7 +218,7 @@ berth-alone k h (c ∷ cs) =
 
 -- EACH BERTH'S WORDS, CODES AND FRAMES. What the answers of any run say of berth k is what its own events say on that berth alone.
 pub berth-says : (k : ℕ) (h : Held) (cs : List Call)
-    → over (heardOf k) (answers h cs) ≡ saysAll (h .node .settings) (partOf k h) (owns k h cs)
+    → over (saysOf k) (answers h cs) ≡ saysAll (h .node .settings) (partOf k h) (owns k h cs)
 unfolding answers over owns saysAll
 berth-says k h [] = refl
 berth-says k h (c ∷ cs) =

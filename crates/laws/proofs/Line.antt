@@ -43,6 +43,16 @@ pub record Line : Type 0 where
   pub heard : List Report
   pub delivered : List ℕ
 
+-- the line with the sender's end anew, and with the taker's: its side, the frames on the way there and back, what was handed over, its
+-- reports. A line is built by these two and at the three stages below and nowhere else
+abbrev pub atSender : Line → Tx → (toR toS : List (List ℕ)) → List Handed → List Report → Line
+atSender l tx toR toS log said =
+    record { tx = tx; toR = toR; toS = toS; log = log; said = said; rx = l .rx; last = l .last; ina = l .ina; heard = l .heard; delivered = l .delivered }
+
+abbrev pub atTaker : Line → Rx → ℕ → List ℕ → (toR toS : List (List ℕ)) → List Handed → List Report → List ℕ → Line
+atTaker l rx last ina toR toS log heard delivered =
+    record { tx = l .tx; toR = toR; toS = toS; log = log; said = l .said; rx = rx; last = last; ina = ina; heard = heard; delivered = delivered }
+
 -- the send side stands before its frame k: the bytes before it have gone, and there are more
 pub record SendAt (n : ℕ) (o : Sending) (k : ℕ) : Type 0 where
   pub length : o .length ≡ n
@@ -183,99 +193,34 @@ module _ (i j : ℕ) (set : Settings) (n : ℕ) (out : List ℕ) (E : List Hande
   -- a frame of the message is handed over
   abbrev pub handS : Line → Line
   handS l =
-      record {
-        tx = afterMessage (l .tx);
-        toR = l .toR ++ (messageFrame (l .tx) out ∷ []);
-        toS = l .toS;
-        log = l .log ++ (there (messageFrame (l .tx) out) ∷ []);
-        said = l .said ++ reported i send (messageCode (l .tx));
-        rx = l .rx;
-        last = l .last;
-        ina = l .ina;
-        heard = l .heard;
-        delivered = l .delivered;
-      }
+      atSender l (afterMessage (l .tx)) (l .toR ++ (messageFrame (l .tx) out ∷ [])) (l .toS) (l .log ++ (there (messageFrame (l .tx) out) ∷ []))
+      (l .said ++ reported i send (messageCode (l .tx)))
 
   -- flow control is handed over
   abbrev pub handR : Line → Line
   handR l =
-      record {
-        tx = l .tx;
-        toR = l .toR;
-        toS = l .toS ++ (flowFrame set (l .rx) ∷ []);
-        log = l .log ++ (back (flowFrame set (l .rx)) ∷ []);
-        said = l .said;
-        rx = afterFlow (l .rx);
-        last = l .last;
-        ina = l .ina;
-        heard = l .heard;
-        delivered = l .delivered;
-      }
+      atTaker l (afterFlow (l .rx)) (l .last) (l .ina) (l .toR) (l .toS ++ (flowFrame set (l .rx) ∷ []))
+      (l .log ++ (back (flowFrame set (l .rx)) ∷ [])) (l .heard) (l .delivered)
 
   -- ticks that end no timer
   abbrev pub tickS : Line → Line
-  tickS l =
-      record {
-        tx = txTicked (l .tx);
-        toR = l .toR;
-        toS = l .toS;
-        log = l .log;
-        said = l .said;
-        rx = l .rx;
-        last = l .last;
-        ina = l .ina;
-        heard = l .heard;
-        delivered = l .delivered;
-      }
+  tickS l = atSender l (txTicked (l .tx)) (l .toR) (l .toS) (l .log) (l .said)
 
   abbrev pub tickR : Line → Line
-  tickR l =
-      record {
-        tx = l .tx;
-        toR = l .toR;
-        toS = l .toS;
-        log = l .log;
-        said = l .said;
-        rx = rxTicked (l .rx);
-        last = l .last;
-        ina = l .ina;
-        heard = l .heard;
-        delivered = l .delivered;
-      }
+  tickR l = atTaker l (rxTicked (l .rx)) (l .last) (l .ina) (l .toR) (l .toS) (l .log) (l .heard) (l .delivered)
 
   -- a frame comes in at the receive side, or at the send side, and leaves the queue q
   unfoldable pub tookR : Line → List (List ℕ) → Came → Line
   tookR l q c =
-      record {
-        tx = l .tx;
-        toR = q;
-        toS = l .toS;
-        log = l .log;
-        said = l .said;
-        rx = c .berth .rx;
-        last = c .berth .last;
-        ina = sets (l .ina) (c .place) (c .bytes);
-        heard = l .heard ++ (reported j receive (c .old) ++ wordReports j (c .word));
-        delivered = l .delivered ++ deliveredIn (hears (c .old) (c .word));
-      }
+      atTaker l (c .berth .rx) (c .berth .last) (sets (l .ina) (c .place) (c .bytes)) q (l .toS) (l .log)
+      (l .heard ++ (reported j receive (c .old) ++ wordReports j (c .word))) (l .delivered ++ deliveredIn (hears (c .old) (c .word)))
 
   abbrev pub receiving : Line → Berth
   receiving l = record { rx = l .rx; last = l .last; tx = Tx.Idle }
 
   unfoldable pub tookS : Line → List (List ℕ) → Came → Line
   tookS l q c =
-      record {
-        tx = c .berth .tx;
-        toR = l .toR;
-        toS = q;
-        log = l .log;
-        said = l .said ++ (reported i receive (c .old) ++ wordReports i (c .word));
-        rx = l .rx;
-        last = l .last;
-        ina = l .ina;
-        heard = l .heard;
-        delivered = l .delivered;
-      }
+      atSender l (c .berth .tx) (l .toR) q (l .log) (l .said ++ (reported i receive (c .old) ++ wordReports i (c .word)))
 
   abbrev pub sending : Line → Berth
   sending l = record { rx = Rx.Idle; last = 0; tx = l .tx }

@@ -23,7 +23,7 @@ use Rattle.rules.specs.declared.Codes.{Codes}
 use Rattle.rules.specs.declared.Word.{Word}
 use Rattle.rules.specs.declared.Word.the-variants.{Delivered, Begun, Failed, Ignored, TooLong, Took, Going, Waiting}
 use Rattle.rules.proofs.Cases.{Tested, holds, fails, eqb-cases, eqb-is, eqb-not, is-true, pick-either}
-use Rattle.laws.specs.Own.{over, only, owns, takerOf, noCodes, heardOf, ofBerth, saidReports, partShown}
+use Rattle.laws.specs.Own.{over, only, owns, takerOf, noCodes, saysOf, ofBerth, saidReports, partShown}
 use Rattle.laws.proofs.Isolation.{berth-says}
 
 -- ---- lists of reports
@@ -93,13 +93,13 @@ module _ (k : ℕ) where
 
   -- ---- one answer
 
-  pub reports-of : (a : Answer) → ofBerth k (reports a) ≡ over (saidReports k) (heardOf k a)
-  unfolding reports heardOf over saidReports ofBerth only
+  pub reports-of : (a : Answer) → ofBerth k (reports a) ≡ over (saidReports k) (saysOf k a)
+  unfolding reports saysOf over saidReports ofBerth only
   reports-of (refused n) = refl
   reports-of ready = refl
   reports-of (heard j old w) = go (eqb-cases j k)
     where
-      go : Tested (eqb j k) (j ≡ k) (j ≡ k → ⊥) → ofBerth k (reports (heard j old w)) ≡ over (saidReports k) (heardOf k (heard j old w))
+      go : Tested (eqb j k) (j ≡ k) (j ≡ k → ⊥) → ofBerth k (reports (heard j old w)) ≡ over (saidReports k) (saysOf k (heard j old w))
       go (holds t e) = rw (of-append, reported-of k j receive old, word-of k j w, t, append-nil, e)
       go (fails t e) = rw (of-append, reported-of k j receive old, word-of k j w, t)
   reports-of (codes cs) = codes-at cs k 0 (omega arith) ∙ sym (append-nil _)
@@ -107,19 +107,19 @@ module _ (k : ℕ) where
   reports-of (handed id f c passed) = go (eqb-cases (takerOf id) k)
     where
       go : Tested (eqb (takerOf id) k) (takerOf id ≡ k) (takerOf id ≡ k → ⊥)
-          → ofBerth k (reports (handed id f c passed)) ≡ over (saidReports k) (heardOf k (handed id f c passed))
+          → ofBerth k (reports (handed id f c passed)) ≡ over (saidReports k) (saysOf k (handed id f c passed))
       go (holds t e) = rw (reported-of k (takerOf id) send c, t, append-nil, e)
       go (fails t e) = rw (reported-of k (takerOf id) send c, t)
   reports-of (none passed) = refl
   reports-of (shown part) = refl
 
-  reports-all : (rs : List Answer) → ofBerth k (over reports rs) ≡ over (saidReports k) (over (heardOf k) rs)
+  reports-all : (rs : List Answer) → ofBerth k (over reports rs) ≡ over (saidReports k) (over (saysOf k) rs)
   unfolding over
   reports-all [] = unfold ofBerth only in refl
   reports-all (a ∷ rs) =
       of-append k (reports a) (over reports rs)
       ∙ ap₂ (λ (q r : List Report). q ++ r) (reports-of a) (reports-all rs)
-      ∙ sym (over-append (saidReports k) (heardOf k a) (over (heardOf k) rs))
+      ∙ sym (over-append (saidReports k) (saysOf k a) (over (saysOf k) rs))
 
 -- EACH BERTH'S REPORTS. The reports of berth k in the answers of any run are those in what its own events say on that berth alone.
 pub berth-reports : (k : ℕ) (h : Held) (cs : List Call)

@@ -34,7 +34,7 @@ use Rattle.rules.proofs.Ranges.{range-in-order}
 use Rattle.rules.proofs.Order.{frame-inside}
 use Rattle.rules.proofs.Round.{reached-due}
 use Rattle.rules.proofs.Facts.{frame-either, ignored-leaves}
-use Rattle.laws.specs.Own.{over, only, ownDone, own, takerOf, heardOf, saidReports, Sound}
+use Rattle.laws.specs.Own.{over, only, ownDone, own, takerOf, saysOf, saidReports, Sound}
 use Rattle.laws.specs.Sides.{sameSide, sideOf, frameSide, turnSide, forSide, sideEvents, ofSide, handedIn, handedSide, framesBy}
 use Rattle.laws.specs.Line.{reportsBy, deliveredIn, isIgnored, tickCode, spares, Spares}
 use Rattle.laws.proofs.Isolation.{part-step, says-step}
@@ -511,11 +511,11 @@ module _ (k : ℕ) (h : Held) where
     -- ---- the Delivereds of the receive side
 
     delivered-own : (c : Call) (es : List Event) → own k h c ≡ es
-        → over deliveredIn (heardOf k (outcome h c .answer)) ≡ over deliveredIn (saysAll set (partOf k h) es)
+        → over deliveredIn (saysOf k (outcome h c .answer)) ≡ over deliveredIn (saysAll set (partOf k h) es)
     delivered-own c es o = ap (over deliveredIn) (says-step k h c ∙ ap (saysAll set (partOf k h)) o)
 
     pub delivered-carried : (d : List ℕ) → length d ≤ frameSize → frameSide d ≡ receive
-        → over deliveredIn (heardOf k (outcome h (frame (fromBerth + k) d) .answer)) ≡ deliveredIn (says set (sideOf receive (partOf k h)) (arrives d))
+        → over deliveredIn (saysOf k (outcome h (frame (fromBerth + k) d) .answer)) ≡ deliveredIn (says set (sideOf receive (partOf k h)) (arrives d))
     unfolding saysAll over says sideOf withTx
     delivered-carried d l e =
         delivered-own (frame (fromBerth + k) d) (arrives d ∷ []) (own-carried d l)
@@ -547,9 +547,9 @@ module _ (k : ℕ) (h : Held) where
     delivers (show j choice) t = refl
 
     -- a call that spares the receive side delivers nothing
-    pub none-delivered : (c : Call) → Spares receive k h c → over deliveredIn (heardOf k (outcome h c .answer)) ≡ []
+    pub none-delivered : (c : Call) → Spares receive k h c → over deliveredIn (saysOf k (outcome h c .answer)) ≡ []
     none-delivered c t = go (refusal h c) refl
       where
-        go : (n : ℕ) → refusal h c ≡ n → over deliveredIn (heardOf k (outcome h c .answer)) ≡ []
+        go : (n : ℕ) → refusal h c ≡ n → over deliveredIn (saysOf k (outcome h c .answer)) ≡ []
         go zero e = delivered-own c (ownDone k h c) (own-is c e) ∙ delivers c (t e)
         go (suc n) e = delivered-own c [] (unfold own in (rw e)) ∙ unfold saysAll over in refl

@@ -51,15 +51,15 @@ takerOf id = id - toBerth
 abbrev pub noCodes : Codes
 noCodes = record { receive = 0; send = 0 }
 
-unfoldable pub heardOf : ℕ → Answer → List Says
-heardOf k (refused n) = []
-heardOf k ready = []
-heardOf k (heard j old w) = pick (eqb j k) (hears old w ∷ []) []
-heardOf k (codes cs) = expires (getD cs k noCodes .receive) (getD cs k noCodes .send) ∷ []
-heardOf k (sent j) = pick (eqb j k) (accepts ∷ []) []
-heardOf k (handed id f c passed) = pick (eqb (takerOf id) k) (hands f c ∷ []) []
-heardOf k (none passed) = []
-heardOf k (shown part) = []
+unfoldable pub saysOf : ℕ → Answer → List Says
+saysOf k (refused n) = []
+saysOf k ready = []
+saysOf k (heard j old w) = pick (eqb j k) (hears old w ∷ []) []
+saysOf k (codes cs) = expires (getD cs k noCodes .receive) (getD cs k noCodes .send) ∷ []
+saysOf k (sent j) = pick (eqb j k) (accepts ∷ []) []
+saysOf k (handed id f c passed) = pick (eqb (takerOf id) k) (hands f c ∷ []) []
+saysOf k (none passed) = []
+saysOf k (shown part) = []
 
 -- ---- reports
 
@@ -109,6 +109,6 @@ freshPart h s k = record { berth = fresh; incoming = areaOf (s .area) k (h .inco
 -- show of it returns after the run, are those of its own events on that berth alone
 pub record Alone (s : Settings) (start : Part) (k : ℕ) (h : Held) (own : List Event) (said : List Answer) (end : Held) : Type 0 where
   pub part : partOf k end ≡ alone s start own
-  pub says : over (heardOf k) said ≡ saysAll s start own
+  pub says : over (saysOf k) said ≡ saysAll s start own
   pub reported : ofBerth k (over reports said) ≡ over (saidReports k) (saysAll s start own)
   pub shown : Sound h → (choice : Choice) → showing end k choice ≡ partShown (alone s start own) choice

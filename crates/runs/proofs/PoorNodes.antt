@@ -19,7 +19,7 @@ use Rattle.rules.specs.declared.Rx.{Rx}
 use Rattle.rules.specs.declared.Tx.{Tx}
 use Rattle.rules.specs.declared.Node.{Node}
 use Rattle.node.proofs.PoorNodes.{still-idle, stood-before, right-came}
-use Rattle.laws.specs.Own.{over, own, heardOf}
+use Rattle.laws.specs.Own.{over, own, saysOf}
 use Rattle.laws.proofs.Isolation.{alone-append, says-append}
 use Rattle.runs.specs.Chains.{Made, anew, saidBy, leftBy, ownIn, EachAlone}
 
@@ -40,10 +40,10 @@ module _ (k : ℕ) where
   own-more h [] m = append-nil _
   own-more h (x ∷ ms) m = ap (λ (es : List Event). own k h (x .call) ++ es) (own-more (x .out .held) ms m) ∙ sym (append-assoc (own k h (x .call)) _ _)
 
-  said-more : (ms : List Made) (m : Made) → over (heardOf k) (saidBy (ms ++ m ∷ [])) ≡ over (heardOf k) (saidBy ms) ++ heardOf k (m .out .answer)
+  said-more : (ms : List Made) (m : Made) → over (saysOf k) (saidBy (ms ++ m ∷ [])) ≡ over (saysOf k) (saidBy ms) ++ saysOf k (m .out .answer)
   unfolding over
   said-more [] m = append-nil _
-  said-more (x ∷ ms) m = ap (λ (r : List Says). heardOf k (x .out .answer) ++ r) (said-more ms m) ∙ sym (append-assoc (heardOf k (x .out .answer)) _ _)
+  said-more (x ∷ ms) m = ap (λ (r : List Says). saysOf k (x .out .answer) ++ r) (said-more ms m) ∙ sym (append-assoc (saysOf k (x .out .answer)) _ _)
 
 -- a run after a set-up, and the run with a call more: demand 3 holds of both, and the call is an event of berth k's own
 module _ (h : Held) (s : Settings) (n : Node) (ms : List Made) (m : Made) (before : EachAlone h s n ms) (after : EachAlone h s n (ms ++ m ∷ []))
@@ -64,17 +64,17 @@ module _ (h : Held) (s : Settings) (n : Node) (ms : List Made) (m : Made) (befor
         ∙ ap (λ (p : Part). partAfter s p e) (sym (before k small .part))
 
     -- and what its answer says of the berth
-    pub says-now : heardOf k (m .out .answer) ≡ says s given e ∷ []
+    pub says-now : saysOf k (m .out .answer) ≡ says s given e ∷ []
     unfolding saysAll
     says-now =
-        append-cancel-left (over (heardOf k) (saidBy ms)) _ _
+        append-cancel-left (over (saysOf k) (saidBy ms)) _ _
         (sym (said-more k ms m) ∙ after k small .says ∙ ap (saysAll s _) own-now ∙ says-append s _ (ownIn k (anew h n) ms) (e ∷ [])
         ∙ ap₂ (λ (l : List Says) (p : Part). l ++ (says s p e ∷ [])) (sym (before k small .says)) (sym (before k small .part)))
 
     -- REFUSING, AGAIN: no event of a berth's own is answered with a refusal
     pub refusing-again : (number : ℕ) → m .out .answer ≡ refused number → ⊥
-    unfolding heardOf
-    refusing-again number r = let z : [] ≡ says s given e ∷ [] = sym (ap (heardOf k) r) ∙ says-now in clash (cc)
+    unfolding saysOf
+    refusing-again number r = let z : [] ≡ says s given e ∷ [] = sym (ap (saysOf k) r) ∙ says-now in clash (cc)
 
   -- DOING NOTHING, AGAIN: a tick of a berth with a side that is not idle does not leave the node as it was,
   pub idle-again-timers : own k (leftBy (anew h n) ms) (m .call) ≡ ticks ∷ []
@@ -112,7 +112,7 @@ module _ (k : ℕ) (small : k < berthCount)
   fixed-again differ same =
       let p = says-now h s n ms m before after k small e its in
       let q = says-now h′ s′ n′ ms′ m′ before′ after′ k small e′ its′ in
-      let z = sym p ∙ ap (heardOf k) same ∙ q in
+      let z = sym p ∙ ap (saysOf k) same ∙ q in
       differ (cc)
 
   pub fixed-again-bytes :
