@@ -1,7 +1,6 @@
 -- Runs, computed, that meet the premises of the laws: so the laws are about something.
 use mathlib.Core.Path.{_≡_, refl}
 use Prim.Native.Nat.{ℕ, _*_}
-use mathlib.Core.Bool.{false}
 use mathlib.Core.List.{List, [], _∷_}
 use lib.ListN.{set, replicate}
 use lib.Dec.{lit<, lit≤}
@@ -29,7 +28,7 @@ use Rattle.rules.proofs.Ranges.{in-order-range}
 use Rattle.laws.specs.Own.{over, only, ownDone, own, owns, saysOf, ofBerth, Sound, Alone}
 use Rattle.laws.specs.Rounds.{served, turnOf, StaysDue, Fair}
 use Rattle.laws.specs.Sides.{frameSide, ofSide, handedSide, framesBy}
-use Rattle.laws.specs.Line.{there, back, deliveredIn, leftA, leftB, callA, callB, carriedA, carriedB, Deed, atA, atB, carryA, carryB, acts, living, spares, AllApart, gapLeft, AtRest, begin, MayBegin, Arrived, blank}
+use Rattle.laws.specs.Line.{there, back, deliveredIn, leftA, leftB, carriedA, carriedB, Deed, atA, atB, carryA, carryB, acts, living, spares, AllApart, gapLeft, AtRest, begin, MayBegin, Arrived, blank}
 use Rattle.laws.proofs.SetUp.{each-alone}
 use Rattle.laws.proofs.Fairness.{fair}
 use Rattle.laws.proofs.World.{line-law}

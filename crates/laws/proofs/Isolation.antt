@@ -11,10 +11,10 @@ use Rattle.rules.specs.Tests.{unless}
 use Rattle.rules.specs.Numbers.{berthCount, toBerth}
 use Rattle.rules.specs.Nodes.{fresh, berthAt, Held, withBerth}
 use Rattle.rules.specs.Ranges.{inOrder}
-use Rattle.rules.specs.Ticks.{ticked, rxTicked, txTicked, codesOf}
+use Rattle.rules.specs.Ticks.{codesOf}
 use Rattle.rules.specs.Turns.{sent as sentBerth}
 use Rattle.rules.specs.Stores.{tickedNode, servedNode, passedOver, reached, cameAt, handedAt}
-use Rattle.rules.specs.Answers.{receive}
+use Rattle.rules.specs.Answers.{receive, forTaker}
 use Rattle.rules.specs.Events.{Call, frame, tick, send, turn, show, senderOf, Event}
 use Rattle.rules.specs.Refusals.{refusal}
 use Rattle.rules.specs.Calls.{afterFrame, done, reply, written, bufferOf, refusedOutcome, outcome, answers, final}
@@ -23,12 +23,16 @@ use Rattle.rules.specs.declared.Settings.{Settings}
 use Rattle.rules.specs.declared.Berth.{Berth}
 use Rattle.rules.specs.declared.Node.{Node}
 use Rattle.rules.specs.declared.Codes.{Codes}
-use Rattle.rules.proofs.Cases.{Tested, holds, fails, eqb-cases, ltb-cases}
+use Rattle.rules.proofs.Cases.{Tested, holds, fails, eqb-cases, ltb-cases, leb-is}
 use Rattle.rules.proofs.Areas.{area-same, area-other}
 use Rattle.rules.proofs.Ranges.{in-order-range}
 use Rattle.rules.proofs.Order.{reached-small, berth-ticked}
 use Rattle.rules.proofs.Answered.{FrameAnswered, frame-answered, SendAnswered, send-answered, turn-answered}
-use Rattle.laws.specs.Own.{over, ownDone, own, owns, takerOf, noCodes, saysOf}
+use Rattle.laws.specs.Own.{over, ownDone, own, owns, noCodes, saysOf}
+
+-- berth k's identifier is 660 hex + k
+pub said-to : {X : Type 0} (its : ℕ → X) (nobodys : X) (k : ℕ) → forTaker (toBerth + k) its nobodys ≡ its k
+said-to its nobodys k = rw (leb-is toBerth (toBerth + k) (omega arith)) (ap its (omega arith))
 
 -- ---- one berth is written
 
@@ -129,9 +133,6 @@ module _ (k : ℕ) where
       ap {A = Codes} (λ p. expires (p .receive) (p .send) ∷ [])
       (ap (getD (map codesOf (h .node .berths)) k) (sym codes-fresh) ∙ List·getD-map codesOf (h .node .berths) k fresh)
 
-  said-to : (n : Node) → takerOf (toBerth + reached n) ≡ reached n
-  said-to n = omega arith
-
   pub says-done : (h : Held) (c : Call) → saysOf k (reply h c) ≡ saysAll (h .node .settings) (partOf k h) (ownDone k h c)
   unfolding saysOf reply saysAll ownDone says partOf cameAt handedAt
   says-done h (frame id d) = go (eqb-cases (senderOf id) k)
@@ -153,8 +154,8 @@ module _ (k : ℕ) where
           → Tested (eqb (reached (h .node)) k) (reached (h .node) ≡ k) (reached (h .node) ≡ k → ⊥)
           → saysOf k (reply h (turn buffer)) ≡ saysAll (h .node .settings) (partOf k h) (ownDone k h (turn buffer))
       go (fails u l) t = rw u
-      go (holds u l) (holds t e) = rw (u, said-to (h .node), t, e)
-      go (holds u l) (fails t ne) = rw (u, said-to (h .node), t)
+      go (holds u l) (holds t e) = rw (u, said-to _ _ (reached (h .node)), t, e)
+      go (holds u l) (fails t ne) = rw (u, said-to _ _ (reached (h .node)), t)
   says-done h (show j choice) = refl
 
   pub says-step : (h : Held) (c : Call) → saysOf k (outcome h c .answer) ≡ saysAll (h .node .settings) (partOf k h) (own k h c)

@@ -11,7 +11,7 @@ use lib.Seq.{sets}
 use lib.Dec.{T, eqb, ltb, leb, le→leb, lt→ltb}
 use mir.Facts.{eqb-yes, yes-eqb, yes-leb, yes-and}
 use Rattle.rules.specs.Tests.{pick, Need, firstUnmet}
-use Rattle.rules.specs.Numbers.{berthCount, fromBerth, toBerth, frameSize, singleKind, firstKind, consecutiveKind, flowKind, goStatus, waitStatus, overflowStatus, consecutiveMost, shortMost}
+use Rattle.rules.specs.Numbers.{berthCount, fromBerth, frameSize, singleKind, firstKind, consecutiveKind, flowKind, goStatus, waitStatus, overflowStatus, consecutiveMost, shortMost}
 use Rattle.rules.specs.Nodes.{berthAt, Held}
 use Rattle.rules.specs.Ranges.{BerthRange, TxRange}
 use Rattle.rules.specs.Frames.{kind, low, padded, singleFits, announced, firstFits, consecutiveFits, flowFits, singleFrame, firstFrame, consecutiveFrame, goFrame, overflowFrame}
@@ -34,10 +34,10 @@ use Rattle.rules.proofs.Ranges.{range-in-order}
 use Rattle.rules.proofs.Order.{frame-inside}
 use Rattle.rules.proofs.Round.{reached-due}
 use Rattle.rules.proofs.Facts.{frame-either, ignored-leaves}
-use Rattle.laws.specs.Own.{over, only, ownDone, own, takerOf, saysOf, saidReports, Sound}
+use Rattle.laws.specs.Own.{over, only, ownDone, own, saysOf, saidReports, Sound}
 use Rattle.laws.specs.Sides.{sameSide, sideOf, frameSide, turnSide, forSide, sideEvents, ofSide, handedIn, handedSide, framesBy}
 use Rattle.laws.specs.Line.{reportsBy, deliveredIn, isIgnored, tickCode, spares, Spares}
-use Rattle.laws.proofs.Isolation.{part-step, says-step}
+use Rattle.laws.proofs.Isolation.{said-to, part-step, says-step}
 use Rattle.laws.proofs.Reports.{reports-of}
 use Rattle.laws.proofs.Sides.{withTx, came-receive, came-send, side-alone, side-reports}
 
@@ -378,10 +378,10 @@ module _ (k : ℕ) (h : Held) where
           ≡ pick (sameSide s (turnSide (partOf k h))) (handOver set (partOf k h .berth) (partOf k h .outgoing) .frame ∷ []) []
       unfolding reply framesBy handedAt partOf
       frames-turn =
-          let to : takerOf (toBerth + reached (h .node)) ≡ k = omega arith in
           rw (
             ltb-is (passedOver (h .node)) berthCount l,
-            eqb-is (takerOf (toBerth + reached (h .node))) k to,
+            said-to _ _ (reached (h .node)),
+            eqb-is (reached (h .node)) k q,
             q,
             handed-side set (partOf k h) (sound .order .settings .area-most) range due-k,
           )
@@ -431,10 +431,9 @@ module _ (k : ℕ) (h : Held) where
         → SparedBy s (turn buffer)
     unfolding ownDone reply framesBy
     other-berth s buffer e l ne =
-        let to : takerOf (toBerth + reached (h .node)) ≡ reached (h .node) = omega arith in
         let u = ltb-is (passedOver (h .node)) berthCount l in
         let t = eqb-not (reached (h .node)) k ne in
-        not-reached s buffer e (own-is (turn buffer) e ∙ rw (u, t)) (rw (u, to, t))
+        not-reached s buffer e (own-is (turn buffer) e ∙ rw (u, t)) (rw (u, said-to _ _ (reached (h .node)), t))
 
     touch-turn : (s : Side) (buffer : List ℕ) → refusal h (turn buffer) ≡ 0 → TouchedBy s (turn buffer)
     touch-turn s buffer e = go (ltb-cases (passedOver (h .node)) berthCount) (eqb-cases (reached (h .node)) k)

@@ -521,18 +521,7 @@ module _ (i j : ℕ) (m : List ℕ) (a b : Held) (may : MayBegin i j m a b) wher
   first-line : lineIn i j (begin i m a b) ≡ under-way i j setB (length m) outA expected (beginsWith (length m)) [] [] [] Rx.Idle (berthAt (b .node) j .last) (partOf j b .incoming)
   unfolding lineIn
   first-line =
-      λ k. record {
-        tx = sent-facts .0 k;
-        toR = [];
-        toS = [];
-        log = [];
-        said = [];
-        rx = may .idle-b k;
-        last = berthAt (b .node) j .last;
-        ina = partOf j b .incoming;
-        heard = [];
-        delivered = [];
-      }
+      λ k. under-way i j setB (length m) outA expected (sent-facts .0 k) [] [] [] (may .idle-b k) (berthAt (b .node) j .last) (partOf j b .incoming)
 
   pub begun-alive : Alive i j (may .small-i) (may .small-j) setB (length m) outA expected (begin i m a b)
   begun-alive =

@@ -1,17 +1,17 @@
 -- Demand 3: which events of the node's run are berth k's own, and what the answers say of that berth.
-use Prim.Native.Nat.{ℕ, _-_, _*_}
+use Prim.Native.Nat.{ℕ, _*_}
 use mathlib.Core.Path.{_≡_}
 use mathlib.Core.Bool.{Bool, _&&_}
 use mathlib.Core.List.{List, [], _∷_, _++_}
 use lib.ListN.{length, getD, take}
 use lib.Dec.{ltb, eqb}
 use Rattle.rules.specs.Tests.{pick, unless}
-use Rattle.rules.specs.Numbers.{berthCount, toBerth}
+use Rattle.rules.specs.Numbers.{berthCount}
 use Rattle.rules.specs.Turns.{lengthSending}
 use Rattle.rules.specs.Nodes.{fresh, Held}
 use Rattle.rules.specs.Ranges.{InOrder}
 use Rattle.rules.specs.Stores.{areaOf, passedOver, reached}
-use Rattle.rules.specs.Answers.{Answer, refused, ready, heard, codes, sent, handed, none, shown, receive, send as sendSide, Report, reported, wordReports, reports}
+use Rattle.rules.specs.Answers.{Answer, refused, ready, heard, codes, sent, handed, none, shown, receive, send as sendSide, Report, reported, wordReports, forTaker, reports}
 use Rattle.rules.specs.Events.{Call, frame, tick, send, turn, show, senderOf, Event, arrives, ticks, sends, turns}
 use Rattle.rules.specs.Refusals.{refusal}
 use Rattle.rules.specs.Calls.{chosen, outcome, setUpOutcome, showing}
@@ -44,10 +44,6 @@ owns k h (c ∷ cs) = own k h c ++ owns k (outcome h c .held) cs
 
 -- ---- what an answer says of berth k
 
--- the berth that the node sends to on an identifier
-abbrev pub takerOf : ℕ → ℕ
-takerOf id = id - toBerth
-
 abbrev pub noCodes : Codes
 noCodes = record { receive = 0; send = 0 }
 
@@ -57,7 +53,7 @@ saysOf k ready = []
 saysOf k (heard j old w) = pick (eqb j k) (hears old w ∷ []) []
 saysOf k (codes cs) = expires (getD cs k noCodes .receive) (getD cs k noCodes .send) ∷ []
 saysOf k (sent j) = pick (eqb j k) (accepts ∷ []) []
-saysOf k (handed id f c passed) = pick (eqb (takerOf id) k) (hands f c ∷ []) []
+saysOf k (handed id f c passed) = forTaker id (λ j. pick (eqb j k) (hands f c ∷ []) []) []
 saysOf k (none passed) = []
 saysOf k (shown part) = []
 

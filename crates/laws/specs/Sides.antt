@@ -9,11 +9,11 @@ use Rattle.rules.specs.Numbers.{flowKind}
 use Rattle.rules.specs.Nodes.{fresh}
 use Rattle.rules.specs.Frames.{kind}
 use Rattle.rules.specs.Turns.{flowDue}
-use Rattle.rules.specs.Answers.{Answer, refused, ready, heard, codes, sent, handed, none, shown, Side, receive, send, Report}
+use Rattle.rules.specs.Answers.{Answer, refused, ready, heard, codes, sent, handed, none, shown, Side, receive, send, Report, forTaker}
 use Rattle.rules.specs.Events.{Event, arrives, ticks, sends, turns}
 use Rattle.rules.specs.Alone.{Part, Says, hears, expires, accepts, hands, partAfter, says}
 use Rattle.rules.specs.declared.Settings.{Settings}
-use Rattle.laws.specs.Own.{takerOf, only}
+use Rattle.laws.specs.Own.{only}
 
 abbrev pub sameSide : Side → Side → Bool
 sameSide receive receive = true
@@ -84,6 +84,6 @@ framesBy s k ready = []
 framesBy s k (heard j old w) = []
 framesBy s k (codes cs) = []
 framesBy s k (sent j) = []
-framesBy s k (handed id f c passed) = pick (eqb (takerOf id) k && sameSide s (handedSide f)) (f ∷ []) []
+framesBy s k (handed id f c passed) = forTaker id (λ j. pick (eqb j k && sameSide s (handedSide f)) (f ∷ []) []) []
 framesBy s k (none passed) = []
 framesBy s k (shown part) = []

@@ -15,11 +15,11 @@ use Rattle.rules.specs.Ranges.{settingsAllowed, inBlock, takingInRange, berthIn
 use Rattle.rules.specs.Arrivals.{Heard, singleCame, missing, piece, completed, took, awaitedCame, heardBy, byKind, frameCame}
 use Rattle.rules.specs.Ticks.{ran, closer, rxTicked, txTicked, ticked}
 use Rattle.rules.specs.Stores.{rightStore, areaOf, stored, inside, distance, leastDistance, passedOver, reached, cameAt, handedAt}
-use Rattle.rules.specs.Answers.{Answer, refused, ready, heard, codes, sent, handed, none, shown, setUpSays, frameSays, tickSays, sendSays, turnSays, wordPaper, send}
+use Rattle.rules.specs.Answers.{Answer, refused, ready, heard, codes, sent, handed, none, shown, setUpSays, frameSays, tickSays, sendSays, turnSays, wordPaper}
 use Rattle.rules.specs.Refusals.{needs, refusal, setUpRefusal}
 use Rattle.rules.specs.Calls.{Outcome, showing, afterFrame, done, reply, written, refusedOutcome, outcome, setUpOutcome}
 use Rattle.rules.specs.Nodes.{fresh, berthAt, Held}
-use Rattle.rules.specs.Events.{Call, frame, tick, turn, show, senderOf}
+use Rattle.rules.specs.Events.{Call, frame, tick, send, turn, show, senderOf}
 use Rattle.rules.specs.declared.Settings.{Settings}
 use Rattle.rules.specs.declared.Taking.{Taking}
 use Rattle.rules.specs.declared.Sending.{Sending}

@@ -10,11 +10,11 @@ use lib.Dec.{ltb}
 use Rattle.rules.specs.Numbers.{berthCount, toBerth, frameSize}
 use Rattle.rules.specs.Tests.{firstUnmet}
 use Rattle.rules.specs.Stores.{passedOver, reached, cameAt, handedAt, servedNode, setUpNode}
-use Rattle.rules.specs.Answers.{handed, setUpSays, frameSays, tickSays, sendSays, turnSays, send}
+use Rattle.rules.specs.Answers.{handed, setUpSays, frameSays, tickSays, sendSays, turnSays}
 use Rattle.rules.specs.Refusals.{needs, refusal, setUpRefusal}
 use Rattle.rules.specs.Calls.{Outcome, showing, afterFrame, done, reply, written, outcome, setUpOutcome}
 use Rattle.rules.specs.Nodes.{Held}
-use Rattle.rules.specs.Events.{Call, frame, tick, turn, show, senderOf}
+use Rattle.rules.specs.Events.{Call, frame, tick, send, turn, show, senderOf}
 use Rattle.rules.specs.Ticks.{codesOf}
 use Rattle.rules.specs.declared.Settings.{Settings}
 use Rattle.rules.specs.declared.FrameAnswer.{FrameAnswer}

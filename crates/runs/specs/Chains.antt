@@ -4,10 +4,10 @@ use Prim.Native.Nat.{ℕ, _<_}
 use Rattle.rules.specs.declared.Choice.{Choice}
 use mathlib.Core.List.{List, [], _∷_, _++_, map}
 use Rattle.rules.specs.Numbers.{berthCount}
-use Rattle.rules.specs.Answers.{Answer, shown, frameSays, tickSays, sendSays, turnSays, send}
+use Rattle.rules.specs.Answers.{Answer, shown, frameSays, tickSays, sendSays, turnSays}
 use Rattle.rules.specs.Calls.{Outcome, outcome}
 use Rattle.rules.specs.Nodes.{Held}
-use Rattle.rules.specs.Events.{Call, frame, tick, turn, show, Event}
+use Rattle.rules.specs.Events.{Call, frame, tick, send, turn, show, Event}
 use Rattle.rules.specs.declared.Settings.{Settings}
 use Rattle.rules.specs.declared.Node.{Node}
 use Rattle.rules.specs.declared.SetUpAnswer.{SetUpAnswer}
