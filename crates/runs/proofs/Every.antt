@@ -12,17 +12,19 @@ use Rattle.rules.specs.Tests.{firstUnmet}
 use Rattle.rules.specs.Stores.{passedOver, reached, cameAt, handedAt, servedNode, setUpNode}
 use Rattle.rules.specs.Answers.{handed, setUpSays, frameSays, tickSays, sendSays, turnSays}
 use Rattle.rules.specs.Refusals.{needs, refusal, setUpRefusal}
-use Rattle.rules.specs.Calls.{Outcome, showing, afterFrame, done, reply, written, outcome, setUpOutcome}
+use Rattle.rules.specs.Calls.{Outcome, refusedOutcome, showing, afterFrame, done, reply, written, outcome, setUpOutcome}
 use Rattle.rules.specs.Nodes.{Held}
 use Rattle.rules.specs.Events.{Call, frame, tick, send, turn, show, senderOf}
 use Rattle.rules.specs.Ticks.{codesOf}
 use Rattle.rules.specs.declared.Settings.{Settings}
+use Rattle.rules.specs.declared.Node.{Node}
+use Rattle.rules.specs.declared.SetUpAnswer.{SetUpAnswer}
 use Rattle.rules.specs.declared.FrameAnswer.{FrameAnswer}
 use Rattle.rules.specs.declared.SendAnswer.{SendAnswer}
 use Rattle.rules.specs.declared.TurnAnswer.{TurnAnswer}
 use Rattle.rules.proofs.Cases.{Tested, holds, fails, ltb-cases}
 use Rattle.rules.proofs.Handed.{handed-fit}
-use Rattle.node.specs.Promises.{lent, left, startsAt}
+use Rattle.node.specs.Promises.{lent, left, SetUpPromise, startsAt}
 use Rattle.node.proofs.Outcomes.{agrees, refuses, does}
 use Rattle.runs.specs.Chains.{Step, frames, ticks, sends, turns, shows, Chain, anew, AfterSetUp, madeOf}
 use Rattle.runs.proofs.Runs.{step-is}
@@ -111,9 +113,21 @@ unfolding Chain madeOf
 every-chain h [] = tt
 every-chain h (c ∷ cs) = (every-step h c, every-chain (outcome h c .held) cs)
 
--- and after every set-up with allowed settings
-pub every-set-up : (h : Held) (s : Settings) (cs : List Call) → setUpRefusal (s .area) (s .block) (s .stmin) ≡ 0
-    → AfterSetUp h s (setUpNode s) (madeOf (anew h (setUpNode s)) cs)
+-- EVERY SET-UP HAS AN ANSWER THAT MEETS ITS PROMISE, and with allowed settings it is Ready
+every-ready : (n : Node) (s : Settings) → setUpRefusal (s .area) (s .block) (s .stmin) ≡ 0
+    → SetUpPromise n (s .area) (s .block) (s .stmin) SetUpAnswer.Ready (setUpNode s)
 unfolding setUpSays setUpOutcome
-every-set-up h s cs e =
-    record { ready = λ incoming outgoing. rw e (agrees refl); chain = every-chain (anew h (setUpNode s)) cs }
+every-ready n s e incoming outgoing = rw e (agrees refl)
+
+pub every-set-up : (n : Node) (area block stmin : ℕ) → (a : SetUpAnswer) × (n′ : Node) × SetUpPromise n area block stmin a n′
+unfolding setUpSays setUpOutcome refusedOutcome
+every-set-up n area block stmin = go (setUpRefusal area block stmin) refl
+  where
+    go : (number : ℕ) → setUpRefusal area block stmin ≡ number → (a : SetUpAnswer) × (n′ : Node) × SetUpPromise n area block stmin a n′
+    go zero e = (SetUpAnswer.Ready, setUpNode (record { area = area; block = block; stmin = stmin }), every-ready n (record { area = area; block = block; stmin = stmin }) e)
+    go (suc number) e = (SetUpAnswer.Refused (suc number), n, λ incoming outgoing. rw e (agrees refl))
+
+-- and after one with allowed settings every list of calls has a chain
+pub every-after-set-up : (h : Held) (s : Settings) (cs : List Call) → setUpRefusal (s .area) (s .block) (s .stmin) ≡ 0
+    → AfterSetUp h s (setUpNode s) (madeOf (anew h (setUpNode s)) cs)
+every-after-set-up h s cs e = record { ready = every-ready (h .node) s e; chain = every-chain (anew h (setUpNode s)) cs }

@@ -2,3 +2,4 @@
 pub mod Runs
 pub mod Every
 pub mod PoorNodes
+pub mod Lines
