@@ -1,6 +1,6 @@
 -- Runs, computed, that meet the premises of the laws: so the laws are about something.
 use mathlib.Core.Path.{_≡_, refl}
-use Prim.Native.Nat.{ℕ, _*_}
+use Prim.Native.Nat.{ℕ, _*_, _<_}
 use mathlib.Core.List.{List, [], _∷_}
 use lib.ListN.{set, replicate}
 use lib.Dec.{lit<, lit≤}
@@ -15,8 +15,8 @@ use Rattle.rules.specs.Turns.{due, moved, afterConsecutive, handOver, beginsWit
 use Rattle.rules.specs.Stores.{rightStore, areaOf, stored, inside, tickedNode, servedNode, setUpNode, distance, leastDistance, passedOver, reached, cameAt, handedAt}
 use Rattle.rules.specs.Answers.{refused, heard, codes, sent, handed, shown, receive, reported, failedSide, wordReports, codesReports, reports}
 use Rattle.rules.specs.Events.{Call, frame, tick, send, turn, show, arrives, ticks, sends, turns}
-use Rattle.rules.specs.Refusals.{needs, refusal}
-use Rattle.rules.specs.Calls.{showable, shownLength, showing, afterFrame, done, reply, written, refusedOutcome, outcome, answers, final}
+use Rattle.rules.specs.Refusals.{needs, refusal, setUpRefusal}
+use Rattle.rules.specs.Calls.{showable, shownLength, showing, afterFrame, done, reply, written, refusedOutcome, outcome, setUpOutcome, answers, final}
 use Rattle.rules.specs.Alone.{partOf}
 use Rattle.rules.specs.declared.Choice.{Choice}
 use Rattle.rules.specs.declared.Rx.{Rx}
@@ -25,11 +25,11 @@ use Rattle.rules.specs.declared.Berth.{Berth}
 use Rattle.rules.specs.declared.Codes.{Codes}
 use Rattle.rules.specs.declared.Word.the-variants.{Delivered, Ignored}
 use Rattle.rules.proofs.Ranges.{in-order-range}
-use Rattle.laws.specs.Own.{over, only, ownDone, own, owns, saysOf, ofBerth, Sound, Alone}
+use Rattle.laws.specs.Own.{over, only, ownDone, own, owns, saysOf, ofBerth, Sound, setUp, freshPart, Alone}
 use Rattle.laws.specs.Rounds.{served, turnOf, StaysDue, Fair}
 use Rattle.laws.specs.Sides.{frameSide, ofSide, handedSide, framesBy}
 use Rattle.laws.specs.Line.{there, back, deliveredIn, leftA, leftB, carriedA, carriedB, Deed, atA, atB, carryA, carryB, acts, living, spares, AllApart, gapLeft, AtRest, begin, MayBegin, Arrived, blank}
-use Rattle.laws.proofs.SetUp.{each-alone}
+use Rattle.laws.proofs.SetUp.{each-alone, each-alone-after-set-up}
 use Rattle.laws.proofs.Fairness.{fair}
 use Rattle.laws.proofs.World.{line-law}
 
@@ -74,6 +74,22 @@ two-computed = (refl, refl, refl)
 pub two-alone : Alone (two .node .settings) (partOf 3 two) 3 two (owns 3 two twoRun) (answers two twoRun) (final two twoRun)
     × Alone (two .node .settings) (partOf 5 two) 5 two (owns 5 two twoRun) (answers two twoRun) (final two twoRun)
 two-alone = (each-alone two twoRun 3 (lit< tt), each-alone two twoRun 5 (lit< tt))
+
+-- the same calls after a set-up of the same node, A 8, BS 2, STmin 0: berth 3 awaits nothing, and no reception of it ends
+abbrev anew : Held
+anew = setUp two (two .node .settings)
+
+pub anew-computed : (setUpRefusal 8 2 0 ≡ 0)
+    × (answers anew twoRun
+    ≡ sent 5 ∷ heard 3 0 (Ignored 2) ∷ refused 9 ∷ codes (replicate 10 (pairOf 0 0))
+    ∷ handed 0x665 (0x03 ∷ 1 ∷ 2 ∷ 3 ∷ 0xCC ∷ 0xCC ∷ 0xCC ∷ 0xCC ∷ []) 1 5 ∷ heard 5 0 (Delivered 2)
+    ∷ codes (replicate 10 (pairOf 0 0)) ∷ shown (0xAA ∷ 0xBB ∷ []) ∷ [])
+unfolding setUpRefusal setUpOutcome setUpNode answers final done reply written outcome refusedOutcome refusal needs firstUnmet rightStore inside berthAt inOrder all each settingsAllowed berthInOrder takingInRange sendingInRange inBlock afterFrame cameAt frameCame byKind kind low heardBy toldBy ignored singleCame singleFits withBerth stored tickedNode ticked ran codesOf sentBerth beginsWith passedOver leastDistance distance due reached servedNode handedAt handOver areaOf singleFrame padded showing showable shownLength
+anew-computed = (refl, refl)
+
+-- so each is as it would be alone from fresh
+pub anew-alone : (k : ℕ) → k < berthCount → Alone (two .node .settings) (freshPart two (two .node .settings) k) k anew (owns k anew twoRun) (answers anew twoRun) (final anew twoRun)
+anew-alone k l = each-alone-after-set-up two (two .node .settings) twoRun k l (anew-computed .0)
 
 -- ---- fairness: all ten are due, berth 4 was served last, and nine others are served before it
 

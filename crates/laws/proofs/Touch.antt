@@ -153,7 +153,7 @@ message-kind set (Tx.FirstDue n u) area a r t e = omega (arith, r .1)
 message-kind set (Tx.AwaitsFlow o u) area a r t e = absurd t
 message-kind set (Tx.Consecutive o u) area a r t e = omega (arith, r .0 .sn-most)
 
-handed-side : (set : Settings) (p : Part) → set .area ≤ shortMost → BerthRange set (p .berth) → T (due (p .berth))
+pub handed-side : (set : Settings) (p : Part) → set .area ≤ shortMost → BerthRange set (p .berth) → T (due (p .berth))
     → handedSide (handOver set (p .berth) (p .outgoing) .frame) ≡ turnSide p
 unfolding handedSide turnSide handOver due
 handed-side set p a r t = go (test-cases (flowDue (p .berth .rx)))
