@@ -28,7 +28,7 @@ use Rattle.rules.proofs.Ranges.{in-order-range}
 use Rattle.laws.specs.Own.{over, only, ownDone, own, owns, saysOf, ofBerth, Sound, setUp, freshPart, Alone}
 use Rattle.laws.specs.Rounds.{served, turnOf, StaysDue, Fair}
 use Rattle.laws.specs.Sides.{frameSide, ofSide, handedSide, framesBy}
-use Rattle.laws.specs.Line.{there, back, deliveredIn, leftA, leftB, carriedA, carriedB, Deed, atA, atB, carryA, carryB, acts, living, spares, AllApart, gapLeft, AtRest, begin, MayBegin, Arrived, blank}
+use Rattle.laws.specs.Line.{there, back, deliveredIn, leftA, leftB, carriedA, carriedB, Deed, atA, atB, setUpB, carryA, carryB, acts, living, spares, AllApart, gapLeft, AtRest, begin, MayBegin, Arrived, blank}
 use Rattle.laws.proofs.SetUp.{each-alone, each-alone-after-set-up}
 use Rattle.laws.proofs.Fairness.{fair}
 use Rattle.laws.proofs.World.{line-law}
@@ -118,7 +118,7 @@ pub crowd-fair : Fair 4 (over turnOf (answers crowd crowdRun))
 crowd-fair = fair 4 (lit< tt) crowd crowdRun (crowd-computed .1)
 
 -- ---- the line's law: A 36 and 40, BS 8 and 2, STmin 0 and 2. 36 bytes in five consecutive frames, three blocks, a gap of two ticks; berth
--- 6 of A and the send side of B's berth 7 have traffic of their own, and a frame of kind 5 comes to the taker
+-- 6 of A and the send side of B's berth 7 have traffic of their own, a set-up of B is refused, and a frame of kind 5 comes to the taker
 
 abbrev nodeOf : ℕ → ℕ → ℕ → Held
 nodeOf a bs stmin =
@@ -137,7 +137,7 @@ programme =
 
 abbrev deeds : List Deed
 deeds =
-    atA (send 6 (9 ∷ [])) ∷ atA (turn blank) ∷ carryB ∷ atB (frame 0x647 (0x50 ∷ 1 ∷ [])) ∷ atB (send 7 (5 ∷ [])) ∷
+    setUpB 7 0 0 ∷ atA (send 6 (9 ∷ [])) ∷ atA (turn blank) ∷ carryB ∷ atB (frame 0x647 (0x50 ∷ 1 ∷ [])) ∷ atB (send 7 (5 ∷ [])) ∷
     atB (turn blank) ∷ atB (turn blank) ∷ carryA ∷ atA (turn blank) ∷ atA (turn blank) ∷ carryB ∷ atA tick ∷
     atB tick ∷ atA tick ∷ atB tick ∷ atA (turn blank) ∷ carryB ∷ atB (turn blank) ∷ carryA ∷ atA (turn blank) ∷
     carryB ∷ atA tick ∷ atB tick ∷ atA tick ∷ atB tick ∷ atA (turn blank) ∷ carryB ∷ atB (turn blank) ∷ carryA ∷
@@ -172,9 +172,9 @@ pub deeds-computed : AllApart 2 7 (begin 2 programme scheduler mast) deeds
     ∷ back (0x30 ∷ 2 ∷ 2 ∷ 0xCC ∷ 0xCC ∷ 0xCC ∷ 0xCC ∷ 0xCC ∷ [])
     ∷ there (0x25 ∷ 35 ∷ 36 ∷ 0xCC ∷ 0xCC ∷ 0xCC ∷ 0xCC ∷ 0xCC ∷ [])
     ∷ [])
-unfolding gapLeft AllApart spares frameSide living acts leftA leftB carriedA carriedB framesBy handedSide ofSide ofBerth only reports reported wordReports codesReports failedSide saysOf deliveredIn over answers final done reply written outcome refusedOutcome refusal needs firstUnmet rightStore inside berthAt inOrder all each settingsAllowed berthInOrder takingInRange sendingInRange inBlock afterFrame cameAt frameCame byKind kind low heardBy toldBy ignored singleCame singleFits withBerth stored tickedNode ticked ran codesOf sentBerth beginsWith passedOver leastDistance distance due reached servedNode handedAt handOver areaOf singleFrame padded showing showable shownLength setUpNode firstCame shortLength escapeLength announced firstFits begun awaitedCame consecutiveFits piece grown completed afterTook took wrongSn counted fillsBlock nextSn share flowFits byStatus granted gapOf goFrame firstFrame consecutiveFrame moved afterConsecutive
+unfolding gapLeft AllApart spares frameSide living acts leftA leftB carriedA carriedB framesBy handedSide ofSide ofBerth only reports reported wordReports codesReports failedSide saysOf deliveredIn over answers final done reply written outcome refusedOutcome refusal needs firstUnmet rightStore inside berthAt inOrder all each settingsAllowed berthInOrder takingInRange sendingInRange inBlock afterFrame cameAt frameCame byKind kind low heardBy toldBy ignored singleCame singleFits withBerth stored tickedNode ticked ran codesOf sentBerth beginsWith passedOver leastDistance distance due reached servedNode handedAt handOver areaOf singleFrame padded showing showable shownLength setUpNode firstCame shortLength escapeLength announced firstFits begun awaitedCame consecutiveFits piece grown completed afterTook took wrongSn counted fillsBlock nextSn share flowFits byStatus granted gapOf goFrame firstFrame consecutiveFrame moved afterConsecutive setUpOutcome setUpRefusal
 deeds-computed = (
-  ((λ e. tt), ((λ e. tt), (tt, ((λ e. tt), ((λ e. tt), ((λ e. tt), ((λ e. tt), (tt, ((λ e. tt), ((λ e. tt), (tt, ((λ e. tt), ((λ e. tt), ((λ e. tt), ((λ e. tt), ((λ e. tt), (tt, ((λ e. tt), (tt, ((λ e. tt), (tt, ((λ e. tt), ((λ e. tt), ((λ e. tt), ((λ e. tt), ((λ e. tt), (tt, ((λ e. tt), (tt, ((λ e. tt), (tt, tt))))))))))))))))))))))))))))))),
+  (lit< tt, ((λ e. tt), ((λ e. tt), (tt, ((λ e. tt), ((λ e. tt), ((λ e. tt), ((λ e. tt), (tt, ((λ e. tt), ((λ e. tt), (tt, ((λ e. tt), ((λ e. tt), ((λ e. tt), ((λ e. tt), ((λ e. tt), (tt, ((λ e. tt), (tt, ((λ e. tt), (tt, ((λ e. tt), ((λ e. tt), ((λ e. tt), ((λ e. tt), ((λ e. tt), (tt, ((λ e. tt), (tt, ((λ e. tt), (tt, tt)))))))))))))))))))))))))))))))),
   record { none-there = refl; none-back = refl; none-due = refl; no-gap = refl; no-flow = refl },
   refl,
 )

@@ -1,12 +1,14 @@
 -- Demand 3, first half. A call that is answered changes berth k's part by k's own event and no other part; refused calls change
 -- nothing; so by induction a run leaves and says of each berth what its own events do on that berth alone.
 use mathlib.Core.Path.{_≡_, refl, sym, ap, ap₂, _∙_}
-use Prim.Native.Nat.{ℕ, zero, suc, _+_, _≤_, _<_}
+use Prim.Native.Nat.{ℕ, zero, suc, _+_, _-_, _≤_, _<_}
 use native.Mathlib.Omega.{arith}
+use mathlib.Core.Bool.{false}
 use mathlib.Core.List.{List, [], _∷_, _++_, map}
 use lib.ListN.{length, getD, set, List·getD-map}
 use lib.Seq.{getD-set-same, getD-set-other}
-use lib.Dec.{T, eqb, ltb}
+use lib.Dec.{T, eqb, ltb, leb}
+use mir.Facts.{eqb-yes, yes-eqb}
 use Rattle.rules.specs.Tests.{unless}
 use Rattle.rules.specs.Numbers.{berthCount, toBerth}
 use Rattle.rules.specs.Nodes.{fresh, berthAt, Held, withBerth}
@@ -23,7 +25,7 @@ use Rattle.rules.specs.declared.Settings.{Settings}
 use Rattle.rules.specs.declared.Berth.{Berth}
 use Rattle.rules.specs.declared.Node.{Node}
 use Rattle.rules.specs.declared.Codes.{Codes}
-use Rattle.rules.proofs.Cases.{Tested, holds, fails, eqb-cases, ltb-cases, leb-is}
+use Rattle.rules.proofs.Cases.{Tested, holds, fails, eqb-cases, ltb-cases, leb-cases, leb-is}
 use Rattle.rules.proofs.Areas.{area-same, area-other}
 use Rattle.rules.proofs.Ranges.{in-order-range}
 use Rattle.rules.proofs.Order.{reached-small, berth-ticked}
@@ -33,6 +35,14 @@ use Rattle.laws.specs.Own.{over, ownDone, own, owns, noCodes, saysOf}
 -- berth k's identifier is 660 hex + k
 pub said-to : {X : Type 0} (its : ℕ → X) (nobodys : X) (k : ℕ) → forTaker (toBerth + k) its nobodys ≡ its k
 said-to its nobodys k = rw (leb-is toBerth (toBerth + k) (omega arith)) (ap its (omega arith))
+
+-- AN IDENTIFIER IS BERTH k's exactly if it is 660 hex + k
+pub taker-exactly : (id k : ℕ) → (T (forTaker id (λ j. eqb j k) false) → id ≡ toBerth + k) × (id ≡ toBerth + k → T (forTaker id (λ j. eqb j k) false))
+taker-exactly id k = (to (leb-cases toBerth id), λ e. rw (e, said-to (λ j. eqb j k) false k) (yes-eqb {a = k} refl))
+  where
+    to : Tested (leb toBerth id) (toBerth ≤ id) (id < toBerth) → T (forTaker id (λ j. eqb j k) false) → id ≡ toBerth + k
+    to (holds l u) t = let e : id - toBerth ≡ k = eqb-yes (rw l at t) in omega arith
+    to (fails l u) t = absurd (rw l at t)
 
 -- ---- one berth is written
 
