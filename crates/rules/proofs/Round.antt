@@ -76,7 +76,7 @@ found served (b ∷ bs) k h = go (test-cases (due b)) (ltb-cases (leastDistance 
         let m : pick (due b) (distance served k) berthCount ≡ berthCount = rw t in
         absurd (omega arith)
 
-least-ten : (served k : ℕ) (bs : List Berth) → leastDistance served k bs ≤ berthCount
+pub least-ten : (served k : ℕ) (bs : List Berth) → leastDistance served k bs ≤ berthCount
 unfolding leastDistance
 least-ten served k [] = omega arith
 least-ten served k (b ∷ bs) = let l = least-ten served (suc k) bs in omega arith

@@ -13,3 +13,6 @@ pub mod Events
 pub mod Refusals
 pub mod Calls
 pub mod Alone
+pub mod Handing
+pub mod Table
+pub mod Edges
