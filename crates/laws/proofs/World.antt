@@ -282,7 +282,7 @@ module _ (i j : ℕ) (small-i : i < berthCount) (small-j : j < berthCount) (set 
       let (tx, o) = tx-of (outcome (w .a) (frame (fromBerth + i) d) .held) (partAfter (w .a .node .settings) (sideA (w .a)) (arrives d)) (r .part) in
       let (a, b, c) = came-A (w .a) d in (
         (λ k. atSender (lineIn i j w) ((tx ∙ a) k) ((ap (λ (fs : List (List ℕ)). w .toB ++ fs) (r .frames) ∙ append-nil (w .toB)) k) q
-        ((ap (λ (fs : List (List ℕ)). w .log ++ map there fs) (r .frames) ∙ append-nil (w .log)) k) (w .said ++ (r .reported ∙ c) k)),
+            ((ap (λ (fs : List (List ℕ)). w .log ++ map there fs) (r .frames) ∙ append-nil (w .log)) k) (w .said ++ (r .reported ∙ c) k)),
         o ∙ b,
       )
 

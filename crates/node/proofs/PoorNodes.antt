@@ -7,19 +7,19 @@ use mathlib.Core.Path.{_≡_, refl, sym, ap, _∙_}
 use mathlib.Core.List.{List, [], _∷_, _++_, append-assoc}
 use lib.ListN.{length, getD, take, drop, replicate, length-take, length-drop}
 use lib.Seq.{sets, sets-eq, take-at, drop-at, getD-set-same, length-take-le}
-use lib.Dec.{T, eqb, ltb, leb}
+use lib.Dec.{T, eqb, ltb}
 use Rattle.rules.specs.Tests.{all, each, firstUnmet}
-use Rattle.rules.specs.Numbers.{berthCount, toBerth, timeout, consecutiveKind, consecutiveMost, frameSize, outOfOrder, badSetting}
-use Rattle.rules.specs.Frames.{kind, low, singleFits, consecutiveFits, share}
+use Rattle.rules.specs.Numbers.{berthCount, toBerth, timeout, consecutiveKind, frameSize, outOfOrder, badSetting}
+use Rattle.rules.specs.Nodes.{fresh, berthAt, Held}
 use Rattle.rules.specs.Ranges.{settingsAllowed, inBlock, takingInRange, berthInOrder, inOrder}
-use Rattle.rules.specs.Arrivals.{Heard, singleCame, missing, piece, completed, took, awaitedCame, heardBy, byKind, frameCame}
+use Rattle.rules.specs.Frames.{kind, low, singleFits, consecutiveFits, share}
+use Rattle.rules.specs.Arrivals.{singleCame, missing, piece, completed, awaitedCame, heardBy, byKind, frameCame}
 use Rattle.rules.specs.Ticks.{ran, closer, rxTicked, txTicked, ticked}
+use Rattle.rules.specs.Events.{Call, frame, tick, send, turn, show, senderOf}
 use Rattle.rules.specs.Stores.{rightStore, areaOf, stored, inside, distance, leastDistance, passedOver, reached, cameAt, handedAt}
 use Rattle.rules.specs.Answers.{Answer, refused, ready, heard, codes, sent, handed, none, shown, setUpSays, frameSays, tickSays, sendSays, turnSays, wordPaper}
 use Rattle.rules.specs.Refusals.{needs, refusal, setUpRefusal}
 use Rattle.rules.specs.Calls.{Outcome, showing, afterFrame, done, reply, written, refusedOutcome, outcome, setUpOutcome}
-use Rattle.rules.specs.Nodes.{fresh, berthAt, Held}
-use Rattle.rules.specs.Events.{Call, frame, tick, send, turn, show, senderOf}
 use Rattle.rules.specs.declared.Settings.{Settings}
 use Rattle.rules.specs.declared.Taking.{Taking}
 use Rattle.rules.specs.declared.Sending.{Sending}
@@ -33,11 +33,11 @@ use Rattle.rules.specs.declared.FrameAnswer.{FrameAnswer}
 use Rattle.rules.specs.declared.TickAnswer.{TickAnswer}
 use Rattle.rules.specs.declared.SendAnswer.{SendAnswer}
 use Rattle.rules.specs.declared.TurnAnswer.{TurnAnswer}
-use Rattle.rules.proofs.Cases.{Tested, holds, fails, eqb-cases, eqb-is, eqb-not, is-true, ltb-cases, pick-either}
+use Rattle.rules.proofs.Cases.{Tested, holds, fails, eqb-cases, ltb-cases, pick-either}
 use Rattle.rules.proofs.Ranges.{in-order-range}
-use Rattle.rules.proofs.Areas.{area-same}
 use Rattle.rules.proofs.Order.{berth-ticked}
 use Rattle.rules.proofs.Round.{reached-due}
+use Rattle.rules.proofs.Facts.{consecutive-came, frame-area}
 use Rattle.rules.proofs.Answered.{frame-answered, turn-answered}
 use Rattle.node.specs.Promises.{left, Agrees, SetUpPromise, FramePromise, TickPromise, SendPromise, TurnPromise, ShowPromise}
 use Rattle.node.proofs.Determined.{same}
@@ -280,10 +280,9 @@ module _ (h : Held) (id : ℕ) (d : List ℕ) (a : FrameAnswer) (n : Node) (inco
   area-after : FramePromise (h .node) (h .incoming) id d a n incoming
       → areaOf (h .node .settings .area) (senderOf id) incoming
       ≡ sets (areaOf (h .node .settings .area) (senderOf id) (h .incoming)) (cameAt h (senderOf id) d .place) (cameAt h (senderOf id) d .bytes)
-  unfolding done afterFrame
   area-after p =
       ap (λ (o : Outcome). areaOf (h .node .settings .area) (senderOf id) (o .held .incoming)) (answered h (frame id d) e (p (h .outgoing)))
-      ∙ area-same (h .node .settings .area) (senderOf id) _ _ (h .incoming) (frame-answered h id d e .fits)
+      ∙ frame-area h id d e
 
   -- DOING NOTHING, STORED BYTES: at every frame that the paper answers, whose bytes differ from those at their place, an area left as it was
   -- is shut out
@@ -299,15 +298,6 @@ module _ (h : Held) (id : ℕ) (d : List ℕ) (a : FrameAnswer) (n : Node) (inco
 
 -- ---- one that stores the first frame and only counts the rest
 
--- A RIGHT AWAITED CONSECUTIVE FRAME stores its piece of the message, at got
-pub right-came : (s : Settings) (b : Berth) (p : Taking) (t : ℕ) (d : List ℕ) → b .rx ≡ Rx.Awaits p t → kind d ≡ consecutiveKind
-    → T (consecutiveFits (missing p) d) → low d ≡ p .sn .0 → (frameCame s b d .place ≡ p .got) × (frameCame s b d .bytes ≡ piece p d)
-unfolding frameCame byKind heardBy awaitedCame completed took
-right-came s b p t [] r c f l = absurd (unfold kind in omega arith)
-right-came s b p t (x ∷ xs) r c f l =
-    rw (eqb-not (length (x ∷ xs)) 0 (λ z. omega arith), c, r, is-true (consecutiveFits (missing p) (x ∷ xs)) f, eqb-is (low (x ∷ xs)) (p .sn .0) l)
-    (pick-either (λ (h : Heard). (h .place ≡ p .got) × (h .bytes ≡ piece p (x ∷ xs))) (leb (missing p) consecutiveMost) _ _ (λ u. (refl, refl)) (λ u. (refl, refl)))
-
 -- COUNTING ONLY: at every right awaited consecutive frame whose bytes differ from those at their place, an area left as it was is shut out
 pub not-counting : (h : Held) (id : ℕ) (d : List ℕ) (p : Taking) (t : ℕ) (a : FrameAnswer) (n : Node) (incoming : List ℕ) → refusal h (frame id d) ≡ 0
     → berthAt (h .node) (senderOf id) .rx ≡ Rx.Awaits p t → kind d ≡ consecutiveKind → T (consecutiveFits (missing p) d) → low d ≡ p .sn .0
@@ -316,7 +306,7 @@ pub not-counting : (h : Held) (id : ℕ) (d : List ℕ) (p : Taking) (t : ℕ) (
     → FramePromise (h .node) (h .incoming) id d a n incoming → ⊥
 unfolding cameAt
 not-counting h id d p t a n incoming e r c f l differ =
-    let (at, bytes) = right-came (h .node .settings) (berthAt (h .node) (senderOf id)) p t d r c f l in
+    let (at, bytes) = consecutive-came (h .node .settings) (berthAt (h .node) (senderOf id)) p t d r c f l in
     not-idle-bytes h id d a n incoming e (rw (at, bytes) differ)
 
 -- ---- one that makes up the passed-over number

@@ -1,21 +1,21 @@
 -- Every list of calls has a chain, and every allowed set-up a chain after it: so the laws of chains are about something. Each call's
 -- answer is written down in the words of the code, and its promise is the rule's outcome itself.
-use mathlib.Core.Path.{_≡_, refl, sym, ap, subst}
 use Prim.Native.Nat.{ℕ, zero, suc, _+_, _≤_, _<_}
 use native.Mathlib.Omega.{arith}
+use mathlib.Core.Path.{_≡_, refl, sym, ap, subst}
 use mathlib.Core.List.{List, [], _∷_, _++_, map}
 use lib.ListN.{drop, replicate}
 use lib.Seq.{take-at}
 use lib.Dec.{ltb}
-use Rattle.rules.specs.Numbers.{berthCount, toBerth, frameSize}
 use Rattle.rules.specs.Tests.{firstUnmet}
+use Rattle.rules.specs.Numbers.{berthCount, toBerth, frameSize}
+use Rattle.rules.specs.Nodes.{Held}
+use Rattle.rules.specs.Ticks.{codesOf}
+use Rattle.rules.specs.Events.{Call, frame, tick, send, turn, show, senderOf}
 use Rattle.rules.specs.Stores.{passedOver, reached, cameAt, handedAt, servedNode, setUpNode}
 use Rattle.rules.specs.Answers.{handed, setUpSays, frameSays, tickSays, sendSays, turnSays}
 use Rattle.rules.specs.Refusals.{needs, refusal, setUpRefusal}
 use Rattle.rules.specs.Calls.{Outcome, refusedOutcome, showing, afterFrame, done, reply, written, outcome, setUpOutcome}
-use Rattle.rules.specs.Nodes.{Held}
-use Rattle.rules.specs.Events.{Call, frame, tick, send, turn, show, senderOf}
-use Rattle.rules.specs.Ticks.{codesOf}
 use Rattle.rules.specs.declared.Settings.{Settings}
 use Rattle.rules.specs.declared.Node.{Node}
 use Rattle.rules.specs.declared.SetUpAnswer.{SetUpAnswer}

@@ -1,7 +1,7 @@
 -- The line's law of the code: a chain of deeds lives through the same worlds as the rules do, so the law of the rules is the chain's; and
 -- every list of deeds that keep apart has a chain.
-use mathlib.Core.Path.{_≡_, refl, sym, ap, _∙_, subst}
 use Prim.Native.Nat.{ℕ, _+_}
+use mathlib.Core.Path.{_≡_, refl, sym, ap, _∙_, subst}
 use mathlib.Core.List.{List, [], _∷_}
 use Rattle.rules.specs.Numbers.{fromBerth}
 use Rattle.rules.specs.Nodes.{Held}
@@ -9,7 +9,7 @@ use Rattle.rules.specs.Events.{frame, send}
 use Rattle.rules.specs.Calls.{Outcome, outcome}
 use Rattle.node.proofs.Determined.{set-up-is}
 use Rattle.laws.specs.Own.{over}
-use Rattle.laws.specs.Line.{World, leftA, leftB, stillToA, stillToB, carriedA, carriedB, Deed, atA, atB, setUpA, setUpB, carryA, carryB, acts, living, Apart, AllApart, AtRest, quiet, begin, MayBegin, Arrived, deedsOf}
+use Rattle.laws.specs.Line.{World, leftA, leftB, stillToA, stillToB, carriedA, carriedB, Deed, atA, atB, setUpA, setUpB, carryA, carryB, acts, living, AllApart, AtRest, quiet, begin, MayBegin, Arrived, deedsOf}
 use Rattle.laws.proofs.World.{line-law}
 use Rattle.laws.proofs.Schedule.{schedule-exists}
 use Rattle.runs.specs.Chains.{Step}

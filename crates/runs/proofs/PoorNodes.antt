@@ -1,27 +1,29 @@
 -- Demand 3 shuts out the first four poor nodes again. Demand 3 of a run, and of the run with one call more, says of that call that its
 -- answer and what it leaves of berth k are what k's own event says and leaves on that berth alone; each poor node's are another's.
-use mathlib.Core.Path.{_≡_, refl, sym, ap, ap₂, _∙_}
 use Prim.Native.Nat.{ℕ, _+_, _≤_, _<_}
 use native.Mathlib.Omega.{arith}
+use mathlib.Core.Path.{_≡_, refl, sym, ap, ap₂, _∙_}
 use mathlib.Core.List.{List, [], _∷_, _++_, append-assoc, append-nil, append-cancel-left}
 use lib.ListN.{length, take, drop}
 use lib.Dec.{T}
 use Rattle.rules.specs.Numbers.{berthCount, consecutiveKind}
+use Rattle.rules.specs.Nodes.{Held}
 use Rattle.rules.specs.Frames.{kind, low, consecutiveFits}
 use Rattle.rules.specs.Arrivals.{missing, piece, frameCame}
+use Rattle.rules.specs.Events.{Event, arrives, ticks}
 use Rattle.rules.specs.Answers.{refused}
 use Rattle.rules.specs.Alone.{Part, partOf, Says, partAfter, says, alone, saysAll}
-use Rattle.rules.specs.Nodes.{Held}
-use Rattle.rules.specs.Events.{Event, arrives, ticks}
 use Rattle.rules.specs.declared.Settings.{Settings}
 use Rattle.rules.specs.declared.Taking.{Taking}
 use Rattle.rules.specs.declared.Rx.{Rx}
 use Rattle.rules.specs.declared.Tx.{Tx}
 use Rattle.rules.specs.declared.Node.{Node}
-use Rattle.node.proofs.PoorNodes.{still-idle, stood-before, right-came}
-use Rattle.laws.specs.Own.{over, own, saysOf}
+use Rattle.rules.proofs.Facts.{consecutive-came}
+use Rattle.node.proofs.PoorNodes.{still-idle, stood-before}
+use Rattle.laws.specs.Own.{over, own, saysOf, freshPart}
 use Rattle.laws.proofs.Isolation.{alone-append, says-append}
-use Rattle.runs.specs.Chains.{Made, anew, saidBy, leftBy, ownIn, EachAlone}
+use Rattle.runs.specs.Chains.{Made, Chain, anew, AfterSetUp, saidBy, leftBy, ownIn, OneMore}
+use Rattle.runs.proofs.Runs.{chain-alone-after-set-up}
 
 -- two that are not the same
 clash : {X : Type 0} → _≡_ {A = ℕ} 0 1 → X
@@ -45,80 +47,86 @@ module _ (k : ℕ) where
   said-more [] m = append-nil _
   said-more (x ∷ ms) m = ap (λ (r : List Says). saysOf k (x .out .answer) ++ r) (said-more ms m) ∙ sym (append-assoc (saysOf k (x .out .answer)) _ _)
 
--- a run after a set-up, and the run with a call more: demand 3 holds of both, and the call is an event of berth k's own
-module _ (h : Held) (s : Settings) (n : Node) (ms : List Made) (m : Made) (before : EachAlone h s n ms) (after : EachAlone h s n (ms ++ m ∷ []))
-    (k : ℕ) (small : k < berthCount) where
-  -- berth k's part as the call was given it
-  abbrev given : Part
-  given = partOf k (leftBy (anew h n) ms)
+module _ {h : Held} {s : Settings} {n : Node} {ms : List Made} {k : ℕ} {p : Part} {e : Event} {m : Made} (r : OneMore h s n ms k p e m) where
+  own-now : ownIn k (anew h n) (ms ++ m ∷ []) ≡ ownIn k (anew h n) ms ++ (e ∷ [])
+  own-now = own-more k (anew h n) ms m ∙ ap (λ (es : List Event). ownIn k (anew h n) ms ++ es) (r .its)
 
-  module _ (e : Event) (its : own k (leftBy (anew h n) ms) (m .call) ≡ e ∷ []) where
-    own-now : ownIn k (anew h n) (ms ++ m ∷ []) ≡ ownIn k (anew h n) ms ++ (e ∷ [])
-    own-now = own-more k (anew h n) ms m ∙ ap (λ (es : List Event). ownIn k (anew h n) ms ++ es) its
+  -- what the events before it made of the berth
+  part-before : alone s (freshPart h s k) (ownIn k (anew h n) ms) ≡ p
+  part-before = sym (r .without k (r .small) .part) ∙ r .given
 
-    -- DEMAND 3 OF ONE CALL: the berth's part after it
-    pub part-now : partOf k (m .out .held) ≡ partAfter s given e
-    unfolding alone
-    part-now =
-        ap (partOf k) (sym (left-more k (anew h n) ms m)) ∙ after k small .part ∙ ap (alone s _) own-now ∙ alone-append s _ (ownIn k (anew h n) ms) (e ∷ [])
-        ∙ ap (λ (p : Part). partAfter s p e) (sym (before k small .part))
+  -- DEMAND 3 OF ONE CALL: the berth's part after it is what its own event makes of it alone,
+  pub part-now : partOf k (m .out .held) ≡ partAfter s p e
+  unfolding alone
+  part-now =
+      ap (partOf k) (sym (left-more k (anew h n) ms m)) ∙ r .with k (r .small) .part ∙ ap (alone s _) own-now
+      ∙ alone-append s _ (ownIn k (anew h n) ms) (e ∷ []) ∙ ap (λ (q : Part). partAfter s q e) part-before
 
-    -- and what its answer says of the berth
-    pub says-now : saysOf k (m .out .answer) ≡ says s given e ∷ []
-    unfolding saysAll
-    says-now =
-        append-cancel-left (over (saysOf k) (saidBy ms)) _ _
-        (sym (said-more k ms m) ∙ after k small .says ∙ ap (saysAll s _) own-now ∙ says-append s _ (ownIn k (anew h n) ms) (e ∷ [])
-        ∙ ap₂ (λ (l : List Says) (p : Part). l ++ (says s p e ∷ [])) (sym (before k small .says)) (sym (before k small .part)))
+  -- and its answer says of the berth what its own event says alone
+  pub says-now : saysOf k (m .out .answer) ≡ says s p e ∷ []
+  unfolding saysAll
+  says-now =
+      append-cancel-left (over (saysOf k) (saidBy ms)) _ _
+      (sym (said-more k ms m) ∙ r .with k (r .small) .says ∙ ap (saysAll s _) own-now ∙ says-append s _ (ownIn k (anew h n) ms) (e ∷ [])
+      ∙ ap₂ (λ (l : List Says) (q : Part). l ++ (says s q e ∷ [])) (sym (r .without k (r .small) .says)) part-before)
 
-    -- REFUSING, AGAIN: no event of a berth's own is answered with a refusal
-    pub refusing-again : (number : ℕ) → m .out .answer ≡ refused number → ⊥
-    unfolding saysOf
-    refusing-again number r = let z : [] ≡ says s given e ∷ [] = sym (ap (saysOf k) r) ∙ says-now in clash (cc)
+  -- REFUSING, AGAIN: no event of a berth's own is answered with a refusal
+  pub refusing-again : (number : ℕ) → m .out .answer ≡ refused number → ⊥
+  unfolding saysOf
+  refusing-again number a = let z : [] ≡ says s p e ∷ [] = sym (ap (saysOf k) a) ∙ says-now in clash (cc)
 
-  -- DOING NOTHING, AGAIN: a tick of a berth with a side that is not idle does not leave the node as it was,
-  pub idle-again-timers : own k (leftBy (anew h n) ms) (m .call) ≡ ticks ∷ []
-      → ((given .berth .rx ≡ Rx.Idle) × (given .berth .tx ≡ Tx.Idle) → ⊥) → m .out .held ≡ leftBy (anew h n) ms → ⊥
+module _ {h : Held} {s : Settings} {n : Node} {ms : List Made} {k : ℕ} {p : Part} {m : Made} where
+  -- DOING NOTHING, AGAIN: a tick of a berth with a side that is not idle does not leave the berth as it was,
+  pub idle-again-timers : OneMore h s n ms k p ticks m → ((p .berth .rx ≡ Rx.Idle) × (p .berth .tx ≡ Tx.Idle) → ⊥)
+      → partOf k (m .out .held) .berth ≡ p .berth → ⊥
   unfolding partAfter
-  idle-again-timers its busy same =
-      busy (still-idle (given .berth) (sym (ap (λ (p : Part). p .berth) (sym (ap (partOf k) same) ∙ part-now ticks its))))
+  idle-again-timers r busy same = busy (still-idle (p .berth) (sym (ap (λ (q : Part). q .berth) (part-now r)) ∙ same))
 
   -- nor does a frame whose bytes differ from those at their place leave the berth's area
-  pub idle-again-bytes : (d : List ℕ) → own k (leftBy (anew h n) ms) (m .call) ≡ arrives d ∷ []
-      → frameCame s (given .berth) d .place + length (frameCame s (given .berth) d .bytes) ≤ length (given .incoming)
-      → (take (length (frameCame s (given .berth) d .bytes)) (drop (frameCame s (given .berth) d .place) (given .incoming)) ≡ frameCame s (given .berth) d .bytes → ⊥)
-      → partOf k (m .out .held) .incoming ≡ given .incoming → ⊥
+  pub idle-again-bytes : (d : List ℕ) → OneMore h s n ms k p (arrives d) m
+      → frameCame s (p .berth) d .place + length (frameCame s (p .berth) d .bytes) ≤ length (p .incoming)
+      → (take (length (frameCame s (p .berth) d .bytes)) (drop (frameCame s (p .berth) d .place) (p .incoming)) ≡ frameCame s (p .berth) d .bytes → ⊥)
+      → partOf k (m .out .held) .incoming ≡ p .incoming → ⊥
   unfolding partAfter
-  idle-again-bytes d its fits differ same =
-      differ (stood-before (given .incoming) _ _ fits (sym (ap (λ (p : Part). p .incoming) (part-now (arrives d) its)) ∙ same))
+  idle-again-bytes d r fits differ same = differ (stood-before (p .incoming) _ _ fits (sym (ap (λ (q : Part). q .incoming) (part-now r)) ∙ same))
 
   -- COUNTING, AGAIN: so a right awaited consecutive frame does not
-  pub counting-again : (d : List ℕ) (p : Taking) (t : ℕ) → own k (leftBy (anew h n) ms) (m .call) ≡ arrives d ∷ []
-      → given .berth .rx ≡ Rx.Awaits p t → kind d ≡ consecutiveKind → T (consecutiveFits (missing p) d) → low d ≡ p .sn .0
-      → p .got + length (piece p d) ≤ length (given .incoming)
-      → (take (length (piece p d)) (drop (p .got) (given .incoming)) ≡ piece p d → ⊥)
-      → partOf k (m .out .held) .incoming ≡ given .incoming → ⊥
-  counting-again d p t its r c f l fits differ =
-      let (at, bytes) = right-came s (given .berth) p t d r c f l in
-      idle-again-bytes d its (rw (at, bytes) fits) (rw (at, bytes) differ)
+  pub counting-again : (d : List ℕ) (q : Taking) (t : ℕ) → OneMore h s n ms k p (arrives d) m
+      → p .berth .rx ≡ Rx.Awaits q t → kind d ≡ consecutiveKind → T (consecutiveFits (missing q) d) → low d ≡ q .sn .0
+      → q .got + length (piece q d) ≤ length (p .incoming) → (take (length (piece q d)) (drop (q .got) (p .incoming)) ≡ piece q d → ⊥)
+      → partOf k (m .out .held) .incoming ≡ p .incoming → ⊥
+  counting-again d q t r awaits c f l fits differ =
+      let (at, bytes) = consecutive-came s (p .berth) q t d awaits c f l in
+      idle-again-bytes d r (rw (at, bytes) fits) (rw (at, bytes) differ)
 
--- A FIXED ANSWER, AGAIN: where the rules say otherwise of berth k after two runs the answers are not the same, and where they leave
--- otherwise the areas are not
-module _ (k : ℕ) (small : k < berthCount)
-    (h : Held) (s : Settings) (n : Node) (ms : List Made) (m : Made) (before : EachAlone h s n ms) (after : EachAlone h s n (ms ++ m ∷ []))
-    (h′ : Held) (s′ : Settings) (n′ : Node) (ms′ : List Made) (m′ : Made) (before′ : EachAlone h′ s′ n′ ms′) (after′ : EachAlone h′ s′ n′ (ms′ ++ m′ ∷ []))
-    (e e′ : Event) (its : own k (leftBy (anew h n) ms) (m .call) ≡ e ∷ []) (its′ : own k (leftBy (anew h′ n′) ms′) (m′ .call) ≡ e′ ∷ []) where
-  pub fixed-again : (says s (partOf k (leftBy (anew h n) ms)) e ≡ says s′ (partOf k (leftBy (anew h′ n′) ms′)) e′ → ⊥) → m .out .answer ≡ m′ .out .answer → ⊥
+-- A FIXED ANSWER, AGAIN: two calls of which the rules say otherwise on the berth alone are not answered the same, and two of which they
+-- leave otherwise do not leave the same area
+module _ {h g : Held} {s t : Settings} {n o : Node} {ms ls : List Made} {k : ℕ} {p q : Part} {e f : Event} {m l : Made}
+    (r : OneMore h s n ms k p e m) (x : OneMore g t o ls k q f l) where
+  pub fixed-again : (says s p e ≡ says t q f → ⊥) → m .out .answer ≡ l .out .answer → ⊥
   fixed-again differ same =
-      let p = says-now h s n ms m before after k small e its in
-      let q = says-now h′ s′ n′ ms′ m′ before′ after′ k small e′ its′ in
-      let z = sym p ∙ ap (saysOf k) same ∙ q in
+      let z : says s p e ∷ [] ≡ says t q f ∷ [] = sym (says-now r) ∙ ap (saysOf k) same ∙ says-now x in
       differ (cc)
 
-  pub fixed-again-bytes :
-      (partAfter s (partOf k (leftBy (anew h n) ms)) e .incoming ≡ partAfter s′ (partOf k (leftBy (anew h′ n′) ms′)) e′ .incoming → ⊥)
-      → partOf k (m .out .held) .incoming ≡ partOf k (m′ .out .held) .incoming → ⊥
+  pub fixed-again-bytes : (partAfter s p e .incoming ≡ partAfter t q f .incoming → ⊥) → partOf k (m .out .held) .incoming ≡ partOf k (l .out .held) .incoming → ⊥
   fixed-again-bytes differ same =
-      let p = part-now h s n ms m before after k small e its in
-      let q = part-now h′ s′ n′ ms′ m′ before′ after′ k small e′ its′ in
-      differ (ap (λ (x : Part). x .incoming) (sym p) ∙ same ∙ ap (λ (x : Part). x .incoming) q)
+      differ (ap (λ (y : Part). y .incoming) (sym (part-now r)) ∙ same ∙ ap (λ (y : Part). y .incoming) (part-now x))
+
+-- ---- the code's calls
+
+chain-front : (h : Held) (ms : List Made) (m : Made) → Chain h (ms ++ m ∷ []) → Chain h ms
+unfolding Chain
+chain-front h [] m c = tt
+chain-front h (x ∷ ms) m c = (c .0, chain-front (x .out .held) ms m (c .1))
+
+-- EVERY CALL OF THE CODE AFTER A SET-UP is such a call, so a chain in which one of the answers above stands is no run
+pub one-more : {h : Held} {s : Settings} {n : Node} (ms : List Made) (m : Made) (k : ℕ) (e : Event) → AfterSetUp h s n (ms ++ m ∷ []) → k < berthCount
+    → own k (leftBy (anew h n) ms) (m .call) ≡ e ∷ [] → OneMore h s n ms k (partOf k (leftBy (anew h n) ms)) e m
+one-more {h} {s} {n} ms m k e r l its =
+    record {
+      small = l;
+      given = refl;
+      its = its;
+      without = chain-alone-after-set-up h s n ms (record { ready = r .ready; chain = chain-front (anew h n) ms m (r .chain) });
+      with = chain-alone-after-set-up h s n (ms ++ m ∷ []) r;
+    }

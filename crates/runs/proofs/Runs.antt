@@ -1,17 +1,17 @@
 -- A chain of the code's calls is a run of the rules: each call's promise says that it left the rule's outcome, so by induction the chain
 -- says `answers` and leaves `final`, and what the laws say of these holds of the chain.
-use mathlib.Core.Path.{_≡_, refl, ap, ap₂, _∙_}
 use Prim.Native.Nat.{ℕ, zero, suc, _<_}
+use mathlib.Core.Path.{_≡_, refl, ap, ap₂, _∙_}
 use mathlib.Core.List.{List, [], _∷_, _++_, map}
 use Rattle.rules.specs.Tests.{unless}
 use Rattle.rules.specs.Numbers.{berthCount}
+use Rattle.rules.specs.Nodes.{Held}
+use Rattle.rules.specs.Events.{Call, Event}
 use Rattle.rules.specs.Stores.{setUpNode}
 use Rattle.rules.specs.Answers.{Answer, ready, setUpSays}
 use Rattle.rules.specs.Refusals.{setUpRefusal}
 use Rattle.rules.specs.Calls.{Outcome, refusedOutcome, outcome, setUpOutcome, outcomes, answers, final}
 use Rattle.rules.specs.Alone.{Part, partOf}
-use Rattle.rules.specs.Nodes.{Held}
-use Rattle.rules.specs.Events.{Call, Event}
 use Rattle.rules.specs.declared.Settings.{Settings}
 use Rattle.rules.specs.declared.Node.{Node}
 use Rattle.rules.specs.declared.SetUpAnswer.{SetUpAnswer}

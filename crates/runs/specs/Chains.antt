@@ -1,13 +1,15 @@
 -- A run of the code: a chain of calls, the same node and the same two stores throughout. Of a call only its promise is known; it is
 -- the same promise by value and on a lent node.
 use Prim.Native.Nat.{ℕ, _<_}
-use Rattle.rules.specs.declared.Choice.{Choice}
+use mathlib.Core.Path.{_≡_}
 use mathlib.Core.List.{List, [], _∷_, _++_, map}
 use Rattle.rules.specs.Numbers.{berthCount}
-use Rattle.rules.specs.Answers.{Answer, shown, frameSays, tickSays, sendSays, turnSays}
-use Rattle.rules.specs.Calls.{Outcome, outcome}
 use Rattle.rules.specs.Nodes.{Held}
 use Rattle.rules.specs.Events.{Call, frame, tick, send, turn, show, Event}
+use Rattle.rules.specs.Answers.{Answer, shown, frameSays, tickSays, sendSays, turnSays}
+use Rattle.rules.specs.Calls.{Outcome, outcome}
+use Rattle.rules.specs.Alone.{Part, partOf}
+use Rattle.rules.specs.declared.Choice.{Choice}
 use Rattle.rules.specs.declared.Settings.{Settings}
 use Rattle.rules.specs.declared.Node.{Node}
 use Rattle.rules.specs.declared.SetUpAnswer.{SetUpAnswer}
@@ -83,3 +85,11 @@ DueIn k h (m ∷ ms) = DueAt k h (m .call) × DueIn k (m .out .held) ms
 abbrev pub EachAlone : Held → Settings → Node → List Made → Type 0
 EachAlone h s n ms =
     (k : ℕ) → k < berthCount → Alone s (freshPart h s k) k (anew h n) (ownIn k (anew h n) ms) (saidBy ms) (leftBy (anew h n) ms)
+
+-- a run after a set-up and one call more, which is given berth k's part p and is k's own event e: demand 3 holds with it and without it
+pub record OneMore (h : Held) (s : Settings) (n : Node) (ms : List Made) (k : ℕ) (p : Part) (e : Event) (m : Made) : Type 0 where
+  pub small : k < berthCount
+  pub given : partOf k (leftBy (anew h n) ms) ≡ p
+  pub its : own k (leftBy (anew h n) ms) (m .call) ≡ e ∷ []
+  pub without : EachAlone h s n ms
+  pub with : EachAlone h s n (ms ++ m ∷ [])
