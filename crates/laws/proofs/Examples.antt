@@ -42,7 +42,7 @@ abbrev waitingBerth : Berth
 waitingBerth =
     record { rx = Rx.Awaits (record { total = 8; got = 6; sn = firstSn; taken = 0 }) 998; last = 0; tx = Tx.Idle }
 
-abbrev two : Held
+abbrev pub two : Held
 two =
     record {
       node = record { settings = record { area = 8; block = 2; stmin = 0 }; served = 9; berths = set (replicate berthCount fresh) 3 waitingBerth };
@@ -51,7 +51,7 @@ two =
     }
 
 -- a send, an ignored frame of kind 7, a turn with a buffer too short, a tick, a turn, a frame, the tick that ends berth 3's reception
-abbrev twoRun : List Call
+abbrev pub twoRun : List Call
 twoRun =
     send 5 (1 ∷ 2 ∷ 3 ∷ []) ∷ frame 0x643 (0x70 ∷ []) ∷ turn (0 ∷ []) ∷ tick ∷ turn blank ∷ frame 0x645 (0x02 ∷ 0xAA ∷ 0xBB ∷ []) ∷ tick
     ∷ show 5 Choice.Arrived ∷ []
@@ -93,7 +93,7 @@ anew-alone k l = each-alone-after-set-up two (two .node .settings) twoRun k l (a
 
 -- ---- fairness: all ten are due, berth 4 was served last, and nine others are served before it
 
-abbrev crowd : Held
+abbrev pub crowd : Held
 crowd =
     record {
       node = record {
@@ -105,7 +105,7 @@ crowd =
       outgoing = replicate 80 7;
     }
 
-abbrev crowdRun : List Call
+abbrev pub crowdRun : List Call
 crowdRun = replicate 10 (turn blank)
 
 pub crowd-computed : (over turnOf (answers crowd crowdRun)

@@ -3,3 +3,4 @@ pub mod Runs
 pub mod Every
 pub mod PoorNodes
 pub mod Lines
+pub mod Examples

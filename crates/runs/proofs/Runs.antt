@@ -8,7 +8,7 @@ use Rattle.rules.specs.Numbers.{berthCount}
 use Rattle.rules.specs.Nodes.{Held}
 use Rattle.rules.specs.Events.{Call, Event}
 use Rattle.rules.specs.Stores.{setUpNode}
-use Rattle.rules.specs.Answers.{Answer, ready, setUpSays}
+use Rattle.rules.specs.Answers.{Side, Answer, ready, setUpSays}
 use Rattle.rules.specs.Refusals.{setUpRefusal}
 use Rattle.rules.specs.Calls.{Outcome, refusedOutcome, outcome, setUpOutcome, outcomes, answers, final}
 use Rattle.rules.specs.Alone.{Part, partOf}
@@ -18,8 +18,10 @@ use Rattle.rules.specs.declared.SetUpAnswer.{SetUpAnswer}
 use Rattle.node.specs.Promises.{lent, left, SetUpPromise}
 use Rattle.node.proofs.Determined.{set-up-is, frame-is, tick-is, send-is, turn-is, show-is}
 use Rattle.laws.specs.Own.{own, owns, over, setUp, freshPart, Alone}
+use Rattle.laws.specs.Sides.{sideOf, sideEvents, SideAlone}
 use Rattle.laws.specs.Rounds.{StaysDue, turnOf, Fair}
 use Rattle.laws.proofs.SetUp.{each-alone, each-alone-after-set-up}
+use Rattle.laws.proofs.SideRuns.{side-alone-in-run}
 use Rattle.laws.proofs.Fairness.{fair}
 use Rattle.runs.specs.Chains.{Step, frames, ticks, sends, turns, shows, Made, Chain, anew, AfterSetUp, callsOf, saidBy, leftBy, ownIn, DueIn, EachAlone}
 
@@ -88,6 +90,11 @@ as-run s p k h ms c a = rw (chain-owns k h ms c, chain-says h ms c, chain-leaves
 pub chain-alone : (h : Held) (ms : List Made) (k : ℕ) → k < berthCount → Chain h ms
     → Alone (h .node .settings) (partOf k h) k h (ownIn k h ms) (saidBy ms) (leftBy h ms)
 chain-alone h ms k l c = as-run (h .node .settings) (partOf k h) k h ms c (each-alone h (callsOf ms) k l)
+
+-- EACH SIDE ALONE, in any chain of calls from any start.
+pub chain-side-alone : (s : Side) (k : ℕ) (h : Held) (ms : List Made) → Chain h ms
+    → SideAlone (h .node .settings) (sideOf s (partOf k h)) s k (sideEvents s (h .node .settings) (partOf k h) (ownIn k h ms)) (callsOf ms) (saidBy ms) (leftBy h ms)
+chain-side-alone s k h ms c = rw (chain-owns k h ms c, chain-says h ms c, chain-leaves h ms c) (side-alone-in-run s k h (callsOf ms))
 
 -- DEMAND 3, SECOND HALF, OF THE CODE. In any chain of calls, while berth k has a frame due at every answered call for a frame, none
 -- of these calls answers None, no berth has two turns before k's first, and k's own comes by the tenth.
