@@ -10,16 +10,17 @@ use lib.Seq.{sets, sets-eq, take-at, drop-at, getD-set-same, length-take-le}
 use lib.Dec.{T, eqb, ltb}
 use Rattle.rules.specs.Tests.{all, each, firstUnmet}
 use Rattle.rules.specs.Numbers.{berthCount, toBerth, timeout, consecutiveKind, frameSize, outOfOrder, badSetting}
-use Rattle.rules.specs.Nodes.{fresh, berthAt, Held}
+use Rattle.rules.specs.Nodes.{fresh, blankNode, berthAt, Held}
 use Rattle.rules.specs.Ranges.{settingsAllowed, inBlock, takingInRange, berthInOrder, inOrder}
 use Rattle.rules.specs.Frames.{kind, low, singleFits, consecutiveFits, share}
 use Rattle.rules.specs.Arrivals.{singleCame, missing, piece, completed, awaitedCame, heardBy, byKind, frameCame}
 use Rattle.rules.specs.Ticks.{ran, closer, rxTicked, txTicked, ticked}
+use Rattle.rules.specs.Turns.{due}
 use Rattle.rules.specs.Events.{Call, frame, tick, send, turn, show, senderOf}
 use Rattle.rules.specs.Stores.{rightStore, areaOf, stored, inside, distance, leastDistance, passedOver, reached, cameAt, handedAt}
 use Rattle.rules.specs.Answers.{Answer, refused, ready, heard, codes, sent, handed, none, shown, setUpSays, frameSays, tickSays, sendSays, turnSays, wordPaper}
 use Rattle.rules.specs.Refusals.{needs, refusal, setUpRefusal}
-use Rattle.rules.specs.Calls.{Outcome, showing, afterFrame, done, reply, written, refusedOutcome, outcome, setUpOutcome}
+use Rattle.rules.specs.Calls.{Outcome, showable, shownLength, showing, afterFrame, done, reply, written, refusedOutcome, outcome, setUpOutcome}
 use Rattle.rules.specs.declared.Settings.{Settings}
 use Rattle.rules.specs.declared.Taking.{Taking}
 use Rattle.rules.specs.declared.Sending.{Sending}
@@ -35,11 +36,12 @@ use Rattle.rules.specs.declared.SendAnswer.{SendAnswer}
 use Rattle.rules.specs.declared.TurnAnswer.{TurnAnswer}
 use Rattle.rules.proofs.Cases.{Tested, holds, fails, eqb-cases, ltb-cases, pick-either}
 use Rattle.rules.proofs.Ranges.{in-order-range}
+use Rattle.rules.proofs.Areas.{area-same}
 use Rattle.rules.proofs.Order.{berth-ticked}
 use Rattle.rules.proofs.Round.{reached-due}
 use Rattle.rules.proofs.Facts.{consecutive-came, frame-area}
-use Rattle.rules.proofs.Answered.{frame-answered, turn-answered}
-use Rattle.node.specs.Promises.{left, Agrees, SetUpPromise, FramePromise, TickPromise, SendPromise, TurnPromise, ShowPromise}
+use Rattle.rules.proofs.Answered.{frame-answered, send-answered, turn-answered}
+use Rattle.node.specs.Promises.{lent, left, Agrees, SetUpPromise, FramePromise, TickPromise, SendPromise, TurnPromise, ShowPromise}
 use Rattle.node.proofs.Determined.{same}
 
 -- two numbers that are not the same
@@ -160,12 +162,12 @@ not-fixed-send h j k m ne e f a =
     not-both (λ i. (n : Node) × (outgoing : List ℕ) × SendPromise (h .node) (h .outgoing) i m a n outgoing) j k (named (sendSays a)) j k ne
     (λ p. names h (send j m) e (p .2 (h .incoming))) (λ p. names h (send k m) f (p .2 (h .incoming)))
 
--- the berths passed over are named, 10 where none is due
 least-ten : (served k : ℕ) (bs : List Berth) → leastDistance served k bs ≤ berthCount
 unfolding leastDistance
 least-ten served k [] = omega arith
 least-ten served k (b ∷ bs) = let ih = least-ten served (suc k) bs in omega arith
 
+-- the berths passed over are named, 10 where none is due
 passes : (h : Held) (buffer : List ℕ) → named (reply h (turn buffer)) ≡ passedOver (h .node)
 unfolding reply passedOver
 passes h buffer = go (ltb-cases (passedOver (h .node)) berthCount)
@@ -296,6 +298,20 @@ module _ (h : Held) (id : ℕ) (d : List ℕ) (a : FrameAnswer) (n : Node) (inco
       let room = area-length (h .node .settings .area) (senderOf id) (h .incoming) (ok .heard .mine) (ok .heard .store) in
       differ (stood-before (areaOf (h .node .settings .area) (senderOf id) (h .incoming)) _ _ (omega (arith, ok .fits)) (sym (area-after p) ∙ kept))
 
+-- so is it at every send that the paper answers, whose message differs from the bytes at the front of the area
+pub not-idle-message : (h : Held) (k : ℕ) (m : List ℕ) (a : SendAnswer) (n : Node) (outgoing : List ℕ) → refusal h (send k m) ≡ 0
+    → (take (length m) (areaOf (h .node .settings .area) k (h .outgoing)) ≡ m → ⊥)
+    → areaOf (h .node .settings .area) k outgoing ≡ areaOf (h .node .settings .area) k (h .outgoing)
+    → SendPromise (h .node) (h .outgoing) k m a n outgoing → ⊥
+unfolding done
+not-idle-message h k m a n outgoing e differ kept p =
+    let ok = send-answered h k m e in
+    let fits = ok .fits in
+    let after = ap (λ (o : Outcome). areaOf (h .node .settings .area) k (o .held .outgoing)) (answered h (send k m) e (p (h .incoming)))
+    ∙ area-same (h .node .settings .area) k 0 m (h .outgoing) (omega arith) in
+    let room = area-length (h .node .settings .area) k (h .outgoing) (ok .mine) (ok .store) in
+    differ (stood-before (areaOf (h .node .settings .area) k (h .outgoing)) 0 m (omega arith) (sym after ∙ kept))
+
 -- ---- one that stores the first frame and only counts the rest
 
 -- COUNTING ONLY: at every right awaited consecutive frame whose bytes differ from those at their place, an area left as it was is shut out
@@ -337,15 +353,15 @@ not-made-up-none h buffer buffer′ n passed e other p =
     pick-either (λ (a : Answer). none passed ≡ a → ⊥) (ltb (passedOver (h .node)) berthCount) _ _ (λ t q. clash (cc)) (λ t q. other (cc))
     (ap (λ (o : Outcome). o .answer) (answered h (turn buffer) e (p (h .incoming))))
 
--- ---- a node at which each premise is met: areas of 8 bytes of zeros, and a receive side of berth 0
+-- ---- nodes at which the premises are met: areas of 8 bytes of zeros, and berth 0 with a receive side and a last length
 
-abbrev hearing : Rx → Held
-hearing rx =
+abbrev hearing : Rx → ℕ → Held
+hearing rx last =
     record {
       node = record {
         settings = record { area = 8; block = 0; stmin = 0 };
         served = 9;
-        berths = record { rx = rx; last = 0; tx = Tx.Idle } ∷ replicate 9 fresh;
+        berths = record { rx = rx; last = last; tx = Tx.Idle } ∷ replicate 9 fresh;
       };
       incoming = replicate 80 0;
       outgoing = replicate 80 0;
@@ -355,27 +371,50 @@ hearing rx =
 abbrev sixOfEight : Taking
 sixOfEight = record { total = 8; got = 6; sn = record { 0 = 1 }; taken = 0 }
 
--- the two single frames, the last frame of the eight bytes, a tick and a turn are answered
-pub answered-here : (refusal (hearing Rx.Idle) (frame 0x640 (0x01 ∷ 7 ∷ [])) ≡ 0) × (refusal (hearing Rx.Idle) (frame 0x640 (0x02 ∷ 7 ∷ 8 ∷ [])) ≡ 0)
-    × (refusal (hearing (Rx.Awaits sixOfEight 0)) (frame 0x640 (0x21 ∷ 7 ∷ 8 ∷ [])) ≡ 0)
-    × (refusal (hearing (Rx.OwesOverflow 0)) tick ≡ 0) × (refusal (hearing (Rx.OwesOverflow 0)) (turn (replicate 8 0)) ≡ 0)
+-- the calls below are answered; a node that no set-up has filled is out of order, and settings of 0 are not allowed
+pub answered-here : (refusal (hearing Rx.Idle 0) (frame 0x640 (0x01 ∷ 7 ∷ [])) ≡ 0) × (refusal (hearing Rx.Idle 0) (frame 0x640 (0x02 ∷ 7 ∷ 8 ∷ [])) ≡ 0)
+    × (refusal (hearing Rx.Idle 0) (send 0 (1 ∷ [])) ≡ 0) × (refusal (hearing Rx.Idle 0) (send 1 (1 ∷ [])) ≡ 0)
+    × (refusal (hearing (Rx.OwesOverflow 0) 0) (turn (replicate 8 0)) ≡ 0) × (refusal (hearing Rx.Idle 0) (turn (replicate 8 0)) ≡ 0)
+    × (refusal (hearing (Rx.OwesOverflow 0) 0) tick ≡ 0) × (refusal (lent blankNode [] []) tick ≡ outOfOrder)
+    × (setUpRefusal 8 0 0 ≡ 0) × (setUpRefusal 0 0 0 ≡ badSetting)
+    × (refusal (hearing (Rx.Awaits sixOfEight 0) 0) (frame 0x640 (0x21 ∷ 7 ∷ 8 ∷ [])) ≡ 0)
 unfolding
-    all each firstUnmet kind low singleFits consecutiveFits share settingsAllowed inBlock takingInRange berthInOrder
-    berthAt inOrder singleCame piece completed awaitedCame heardBy byKind frameCame rightStore inside cameAt needs refusal
-answered-here = (refl, refl, refl, refl, refl)
+    all each firstUnmet kind low singleFits consecutiveFits share settingsAllowed inBlock takingInRange berthInOrder berthAt inOrder
+    singleCame piece completed awaitedCame heardBy byKind frameCame rightStore inside cameAt needs refusal setUpRefusal
+answered-here = (refl, refl, refl, refl, refl, refl, refl, refl, refl, refl, refl)
 
-pub not-idle-here : (a : TickAnswer) → TickPromise (hearing (Rx.OwesOverflow 0) .node) a (hearing (Rx.OwesOverflow 0) .node) → ⊥
+-- so for every fixed answer, and for every part, there is a call that shuts it out
+pub not-fixed-here :
+    ((a : FrameAnswer) → (d : List ℕ) × ((n : Node) × (incoming : List ℕ) × FramePromise (hearing Rx.Idle 0 .node) (replicate 80 0) 0x640 d a n incoming → ⊥))
+    × ((a : SendAnswer) → (k : ℕ) × ((n : Node) × (outgoing : List ℕ) × SendPromise (hearing Rx.Idle 0 .node) (replicate 80 0) k (1 ∷ []) a n outgoing → ⊥))
+    × ((a : TurnAnswer) → (h : Held) × ((n : Node) × (buffer : List ℕ) × TurnPromise (h .node) (h .outgoing) (replicate 8 0) a n buffer → ⊥))
+    × ((a : TickAnswer) → (h : Held) × ((n : Node) × TickPromise (h .node) a n → ⊥))
+    × ((a : SetUpAnswer) → (s : Settings) × ((n : Node) × SetUpPromise blankNode (s .area) (s .block) (s .stmin) a n → ⊥))
+    × ((part : List ℕ) → (k : ℕ) × ((at in-at out-at : ℕ × ℕ) × ShowPromise (hearing Rx.Idle 1 .node) (replicate 80 0) (replicate 80 0) k Choice.Arrived part in-at out-at at → ⊥))
+unfolding
+    passedOver leastDistance due distance showing shownLength showable inOrder all each settingsAllowed berthInOrder rightStore berthAt areaOf
+not-fixed-here = (
+  not-fixed-frame (hearing Rx.Idle 0) 0x640 (answered-here .0) (answered-here .1),
+  not-fixed-send (hearing Rx.Idle 0) 0 1 (1 ∷ []) (λ z. omega arith) (answered-here .2) (answered-here .3),
+  not-fixed-turn (hearing (Rx.OwesOverflow 0) 0) (hearing Rx.Idle 0) (replicate 8 0) (λ z. omega arith) (answered-here .4) (answered-here .5),
+  not-fixed-tick (hearing (Rx.OwesOverflow 0) 0) (lent blankNode [] []) (answered-here .6) (answered-here .7),
+  not-fixed-set-up blankNode (record { area = 8; block = 0; stmin = 0 }) (record { area = 0; block = 0; stmin = 0 }) (answered-here .8) (answered-here .9),
+  not-fixed-part (hearing Rx.Idle 1) Choice.Arrived 0 10 (λ z. omega arith),
+)
+
+pub not-idle-here : (a : TickAnswer) → TickPromise (hearing (Rx.OwesOverflow 0) 0 .node) a (hearing (Rx.OwesOverflow 0) 0 .node) → ⊥
 unfolding berthAt
-not-idle-here a = not-idle-timers (hearing (Rx.OwesOverflow 0)) 0 a (answered-here .3) (λ q. let e : Rx.OwesOverflow 0 ≡ Rx.Idle = q .0 in clash (cc))
+not-idle-here a =
+    not-idle-timers (hearing (Rx.OwesOverflow 0) 0) 0 a (answered-here .6) (λ q. let e : Rx.OwesOverflow 0 ≡ Rx.Idle = q .0 in clash (cc))
 
 pub not-counting-here : (a : FrameAnswer) (n : Node)
-    → FramePromise (hearing (Rx.Awaits sixOfEight 0) .node) (replicate 80 0) 0x640 (0x21 ∷ 7 ∷ 8 ∷ []) a n (replicate 80 0) → ⊥
+    → FramePromise (hearing (Rx.Awaits sixOfEight 0) 0 .node) (replicate 80 0) 0x640 (0x21 ∷ 7 ∷ 8 ∷ []) a n (replicate 80 0) → ⊥
 unfolding berthAt kind low consecutiveFits piece share areaOf
 not-counting-here a n =
-    not-counting (hearing (Rx.Awaits sixOfEight 0)) 0x640 (0x21 ∷ 7 ∷ 8 ∷ []) sixOfEight 0 a n (replicate 80 0) (answered-here .2) refl refl tt refl
+    not-counting (hearing (Rx.Awaits sixOfEight 0) 0) 0x640 (0x21 ∷ 7 ∷ 8 ∷ []) sixOfEight 0 a n (replicate 80 0) (answered-here .10) refl refl tt refl
     (λ q. let z : _≡_ {A = ℕ} 0 7 = ap (λ (l : List ℕ). getD l 0 0) q in omega arith) refl
 
 pub not-made-up-here : (n : Node) (code : ℕ) (buffer : List ℕ)
-    → TurnPromise (hearing (Rx.OwesOverflow 0) .node) (replicate 80 0) (replicate 8 0) (TurnAnswer.HandedOver 0x660 code 5) n buffer → ⊥
+    → TurnPromise (hearing (Rx.OwesOverflow 0) 0 .node) (replicate 80 0) (replicate 8 0) (TurnAnswer.HandedOver 0x660 code 5) n buffer → ⊥
 unfolding distance
-not-made-up-here n code buffer = not-made-up (hearing (Rx.OwesOverflow 0)) (replicate 8 0) buffer n 0 code 5 (answered-here .4) (λ z. omega arith)
+not-made-up-here n code buffer = not-made-up (hearing (Rx.OwesOverflow 0) 0) (replicate 8 0) buffer n 0 code 5 (answered-here .4) (λ z. omega arith)
