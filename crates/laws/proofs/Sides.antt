@@ -10,24 +10,23 @@ use lib.Seq.{sets}
 use lib.Dec.{eqb, leb}
 use Rattle.rules.specs.Tests.{pick}
 use Rattle.rules.specs.Numbers.{singleKind, firstKind, consecutiveKind, flowKind, goStatus, waitStatus, overflowStatus, consecutiveMost, noData, otherKind}
-use Rattle.rules.specs.Nodes.{fresh, Held}
+use Rattle.rules.specs.Nodes.{fresh}
 use Rattle.rules.specs.Frames.{kind, low, singleFits, announced, firstFits, consecutiveFits, flowFits}
 use Rattle.rules.specs.Arrivals.{Heard, Told, Came, ignored, singleCame, firstCame, aboveArea, turnedAway, begun, missing, completed, took, wrongSn, awaitedCame, consecutiveCame, byStatus, flowIgnored, flowCame, heardBy, toldBy, byKind, frameCame}
 use Rattle.rules.specs.Ticks.{ticked, rxCode, txCode}
 use Rattle.rules.specs.Turns.{flowDue, handOver, sent}
-use Rattle.rules.specs.Answers.{Side, receive, send, Report, reported, failedSide, wordReports, reports}
-use Rattle.rules.specs.Events.{Call, Event, arrives, ticks, sends, turns}
-use Rattle.rules.specs.Calls.{final, answers}
-use Rattle.rules.specs.Alone.{Part, partOf, Says, hears, hands, partAfter, says, alone, saysAll}
+use Rattle.rules.specs.Answers.{Side, receive, send, Report, reported, failedSide, wordReports}
+use Rattle.rules.specs.Events.{Event, arrives, ticks, sends, turns}
+use Rattle.rules.specs.Alone.{Part, Says, hears, hands, partAfter, says, alone, saysAll}
 use Rattle.rules.specs.declared.Settings.{Settings}
 use Rattle.rules.specs.declared.Rx.{Rx}
 use Rattle.rules.specs.declared.Tx.{Tx}
 use Rattle.rules.specs.declared.Berth.{Berth}
 use Rattle.rules.proofs.Cases.{Tested, holds, fails, eqb-cases, eqb-not, pick-either}
-use Rattle.laws.specs.Own.{over, only, owns, ofBerth, saidReports}
+use Rattle.laws.specs.Own.{over, only, saidReports}
 use Rattle.laws.specs.Sides.{sameSide, sideOf, frameSide, turnSide, forSide, sideEvents, onlySide, sideSays, ofSide}
-use Rattle.laws.proofs.Isolation.{berth-alone, alone-append, says-append}
-use Rattle.laws.proofs.Reports.{over-append, only-append, berth-reports}
+use Rattle.laws.proofs.Isolation.{alone-append, says-append}
+use Rattle.laws.proofs.Reports.{over-append, only-append}
 
 -- ---- a frame that is no flow control: the send side stays, and nothing depends on it
 
@@ -317,17 +316,3 @@ module _ (set : Settings) where
       for ticks t = unfold forSide in refl
       for (sends m) t = unfold forSide in refl
       for turns t = unfold forSide in (ap (λ (x : Side). pick (sameSide s x) (turns ∷ []) []) (t refl))
-
--- ---- a run of the node
-
--- EACH SIDE ALONE, in any run from any start: side s of berth k, with its area, and its reports are those of its own events on that
--- side alone.
-pub side-alone-in-run : (s : Side) (k : ℕ) (h : Held) (cs : List Call)
-    → (sideOf s (partOf k (final h cs))
-    ≡ alone (h .node .settings) (sideOf s (partOf k h)) (sideEvents s (h .node .settings) (partOf k h) (owns k h cs)))
-    × (ofSide s (ofBerth k (over reports (answers h cs)))
-    ≡ over (saidReports k) (saysAll (h .node .settings) (sideOf s (partOf k h)) (sideEvents s (h .node .settings) (partOf k h) (owns k h cs))))
-side-alone-in-run s k h cs = (
-  ap (sideOf s) (berth-alone k h cs) ∙ side-alone (h .node .settings) s (partOf k h) (owns k h cs),
-  ap (ofSide s) (berth-reports k h cs) ∙ side-reports (h .node .settings) k s (partOf k h) (owns k h cs),
-)
