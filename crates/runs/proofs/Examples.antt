@@ -6,7 +6,7 @@ use mathlib.Core.List.{List, [], _∷_, _++_}
 use lib.ListN.{getD, replicate}
 use lib.Dec.{lit<, lit≤}
 use Rattle.rules.specs.Tests.{all, each, firstUnmet}
-use Rattle.rules.specs.Nodes.{berthAt, withBerth, Held, blankNode}
+use Rattle.rules.specs.Nodes.{berthAt, withBerth, Held, blankNode, withNode}
 use Rattle.rules.specs.Ranges.{settingsAllowed, inBlock, takingInRange, berthInOrder, inOrder}
 use Rattle.rules.specs.Frames.{kind, low, singleFits, shortLength, escapeLength, announced, firstFits, consecutiveFits, share}
 use Rattle.rules.specs.Arrivals.{singleCame, begun, firstCame, piece, completed, awaitedCame, heardBy, byKind, frameCame}
@@ -23,18 +23,18 @@ use Rattle.rules.specs.declared.Tx.{Tx}
 use Rattle.laws.specs.Own.{ownDone, own, over}
 use Rattle.laws.specs.Rounds.{turnOf, StaysDue, Fair}
 use Rattle.laws.specs.Line.{blank}
-use Rattle.laws.proofs.Examples.{two, twoRun, anew-computed, crowd, crowdRun, crowd-computed}
-use Rattle.runs.specs.Chains.{Made, anew, AfterSetUp, madeOf, saidBy, leftBy, DueIn, EachAlone}
+use Rattle.laws.proofs.Examples.{two, twoRun, afresh-computed, crowd, crowdRun, crowd-computed}
+use Rattle.runs.specs.Chains.{Made, AfterSetUp, madeOf, saidBy, leftBy, DueIn, EachAlone}
 use Rattle.runs.proofs.Runs.{chain-fair, chain-alone-after-set-up}
 use Rattle.runs.proofs.Every.{every-chain, every-after-set-up}
 use Rattle.runs.proofs.PoorNodes.{one-more, refusing-again, idle-again-timers, counting-again, fixed-again, fixed-again-bytes}
 
 -- ---- demand 3: the run of eight calls after a set-up, and ten calls for a frame while all ten berths are due
 
-pub alone-here : EachAlone two (two .node .settings) (setUpNode (two .node .settings)) (madeOf (anew two (setUpNode (two .node .settings))) twoRun)
+pub alone-here : EachAlone two (two .node .settings) (setUpNode (two .node .settings)) (madeOf (withNode two (setUpNode (two .node .settings))) twoRun)
 alone-here =
-    chain-alone-after-set-up two (two .node .settings) (setUpNode (two .node .settings)) (madeOf (anew two (setUpNode (two .node .settings))) twoRun)
-    (every-after-set-up two (two .node .settings) twoRun (anew-computed .0))
+    chain-alone-after-set-up two (two .node .settings) (setUpNode (two .node .settings)) (madeOf (withNode two (setUpNode (two .node .settings))) twoRun)
+    (every-after-set-up two (two .node .settings) twoRun (afresh-computed .0))
 
 due-made : (k : ℕ) (h : Held) (cs : List Call) → StaysDue k h cs → DueIn k h (madeOf h cs)
 unfolding StaysDue DueIn madeOf
@@ -83,10 +83,10 @@ fixed-bytes-here o q r x =
 
 -- doing nothing: a message was sent, and a tick leaves its berth as it was
 abbrev sending : List Made
-sending = madeOf (anew start (setUpNode eight)) (send 0 (1 ∷ []) ∷ [])
+sending = madeOf (withNode start (setUpNode eight)) (send 0 (1 ∷ []) ∷ [])
 
 pub idle-here : (o : Outcome) → AfterSetUp start eight (setUpNode eight) (sending ++ made tick o ∷ [])
-    → partOf 0 (o .held) .berth ≡ partOf 0 (leftBy (anew start (setUpNode eight)) sending) .berth → ⊥
+    → partOf 0 (o .held) .berth ≡ partOf 0 (leftBy (withNode start (setUpNode eight)) sending) .berth → ⊥
 unfolding
     madeOf own ownDone leftBy refusal needs firstUnmet rightStore inOrder all each settingsAllowed berthInOrder setUpNode berthAt
     outcome done withBerth sentBerth beginsWith partOf
@@ -94,10 +94,10 @@ idle-here o r = idle-again-timers (one-more sending (made tick o) 0 ticks r (lit
 
 -- counting only: a first frame of eight bytes came in and go was handed over; the consecutive frame leaves the area as it was
 abbrev awaiting : List Made
-awaiting = madeOf (anew start (setUpNode eight)) (frame 0x640 (0x10 ∷ 8 ∷ 1 ∷ 2 ∷ 3 ∷ 4 ∷ 5 ∷ 6 ∷ []) ∷ turn blank ∷ [])
+awaiting = madeOf (withNode start (setUpNode eight)) (frame 0x640 (0x10 ∷ 8 ∷ 1 ∷ 2 ∷ 3 ∷ 4 ∷ 5 ∷ 6 ∷ []) ∷ turn blank ∷ [])
 
 pub counting-here : (o : Outcome) → AfterSetUp start eight (setUpNode eight) (awaiting ++ made (frame 0x640 (0x21 ∷ 7 ∷ 8 ∷ [])) o ∷ [])
-    → partOf 0 (o .held) .incoming ≡ partOf 0 (leftBy (anew start (setUpNode eight)) awaiting) .incoming → ⊥
+    → partOf 0 (o .held) .incoming ≡ partOf 0 (leftBy (withNode start (setUpNode eight)) awaiting) .incoming → ⊥
 unfolding
     madeOf own ownDone leftBy refusal needs firstUnmet rightStore inside inOrder all each settingsAllowed berthInOrder takingInRange inBlock setUpNode berthAt
     outcome done afterFrame stored withBerth cameAt frameCame byKind kind low heardBy firstCame firstFits announced shortLength escapeLength begun
