@@ -25,10 +25,6 @@ use Rattle.laws.proofs.Isolation.{alone-append, says-append}
 use Rattle.runs.specs.Chains.{Made, Chain, AfterSetUp, saidBy, leftBy, ownIn, OneMore}
 use Rattle.runs.proofs.Runs.{chain-alone-after-set-up}
 
--- two that are not the same
-clash : {X : Type 0} → _≡_ {A = ℕ} 0 1 → X
-clash e = absurd (omega arith)
-
 -- ---- one call more
 
 module _ (k : ℕ) where
@@ -73,7 +69,7 @@ module _ {h : Held} {s : Settings} {n : Node} {ms : List Made} {k : ℕ} {p : Pa
   -- REFUSING, AGAIN: no event of a berth's own is answered with a refusal
   pub refusing-again : (number : ℕ) → m .out .answer ≡ refused number → ⊥
   unfolding saysOf
-  refusing-again number a = let z : [] ≡ says s p e ∷ [] = sym (ap (saysOf k) a) ∙ says-now in clash (cc)
+  refusing-again number a = let z : [] ≡ says s p e ∷ [] = sym (ap (saysOf k) a) ∙ says-now in let f : _≡_ {A = ℕ} 0 1 = cc in omega arith
 
 module _ {h : Held} {s : Settings} {n : Node} {ms : List Made} {k : ℕ} {p : Part} {m : Made} where
   -- DOING NOTHING, AGAIN: a tick of a berth with a side that is not idle does not leave the berth as it was,

@@ -36,8 +36,8 @@ step-is {h} (shows k choice part in-at out-at part-at p) = show-is (h .node) (h 
 -- ---- a chain is a run of the rules, from any start
 
 module _ (h : Held) (m : Made) (e : m .out ≡ outcome h (m .call)) where
-  held-is : m .out .held ≡ outcome h (m .call) .held
-  held-is = ap (λ (o : Outcome). o .held) e
+  held-same : m .out .held ≡ outcome h (m .call) .held
+  held-same = ap (λ (o : Outcome). o .held) e
 
 -- A CHAIN answers and leaves, call by call, what the rules say of the same calls.
 pub chain-is : (h : Held) (ms : List Made) → Chain h ms → map (λ (m : Made). m .out) ms ≡ outcomes h (callsOf ms)
@@ -46,7 +46,7 @@ chain-is h [] c = refl
 chain-is h (m ∷ ms) c =
     let e = step-is (c .0) in
     ap₂ (λ (o : Outcome) (rest : List Outcome). o ∷ rest) e
-    (chain-is (m .out .held) ms (c .1) ∙ ap (λ (g : Held). outcomes g (callsOf ms)) (held-is h m e))
+    (chain-is (m .out .held) ms (c .1) ∙ ap (λ (g : Held). outcomes g (callsOf ms)) (held-same h m e))
 
 -- A CHAIN SAYS `answers`,
 pub chain-says : (h : Held) (ms : List Made) → Chain h ms → saidBy ms ≡ answers h (callsOf ms)
@@ -55,14 +55,14 @@ chain-says h [] c = refl
 chain-says h (m ∷ ms) c =
     let e = step-is (c .0) in
     ap₂ (λ (a : Answer) (rest : List Answer). a ∷ rest) (ap (λ (o : Outcome). o .answer) e)
-    (chain-says (m .out .held) ms (c .1) ∙ ap (λ (g : Held). answers g (callsOf ms)) (held-is h m e))
+    (chain-says (m .out .held) ms (c .1) ∙ ap (λ (g : Held). answers g (callsOf ms)) (held-same h m e))
 
 -- AND LEAVES `final`;
 pub chain-leaves : (h : Held) (ms : List Made) → Chain h ms → leftBy h ms ≡ final h (callsOf ms)
 unfolding Chain leftBy final
 chain-leaves h [] c = refl
 chain-leaves h (m ∷ ms) c =
-    chain-leaves (m .out .held) ms (c .1) ∙ ap (λ (g : Held). final g (callsOf ms)) (held-is h m (step-is (c .0)))
+    chain-leaves (m .out .held) ms (c .1) ∙ ap (λ (g : Held). final g (callsOf ms)) (held-same h m (step-is (c .0)))
 
 -- a berth's own events in it are those of the run,
 chain-owns : (k : ℕ) (h : Held) (ms : List Made) → Chain h ms → ownIn k h ms ≡ owns k h (callsOf ms)
@@ -70,14 +70,14 @@ unfolding Chain ownIn owns
 chain-owns k h [] c = refl
 chain-owns k h (m ∷ ms) c =
     ap (λ (es : List Event). own k h (m .call) ++ es)
-    (chain-owns k (m .out .held) ms (c .1) ∙ ap (λ (g : Held). owns k g (callsOf ms)) (held-is h m (step-is (c .0))))
+    (chain-owns k (m .out .held) ms (c .1) ∙ ap (λ (g : Held). owns k g (callsOf ms)) (held-same h m (step-is (c .0))))
 
 -- and what is due in it is due in the run
 chain-due : (k : ℕ) (h : Held) (ms : List Made) → Chain h ms → DueIn k h ms → StaysDue k h (callsOf ms)
 unfolding Chain DueIn StaysDue
 chain-due k h [] c t = tt
 chain-due k h (m ∷ ms) c t =
-    (t .0, rw (held-is h m (step-is (c .0))) at (chain-due k (m .out .held) ms (c .1) (t .1)))
+    (t .0, rw (held-same h m (step-is (c .0))) at (chain-due k (m .out .held) ms (c .1) (t .1)))
 
 -- ---- demand 3
 
