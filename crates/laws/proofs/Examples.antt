@@ -76,20 +76,20 @@ pub two-alone : Alone (two .node .settings) (partOf 3 two) 3 two (owns 3 two two
 two-alone = (each-alone two twoRun 3 (lit< tt), each-alone two twoRun 5 (lit< tt))
 
 -- the same calls after a set-up of the same node, A 8, BS 2, STmin 0: berth 3 awaits nothing, and no reception of it ends
-abbrev anew : Held
-anew = setUp two (two .node .settings)
+abbrev afresh : Held
+afresh = setUp two (two .node .settings)
 
-pub anew-computed : (setUpRefusal 8 2 0 ≡ 0)
-    × (answers anew twoRun
+pub afresh-computed : (setUpRefusal 8 2 0 ≡ 0)
+    × (answers afresh twoRun
     ≡ sent 5 ∷ heard 3 0 (Ignored 2) ∷ refused 9 ∷ codes (replicate 10 (pairOf 0 0))
     ∷ handed 0x665 (0x03 ∷ 1 ∷ 2 ∷ 3 ∷ 0xCC ∷ 0xCC ∷ 0xCC ∷ 0xCC ∷ []) 1 5 ∷ heard 5 0 (Delivered 2)
     ∷ codes (replicate 10 (pairOf 0 0)) ∷ shown (0xAA ∷ 0xBB ∷ []) ∷ [])
 unfolding setUpRefusal setUpOutcome setUpNode answers final done reply written outcome refusedOutcome refusal needs firstUnmet rightStore inside berthAt inOrder all each settingsAllowed berthInOrder takingInRange sendingInRange inBlock afterFrame cameAt frameCame byKind kind low heardBy toldBy ignored singleCame singleFits withBerth stored tickedNode ticked ran codesOf sentBerth beginsWith passedOver leastDistance distance due reached servedNode handedAt handOver areaOf singleFrame padded showing showable shownLength
-anew-computed = (refl, refl)
+afresh-computed = (refl, refl)
 
 -- so each is as it would be alone from fresh
-pub anew-alone : (k : ℕ) → k < berthCount → Alone (two .node .settings) (freshPart two (two .node .settings) k) k anew (owns k anew twoRun) (answers anew twoRun) (final anew twoRun)
-anew-alone k l = each-alone-after-set-up two (two .node .settings) twoRun k l (anew-computed .0)
+pub afresh-alone : (k : ℕ) → k < berthCount → Alone (two .node .settings) (freshPart two (two .node .settings) k) k afresh (owns k afresh twoRun) (answers afresh twoRun) (final afresh twoRun)
+afresh-alone k l = each-alone-after-set-up two (two .node .settings) twoRun k l (afresh-computed .0)
 
 -- ---- fairness: all ten are due, berth 4 was served last, and nine others are served before it
 

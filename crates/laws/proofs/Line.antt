@@ -191,15 +191,15 @@ module _ (i j : ℕ) (set : Settings) (n : ℕ) (out : List ℕ) (E : List Hande
       atTaker l (c .berth .rx) (c .berth .last) (sets (l .ina) (c .place) (c .bytes)) q (l .toS) (l .log)
       (l .heard ++ (reported j receive (c .old) ++ wordReports j (c .word))) (l .delivered ++ deliveredIn (hears (c .old) (c .word)))
 
-  abbrev pub receiving : Line → Berth
-  receiving l = record { rx = l .rx; last = l .last; tx = Tx.Idle }
+  abbrev pub takerBerth : Line → Berth
+  takerBerth l = record { rx = l .rx; last = l .last; tx = Tx.Idle }
 
   unfoldable pub tookS : Line → List (List ℕ) → Came → Line
   tookS l q c =
       atSender l (c .berth .tx) (l .toR) q (l .log) (l .said ++ (reported i receive (c .old) ++ wordReports i (c .word)))
 
-  abbrev pub sending : Line → Berth
-  sending l = record { rx = Rx.Idle; last = 0; tx = l .tx }
+  abbrev pub senderBerth : Line → Berth
+  senderBerth l = record { rx = Rx.Idle; last = 0; tx = l .tx }
 
   -- ---- ticks
 
@@ -447,7 +447,7 @@ module _ (i j : ℕ) (set : Settings) (n : ℕ) (out : List ℕ) (E : List Hande
   take-go : (setS : Settings) (o : Sending) (t : ℕ) (p : Taking) (u last : ℕ) (ina : List ℕ) (k l : ℕ) (g : List Handed) → SendAt n o k
       → TakeAt n out p k ina → p .taken ≡ 0 → Ahead n k l → g ++ rest 0 k l ≡ E
       → (line : Line) → line ≡ under-way (Tx.AwaitsFlow o t) [] (goFrame set ∷ []) g (Rx.Awaits p u) last ina
-      → Nearer (pace * suc l + 1) (tookS line [] (frameCame setS (sending line) (goFrame set)))
+      → Nearer (pace * suc l + 1) (tookS line [] (frameCame setS (senderBerth line) (goFrame set)))
   unfolding tookS reported wordReports
   take-go setS o t p u last ina k l g s r z a w line e =
       let (x, y, v, left) = granted-go o in
@@ -466,7 +466,7 @@ module _ (i j : ℕ) (set : Settings) (n : ℕ) (out : List ℕ) (E : List Hande
       })) (omega arith))
 
   pub carries-S : (setS : Settings) (l : Line) (m : ℕ) (d : List ℕ) (q : List (List ℕ)) → l .toS ≡ d ∷ q → Phase l m
-      → Nearer m (tookS l q (frameCame setS (sending l) d))
+      → Nearer m (tookS l q (frameCame setS (senderBerth l) d))
   carries-S setS l m d q z (single-ready t last ina a b e) = absurd (nil≢cons z)
   carries-S setS l m d q z (single-sent last ina g a b e) = absurd (nil≢cons z)
   carries-S setS l m d q z (first-ready t last ina h a b c e) = absurd (nil≢cons z)
@@ -520,7 +520,7 @@ module _ (i j : ℕ) (set : Settings) (n : ℕ) (out : List ℕ) (E : List Hande
 
     -- the line after a frame that was not the last, and after the last
     pub took-more : (l : Line) (q : List (List ℕ)) (p : Taking) (u k : ℕ) → l .rx ≡ Rx.Awaits p u → TakeAt n out p k (l .ina) → posAt (suc k) < n
-        → tookR l q (frameCame set (receiving l) (frameAt n out k))
+        → tookR l q (frameCame set (takerBerth l) (frameAt n out k))
         ≡ atTaker l (pick (fillsBlock (set .block) (p .taken)) (Rx.OwesGo (grown p 0) 0) (Rx.Awaits (grown p (counted (set .block) (p .taken))) 0)) (l .last) (sets (l .ina) (posAt k) (partAt n out k)) q (l .toS) (l .log) (l .heard ++ []) (l .delivered ++ [])
     unfolding tookR heardBy took afterTook wordReports reported deliveredIn
     took-more l q p u k e r m =
@@ -528,7 +528,7 @@ module _ (i j : ℕ) (set : Settings) (n : ℕ) (out : List ℕ) (E : List Hande
         rw (e, heard-right p u (l .last) (l .ina) k r, g, piece-at p k (l .ina) r, r .got)
 
     pub took-last : (l : Line) (q : List (List ℕ)) (p : Taking) (u k : ℕ) → l .rx ≡ Rx.Awaits p u → TakeAt n out p k (l .ina) → n ≤ posAt (suc k)
-        → tookR l q (frameCame set (receiving l) (frameAt n out k))
+        → tookR l q (frameCame set (takerBerth l) (frameAt n out k))
         ≡ atTaker l Rx.Idle n (sets (l .ina) (posAt k) (partAt n out k)) q (l .toS) (l .log) (l .heard ++ reported j receive N-OK) (l .delivered ++ (n ∷ []))
     unfolding tookR heardBy completed wordReports deliveredIn
     took-last l q p u k e r m =
@@ -538,7 +538,7 @@ module _ (i j : ℕ) (set : Settings) (n : ℕ) (out : List ℕ) (E : List Hande
     take-in-block : (o : Sending) (t : ℕ) (q : List (List ℕ)) (p : Taking) (u last : ℕ) (ina : List ℕ) (k c l : ℕ) (g : List Handed)
         → InBlock q o p ina k (suc c) l g
         → (line : Line) → line ≡ under-way (Tx.Consecutive o t) q [] g (Rx.Awaits p u) last ina
-        → Nearer (pace * suc l + (o .left + suc c)) (tookR line (span n out c (suc k)) (frameCame set (receiving line) (frameAt n out k)))
+        → Nearer (pace * suc l + (o .left + suc c)) (tookR line (span n out c (suc k)) (frameCame set (takerBerth line) (frameAt n out k)))
     take-in-block o t q p u last ina k c l g r line e =
         let m : posAt (suc k) < n = unfold posAt in (omega (arith, r .sender .more)) in
         let room : fillsBlock (set .block) (p .taken) ≡ false = fills-no (set .block) (p .taken) (λ h. let (x, y) = r .counts h in omega arith) in
@@ -559,7 +559,7 @@ module _ (i j : ℕ) (set : Settings) (n : ℕ) (out : List ℕ) (E : List Hande
     take-block-full : (o : Sending) (t : ℕ) (q : List (List ℕ)) (p : Taking) (u last : ℕ) (ina : List ℕ) (k c l : ℕ) (g : List Handed)
         → BlockFull q o p ina k c l g
         → (line : Line) → line ≡ under-way (Tx.AwaitsFlow o t) q [] g (Rx.Awaits p u) last ina
-        → Nearer (pace * suc l + (3 + c)) (tookR line (span n out c (suc k)) (frameCame set (receiving line) (frameAt n out k)))
+        → Nearer (pace * suc l + (3 + c)) (tookR line (span n out c (suc k)) (frameCame set (takerBerth line) (frameAt n out k)))
     unfolding span
     take-block-full o t q p u last ina k zero l g r line e =
         let m : posAt (suc k) < n = unfold posAt in (omega (arith, r .sender .more)) in
@@ -586,7 +586,7 @@ module _ (i j : ℕ) (set : Settings) (n : ℕ) (out : List ℕ) (E : List Hande
 
     take-last : (q : List (List ℕ)) (p : Taking) (u last : ℕ) (ina : List ℕ) (k c : ℕ) (g : List Handed) → LastSent q p ina k c g
         → (line : Line) → line ≡ all-sent q g (Rx.Awaits p u) last ina
-        → Nearer (suc c) (tookR line (span n out c (suc k)) (frameCame set (receiving line) (frameAt n out k)))
+        → Nearer (suc c) (tookR line (span n out c (suc k)) (frameCame set (takerBerth line) (frameAt n out k)))
     unfolding span
     take-last q p u last ina k zero g r line e =
         let m : n ≤ posAt (suc k) = unfold posAt in (omega (arith, r .ahead .last)) in
@@ -631,7 +631,7 @@ module _ (i j : ℕ) (set : Settings) (n : ℕ) (out : List ℕ) (E : List Hande
           rw (first-length n out fit, first-kind n out fit c, first-fits n out fit a c, first-announced n out fit a c, ltb-not (set .area) n in-area, first-data n out fit a)
 
       pub carries-R : (l : Line) (m : ℕ) (d : List ℕ) (q : List (List ℕ)) → l .toR ≡ d ∷ q → Phase l m
-          → Nearer m (tookR l q (frameCame set (receiving l) d))
+          → Nearer m (tookR l q (frameCame set (takerBerth l) d))
       unfolding span
       carries-R l m d q z (single-ready t last ina a b e) = absurd (nil≢cons z)
       carries-R l m d q z (single-sent last ina g a b e) =

@@ -49,10 +49,10 @@ module _ (s : Side) (k : ℕ) where
     set = h .node .settings
 
     -- what is said for the side of the berth's own events
-    abbrev Told : Call → List Event → Type 0
-    Told c es = over (saysFor s c) (saysAll set (partOf k h) es) ≡ sideSays s set (partOf k h) es
+    abbrev SaidAlike : Call → List Event → Type 0
+    SaidAlike c es = over (saysFor s c) (saysAll set (partOf k h) es) ≡ sideSays s set (partOf k h) es
 
-    said-turn : (buffer : List ℕ) → refusal h (turn buffer) ≡ 0 → passedOver (h .node) < berthCount → reached (h .node) ≡ k → Told (turn buffer) (turns ∷ [])
+    said-turn : (buffer : List ℕ) → refusal h (turn buffer) ≡ 0 → passedOver (h .node) < berthCount → reached (h .node) ≡ k → SaidAlike (turn buffer) (turns ∷ [])
     unfolding over saysFor handsFor saysAll says sideSays forSide onlySide partOf
     said-turn buffer e l q =
         let o = in-order-range (h .node) (turn-answered h buffer e .order) in
@@ -60,31 +60,31 @@ module _ (s : Side) (k : ℕ) where
         let small : k < berthCount = rw q at (reached-small (h .node)) in
         rw (handed-side set (partOf k h) (o .settings .area-most) (o .berth k small) d) (alike (sameSide s (turnSide (partOf k h))) _ turns)
 
-    said-done : (c : Call) → refusal h c ≡ 0 → Told c (ownDone k h c)
+    said-done : (c : Call) → refusal h c ≡ 0 → SaidAlike c (ownDone k h c)
     unfolding ownDone over saysFor saysAll says sideSays forSide onlySide
     said-done (frame id d) e =
-        pick-either (Told (frame id d)) (eqb (senderOf id) k) (arrives d ∷ []) [] (λ t. alike (sameSide s (frameSide d)) _ (arrives d)) (λ t. refl)
+        pick-either (SaidAlike (frame id d)) (eqb (senderOf id) k) (arrives d ∷ []) [] (λ t. alike (sameSide s (frameSide d)) _ (arrives d)) (λ t. refl)
     said-done tick e = refl
-    said-done (send j m) e = pick-either (Told (send j m)) (eqb j k) (sends m ∷ []) [] (λ t. alike (sameSide s sendSide) _ (sends m)) (λ t. refl)
+    said-done (send j m) e = pick-either (SaidAlike (send j m)) (eqb j k) (sends m ∷ []) [] (λ t. alike (sameSide s sendSide) _ (sends m)) (λ t. refl)
     said-done (turn buffer) e =
         let b = ltb (passedOver (h .node)) berthCount in
         let c = eqb (reached (h .node)) k in
-        pick-either (Told (turn buffer)) (b && c) (turns ∷ []) [] (λ t. said-turn buffer e (ltb-yes (and-left b c t)) (eqb-yes (and-right b c t))) (λ t. refl)
+        pick-either (SaidAlike (turn buffer)) (b && c) (turns ∷ []) [] (λ t. said-turn buffer e (ltb-yes (and-left b c t)) (eqb-yes (and-right b c t))) (λ t. refl)
     said-done (show j choice) e = refl
 
     side-step : (c : Call) → over (saysFor s c) (saysOf k (outcome h c .answer)) ≡ sideSays s set (partOf k h) (own k h c)
     unfolding own
     side-step c = ap (over (saysFor s c)) (says-step k h c) ∙ go (refusal h c) refl
       where
-        go : (n : ℕ) → refusal h c ≡ n → Told c (unless n (λ m. []) (ownDone k h c))
+        go : (n : ℕ) → refusal h c ≡ n → SaidAlike c (unless n (λ m. []) (ownDone k h c))
         go zero e = said-done c e
         go (suc n) e = unfold saysAll over sideSays in refl
 
     -- the frames of the side in the answer are those in what it says of the side
-    abbrev Handing : Call → Answer → Type 0
-    Handing c a = framesBy s k a ≡ over handedIn (over (saysFor s c) (saysOf k a))
+    abbrev FramesAlike : Call → Answer → Type 0
+    FramesAlike c a = framesBy s k a ≡ over handedIn (over (saysFor s c) (saysOf k a))
 
-    frames-done : (c : Call) → Handing c (reply h c)
+    frames-done : (c : Call) → FramesAlike c (reply h c)
     unfolding reply framesBy saysOf over saysFor handsFor handedIn onlySide
     frames-done (frame id d) =
         pick-either (λ (xs : List Says). [] ≡ over handedIn (over (saysFor s (frame id d)) xs)) (eqb (senderOf id) k) _ _
@@ -103,7 +103,7 @@ module _ (s : Side) (k : ℕ) where
         f = handedAt h (reached (h .node)) .frame
 
         go : Tested (ltb (passedOver (h .node)) berthCount) (passedOver (h .node) < berthCount) (berthCount ≤ passedOver (h .node))
-            → Tested (eqb (reached (h .node)) k) (reached (h .node) ≡ k) (reached (h .node) ≡ k → ⊥) → Handing (turn buffer) (reply h (turn buffer))
+            → Tested (eqb (reached (h .node)) k) (reached (h .node) ≡ k) (reached (h .node) ≡ k → ⊥) → FramesAlike (turn buffer) (reply h (turn buffer))
         go (holds u l) (holds t e) = simp (u, said-to, t) (by (sameSide s (handedSide f)))
           where
             by : (b : Bool) → pick b (f ∷ []) [] ≡ over handedIn (pick b (hands f (handedAt h (reached (h .node)) .code) ∷ []) [] ++ [])
@@ -113,11 +113,11 @@ module _ (s : Side) (k : ℕ) where
         go (fails u l) t = rw u
     frames-done (show j choice) = refl
 
-    frames-step : (c : Call) → Handing c (outcome h c .answer)
+    frames-step : (c : Call) → FramesAlike c (outcome h c .answer)
     unfolding outcome refusedOutcome
     frames-step c = go (refusal h c)
       where
-        go : (n : ℕ) → Handing c (unless n (refusedOutcome h (bufferOf c)) (record { answer = reply h c; held = done h c; buffer = written h c }) .answer)
+        go : (n : ℕ) → FramesAlike c (unless n (refusedOutcome h (bufferOf c)) (record { answer = reply h c; held = done h c; buffer = written h c }) .answer)
         go zero = frames-done c
         go (suc n) = unfold framesBy saysOf over in refl
 

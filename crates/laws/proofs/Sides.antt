@@ -31,13 +31,13 @@ use Rattle.laws.proofs.Reports.{over-append, only-append}
 -- ---- a frame that is no flow control: the send side stays, and nothing depends on it
 
 -- the same with another send side
-unfoldable pub withTx : Tx → Came → Came
-withTx tx c =
+unfoldable pub cameWithTx : Tx → Came → Came
+cameWithTx tx c =
     record { berth = record { rx = c .berth .rx; last = c .berth .last; tx = tx }; old = c .old; word = c .word; place = c .place; bytes = c .bytes }
 
 pub came-receive : (set : Settings) (b : Berth) (d : List ℕ) → (kind d ≡ flowKind → ⊥)
-    → frameCame set b d ≡ withTx (b .tx) (frameCame set (record { rx = b .rx; last = b .last; tx = fresh .tx }) d)
-unfolding frameCame byKind heardBy withTx
+    → frameCame set b d ≡ cameWithTx (b .tx) (frameCame set (record { rx = b .rx; last = b .last; tx = fresh .tx }) d)
+unfolding frameCame byKind heardBy cameWithTx
 came-receive set b d ne =
     rw (eqb-not (kind d) flowKind ne) (go (eqb (length d) 0) (eqb (kind d) singleKind) (eqb (kind d) firstKind) (eqb (kind d) consecutiveKind))
   where
@@ -49,7 +49,7 @@ came-receive set b d ne =
         (pick w (heardBy c (consecutiveCame set (c .rx) (c .last) d))
         (heardBy c (ignored otherKind (c .rx) (c .last))))))
 
-    go : (t u v w : Bool) → by b t u v w ≡ withTx (b .tx) (by (record { rx = b .rx; last = b .last; tx = fresh .tx }) t u v w)
+    go : (t u v w : Bool) → by b t u v w ≡ cameWithTx (b .tx) (by (record { rx = b .rx; last = b .last; tx = fresh .tx }) t u v w)
     go true u v w = refl
     go false true v w = refl
     go false false true w = refl
@@ -185,9 +185,9 @@ module _ (set : Settings) where
           rw (t, came-send set (p .berth) d e, came-send set (sideOf send p .berth) d e) (unfold toldBy in refl)
       go receive (fails t ne) =
           rw (t, came-receive set (p .berth) d ne)
-          (unfold withTx in (sym (ap (λ (c : Came). record { berth = c .berth; incoming = sets (p .incoming) (c .place) (c .bytes); outgoing = [] })
+          (unfold cameWithTx in (sym (ap (λ (c : Came). record { berth = c .berth; incoming = sets (p .incoming) (c .place) (c .bytes); outgoing = [] })
           (came-receive set (sideOf receive p .berth) d ne))))
-      go send (fails t ne) = rw (t, came-receive set (p .berth) d ne) (unfold withTx in refl)
+      go send (fails t ne) = rw (t, came-receive set (p .berth) d ne) (unfold cameWithTx in refl)
   side-after receive p ticks = unfold ticked in refl
   side-after send p ticks = unfold ticked in refl
   side-after receive p (sends m) = unfold sent in refl
@@ -212,7 +212,7 @@ module _ (set : Settings) where
       go receive (holds t e) = rw t
       go send (holds t e) =
           rw (t, came-send set (p .berth) d e, came-send set (sideOf send p .berth) d e) (unfold toldBy in refl)
-      go receive (fails t ne) = rw (t, came-receive set (p .berth) d ne) (unfold withTx in refl)
+      go receive (fails t ne) = rw (t, came-receive set (p .berth) d ne) (unfold cameWithTx in refl)
       go send (fails t ne) = rw t
   side-said receive p ticks = refl
   side-said send p ticks = refl

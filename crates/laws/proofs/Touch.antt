@@ -39,7 +39,7 @@ use Rattle.laws.specs.Sides.{sameSide, sideOf, frameSide, turnSide, forS
 use Rattle.laws.specs.Line.{reportsBy, deliveredIn, isIgnored, tickCode, spares, Spares}
 use Rattle.laws.proofs.Isolation.{said-to, part-step, says-step}
 use Rattle.laws.proofs.Reports.{reports-of}
-use Rattle.laws.proofs.Sides.{withTx, came-receive, came-send, side-alone, side-reports}
+use Rattle.laws.proofs.Sides.{cameWithTx, came-receive, came-send, side-alone, side-reports}
 
 -- ---- ignored frames change nothing, timers included, and have no old code
 
@@ -493,12 +493,12 @@ module _ (k : ℕ) (h : Held) where
     own-carried d l = own-is (frame (fromBerth + k) d) (carried-met d l) ∙ rw (eqb-is (senderOf (fromBerth + k)) k back-again)
 
     -- it is one event of the side it is for, and no frame is handed over
-    pub record Carried (s : Side) (d : List ℕ) : Type 0 where
+    pub record CarriedTo (s : Side) (d : List ℕ) : Type 0 where
       pub part : sideOf s (partOf k (outcome h (frame (fromBerth + k) d) .held)) ≡ partAfter set (sideOf s (partOf k h)) (arrives d)
       pub reported : reportsBy s k (outcome h (frame (fromBerth + k) d) .answer) ≡ saidReports k (says set (sideOf s (partOf k h)) (arrives d))
       pub frames : framesBy s k (outcome h (frame (fromBerth + k) d) .answer) ≡ []
 
-    pub carry : (s : Side) (d : List ℕ) → length d ≤ frameSize → frameSide d ≡ s → Carried s d
+    pub carry : (s : Side) (d : List ℕ) → length d ≤ frameSize → frameSide d ≡ s → CarriedTo s d
     carry s d l e =
         let (x, y) = touched s (frame (fromBerth + k) d) (arrives d) (own-carried d l) (its s e) in
         record { part = x; reported = y; frames = ap (framesBy s k) (answer-is (frame (fromBerth + k) d) (carried-met d l)) ∙ unfold reply framesBy in refl }
@@ -515,7 +515,7 @@ module _ (k : ℕ) (h : Held) where
 
     pub delivered-carried : (d : List ℕ) → length d ≤ frameSize → frameSide d ≡ receive
         → over deliveredIn (saysOf k (outcome h (frame (fromBerth + k) d) .answer)) ≡ deliveredIn (says set (sideOf receive (partOf k h)) (arrives d))
-    unfolding saysAll over says sideOf withTx
+    unfolding saysAll over says sideOf cameWithTx
     delivered-carried d l e =
         delivered-own (frame (fromBerth + k) d) (arrives d ∷ []) (own-carried d l)
         ∙ append-nil _

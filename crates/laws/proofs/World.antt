@@ -41,7 +41,7 @@ use Rattle.laws.proofs.SetUp.{sound-step}
 use Rattle.laws.proofs.Touch.{SparedBy, TickOf, TurnOf, TouchedBy, spared, clocked, turned, touch, carry, delivered-carried, none-delivered, own-is, all-met}
 use Rattle.laws.proofs.Frames.{extended}
 use Rattle.laws.proofs.Exchanged.{there-exchanged, back-exchanged}
-use Rattle.laws.proofs.Line.{Line, atSender, atTaker, Phase, under-way, handS, handR, tickS, tickR, tookR, tookS, receiving, sending, ticks-S, ticks-R, hands-S, hands-R, carries-S, carries-R, there-whole, back-whole, starts, Landed, at-rest}
+use Rattle.laws.proofs.Line.{Line, atSender, atTaker, Phase, under-way, handS, handR, tickS, tickR, tookR, tookS, takerBerth, senderBerth, ticks-S, ticks-R, hands-S, hands-R, carries-S, carries-R, there-whole, back-whole, starts, Landed, at-rest}
 
 -- the two sides and the line between them
 unfoldable pub lineIn : (i j : ℕ) → World → Line
@@ -274,7 +274,7 @@ module _ (i j : ℕ) (small-i : i < berthCount) (small-j : j < berthCount) (set 
   came-A h d = (refl, refl, refl)
 
   pub took-A : (w : World) (d : List ℕ) (q : List (List ℕ)) → Sound (w .a) → length d ≤ frameSize → kind d ≡ flowKind
-      → (lineIn i j (carriedA i w (d ∷ q)) ≡ tookS i j set n out E (lineIn i j w) q (frameCame (w .a .node .settings) (sending i j set n out E (lineIn i j w)) d))
+      → (lineIn i j (carriedA i w (d ∷ q)) ≡ tookS i j set n out E (lineIn i j w) q (frameCame (w .a .node .settings) (senderBerth i j set n out E (lineIn i j w)) d))
       × (partOf i (outcome (w .a) (frame (fromBerth + i) d) .held) .outgoing ≡ partOf i (w .a) .outgoing)
   unfolding lineIn carriedA leftA tookS
   took-A w d q s l e =
@@ -299,7 +299,7 @@ module _ (i j : ℕ) (small-i : i < berthCount) (small-j : j < berthCount) (set 
   came-B h d = (refl, refl, refl)
 
   pub took-B : (w : World) (d : List ℕ) (q : List (List ℕ)) → Sound (w .b) → w .b .node .settings ≡ set → length d ≤ frameSize → (kind d ≡ flowKind → ⊥)
-      → lineIn i j (carriedB j w (d ∷ q)) ≡ tookR i j set n out E (lineIn i j w) q (frameCame set (receiving i j set n out E (lineIn i j w)) d)
+      → lineIn i j (carriedB j w (d ∷ q)) ≡ tookR i j set n out E (lineIn i j w) q (frameCame set (takerBerth i j set n out E (lineIn i j w)) d)
   unfolding lineIn carriedB leftB tookR saidReports
   took-B w d q s same l ne =
       let r = carry j (w .b) s small-j receive d l (side-of-other d ne) in
@@ -310,7 +310,7 @@ module _ (i j : ℕ) (small-i : i < berthCount) (small-j : j < berthCount) (set 
       ((ap (λ (fs : List (List ℕ)). w .toA ++ fs) (r .frames) ∙ append-nil (w .toA)) k)
       ((ap (λ (fs : List (List ℕ)). w .log ++ map back fs) (r .frames) ∙ append-nil (w .log)) k)
       (w .heard ++ (r .reported ∙ ap (saidReports j) c) k) (w .delivered ++ (ds ∙ ap deliveredIn c) k))
-      ∙ ap (λ (x : Settings). tookR i j set n out E (lineIn i j w) q (frameCame x (receiving i j set n out E (lineIn i j w)) d)) same
+      ∙ ap (λ (x : Settings). tookR i j set n out E (lineIn i j w) q (frameCame x (takerBerth i j set n out E (lineIn i j w)) d)) same
 
   -- ---- the two nodes stay sound, the message stays in its area, and the transfer is in one of its phases
 

@@ -38,7 +38,7 @@ use Rattle.rules.proofs.Cases.{Tested, holds, fails, eqb-cases, ltb-cases, pick
 use Rattle.rules.proofs.Ranges.{in-order-range}
 use Rattle.rules.proofs.Areas.{area-same}
 use Rattle.rules.proofs.Order.{berth-ticked}
-use Rattle.rules.proofs.Round.{reached-due}
+use Rattle.rules.proofs.Round.{passed-ten, reached-due}
 use Rattle.rules.proofs.Facts.{consecutive-came, frame-area}
 use Rattle.rules.proofs.Answered.{frame-answered, send-answered, turn-answered}
 use Rattle.node.specs.Promises.{lent, left, Agrees, SetUpPromise, FramePromise, TickPromise, SendPromise, TurnPromise, ShowPromise}
@@ -162,20 +162,15 @@ not-fixed-send h j k m ne e f a =
     not-both (λ i. (n : Node) × (outgoing : List ℕ) × SendPromise (h .node) (h .outgoing) i m a n outgoing) j k (named (sendSays a)) j k ne
     (λ p. names h (send j m) e (p .2 (h .incoming))) (λ p. names h (send k m) f (p .2 (h .incoming)))
 
-least-ten : (served k : ℕ) (bs : List Berth) → leastDistance served k bs ≤ berthCount
-unfolding leastDistance
-least-ten served k [] = omega arith
-least-ten served k (b ∷ bs) = let ih = least-ten served (suc k) bs in omega arith
-
 -- the berths passed over are named, 10 where none is due
 passes : (h : Held) (buffer : List ℕ) → named (reply h (turn buffer)) ≡ passedOver (h .node)
-unfolding reply passedOver
+unfolding reply
 passes h buffer = go (ltb-cases (passedOver (h .node)) berthCount)
   where
     go : Tested (ltb (passedOver (h .node)) berthCount) (passedOver (h .node) < berthCount) (berthCount ≤ passedOver (h .node))
         → named (reply h (turn buffer)) ≡ passedOver (h .node)
     go (holds t l) = rw t
-    go (fails t l) = rw t (omega (arith, least-ten (h .node .served) 0 (h .node .berths)))
+    go (fails t l) = rw t (omega (arith, passed-ten (h .node)))
 
 -- a turn's number stands in its answer, whatever the buffer
 any-buffer : (a : TurnAnswer) (b : List ℕ) → named (turnSays a []) ≡ named (turnSays a b)

@@ -9,7 +9,7 @@ use lib.Seq.{take-at}
 use lib.Dec.{ltb}
 use Rattle.rules.specs.Tests.{firstUnmet}
 use Rattle.rules.specs.Numbers.{berthCount, toBerth, frameSize}
-use Rattle.rules.specs.Nodes.{Held}
+use Rattle.rules.specs.Nodes.{Held, withNode}
 use Rattle.rules.specs.Ticks.{codesOf}
 use Rattle.rules.specs.Events.{Call, frame, tick, send, turn, show, senderOf}
 use Rattle.rules.specs.Stores.{passedOver, reached, cameAt, handedAt, servedNode, setUpNode}
@@ -26,7 +26,7 @@ use Rattle.rules.proofs.Cases.{Tested, holds, fails, ltb-cases}
 use Rattle.rules.proofs.Handed.{handed-fit}
 use Rattle.node.specs.Promises.{lent, left, SetUpPromise, startsAt}
 use Rattle.node.proofs.Outcomes.{agrees, refuses, does}
-use Rattle.runs.specs.Chains.{Step, frames, ticks, sends, turns, shows, Chain, anew, AfterSetUp, madeOf}
+use Rattle.runs.specs.Chains.{Step, frames, ticks, sends, turns, shows, Chain, AfterSetUp, madeOf}
 use Rattle.runs.proofs.Runs.{step-is}
 
 module _ (h : Held) where
@@ -129,5 +129,5 @@ every-set-up n area block stmin = go (setUpRefusal area block stmin) refl
 
 -- and after one with allowed settings every list of calls has a chain
 pub every-after-set-up : (h : Held) (s : Settings) (cs : List Call) → setUpRefusal (s .area) (s .block) (s .stmin) ≡ 0
-    → AfterSetUp h s (setUpNode s) (madeOf (anew h (setUpNode s)) cs)
-every-after-set-up h s cs e = record { ready = every-ready (h .node) s e; chain = every-chain (anew h (setUpNode s)) cs }
+    → AfterSetUp h s (setUpNode s) (madeOf (withNode h (setUpNode s)) cs)
+every-after-set-up h s cs e = record { ready = every-ready (h .node) s e; chain = every-chain (withNode h (setUpNode s)) cs }

@@ -7,7 +7,7 @@ use mathlib.Core.List.{List, [], _∷_, _++_, append-assoc, append-nil, append-c
 use lib.ListN.{length, take, drop}
 use lib.Dec.{T}
 use Rattle.rules.specs.Numbers.{berthCount, consecutiveKind}
-use Rattle.rules.specs.Nodes.{Held}
+use Rattle.rules.specs.Nodes.{Held, withNode}
 use Rattle.rules.specs.Frames.{kind, low, consecutiveFits}
 use Rattle.rules.specs.Arrivals.{missing, piece, frameCame}
 use Rattle.rules.specs.Events.{Event, arrives, ticks}
@@ -22,12 +22,8 @@ use Rattle.rules.proofs.Facts.{consecutive-came}
 use Rattle.node.proofs.PoorNodes.{still-idle, stood-before}
 use Rattle.laws.specs.Own.{over, own, saysOf, freshPart}
 use Rattle.laws.proofs.Isolation.{alone-append, says-append}
-use Rattle.runs.specs.Chains.{Made, Chain, anew, AfterSetUp, saidBy, leftBy, ownIn, OneMore}
+use Rattle.runs.specs.Chains.{Made, Chain, AfterSetUp, saidBy, leftBy, ownIn, OneMore}
 use Rattle.runs.proofs.Runs.{chain-alone-after-set-up}
-
--- two that are not the same
-clash : {X : Type 0} → _≡_ {A = ℕ} 0 1 → X
-clash e = absurd (omega arith)
 
 -- ---- one call more
 
@@ -48,32 +44,32 @@ module _ (k : ℕ) where
   said-more (x ∷ ms) m = ap (λ (r : List Says). saysOf k (x .out .answer) ++ r) (said-more ms m) ∙ sym (append-assoc (saysOf k (x .out .answer)) _ _)
 
 module _ {h : Held} {s : Settings} {n : Node} {ms : List Made} {k : ℕ} {p : Part} {e : Event} {m : Made} (r : OneMore h s n ms k p e m) where
-  own-now : ownIn k (anew h n) (ms ++ m ∷ []) ≡ ownIn k (anew h n) ms ++ (e ∷ [])
-  own-now = own-more k (anew h n) ms m ∙ ap (λ (es : List Event). ownIn k (anew h n) ms ++ es) (r .its)
+  own-now : ownIn k (withNode h n) (ms ++ m ∷ []) ≡ ownIn k (withNode h n) ms ++ (e ∷ [])
+  own-now = own-more k (withNode h n) ms m ∙ ap (λ (es : List Event). ownIn k (withNode h n) ms ++ es) (r .its)
 
   -- what the events before it made of the berth
-  part-before : alone s (freshPart h s k) (ownIn k (anew h n) ms) ≡ p
+  part-before : alone s (freshPart h s k) (ownIn k (withNode h n) ms) ≡ p
   part-before = sym (r .without k (r .small) .part) ∙ r .given
 
   -- DEMAND 3 OF ONE CALL: the berth's part after it is what its own event makes of it alone,
   pub part-now : partOf k (m .out .held) ≡ partAfter s p e
   unfolding alone
   part-now =
-      ap (partOf k) (sym (left-more k (anew h n) ms m)) ∙ r .with k (r .small) .part ∙ ap (alone s _) own-now
-      ∙ alone-append s _ (ownIn k (anew h n) ms) (e ∷ []) ∙ ap (λ (q : Part). partAfter s q e) part-before
+      ap (partOf k) (sym (left-more k (withNode h n) ms m)) ∙ r .with k (r .small) .part ∙ ap (alone s _) own-now
+      ∙ alone-append s _ (ownIn k (withNode h n) ms) (e ∷ []) ∙ ap (λ (q : Part). partAfter s q e) part-before
 
   -- and its answer says of the berth what its own event says alone
   pub says-now : saysOf k (m .out .answer) ≡ says s p e ∷ []
   unfolding saysAll
   says-now =
       append-cancel-left (over (saysOf k) (saidBy ms)) _ _
-      (sym (said-more k ms m) ∙ r .with k (r .small) .says ∙ ap (saysAll s _) own-now ∙ says-append s _ (ownIn k (anew h n) ms) (e ∷ [])
+      (sym (said-more k ms m) ∙ r .with k (r .small) .says ∙ ap (saysAll s _) own-now ∙ says-append s _ (ownIn k (withNode h n) ms) (e ∷ [])
       ∙ ap₂ (λ (l : List Says) (q : Part). l ++ (says s q e ∷ [])) (sym (r .without k (r .small) .says)) part-before)
 
   -- REFUSING, AGAIN: no event of a berth's own is answered with a refusal
   pub refusing-again : (number : ℕ) → m .out .answer ≡ refused number → ⊥
   unfolding saysOf
-  refusing-again number a = let z : [] ≡ says s p e ∷ [] = sym (ap (saysOf k) a) ∙ says-now in clash (cc)
+  refusing-again number a = let z : [] ≡ says s p e ∷ [] = sym (ap (saysOf k) a) ∙ says-now in let f : _≡_ {A = ℕ} 0 1 = cc in omega arith
 
 module _ {h : Held} {s : Settings} {n : Node} {ms : List Made} {k : ℕ} {p : Part} {m : Made} where
   -- DOING NOTHING, AGAIN: a tick of a berth with a side that is not idle does not leave the berth as it was,
@@ -121,12 +117,12 @@ chain-front h (x ∷ ms) m c = (c .0, chain-front (x .out .held) ms m (c .1))
 
 -- EVERY CALL OF THE CODE AFTER A SET-UP is such a call, so a chain in which one of the answers above stands is no run
 pub one-more : {h : Held} {s : Settings} {n : Node} (ms : List Made) (m : Made) (k : ℕ) (e : Event) → AfterSetUp h s n (ms ++ m ∷ []) → k < berthCount
-    → own k (leftBy (anew h n) ms) (m .call) ≡ e ∷ [] → OneMore h s n ms k (partOf k (leftBy (anew h n) ms)) e m
+    → own k (leftBy (withNode h n) ms) (m .call) ≡ e ∷ [] → OneMore h s n ms k (partOf k (leftBy (withNode h n) ms)) e m
 one-more {h} {s} {n} ms m k e r l its =
     record {
       small = l;
       given = refl;
       its = its;
-      without = chain-alone-after-set-up h s n ms (record { ready = r .ready; chain = chain-front (anew h n) ms m (r .chain) });
+      without = chain-alone-after-set-up h s n ms (record { ready = r .ready; chain = chain-front (withNode h n) ms m (r .chain) });
       with = chain-alone-after-set-up h s n (ms ++ m ∷ []) r;
     }

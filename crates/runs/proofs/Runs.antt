@@ -5,7 +5,7 @@ use mathlib.Core.Path.{_≡_, refl, ap, ap₂, _∙_}
 use mathlib.Core.List.{List, [], _∷_, _++_, map}
 use Rattle.rules.specs.Tests.{unless}
 use Rattle.rules.specs.Numbers.{berthCount}
-use Rattle.rules.specs.Nodes.{Held}
+use Rattle.rules.specs.Nodes.{Held, withNode}
 use Rattle.rules.specs.Events.{Call, Event}
 use Rattle.rules.specs.Stores.{setUpNode}
 use Rattle.rules.specs.Answers.{Side, Answer, ready, setUpSays}
@@ -23,7 +23,7 @@ use Rattle.laws.specs.Rounds.{StaysDue, turnOf, Fair}
 use Rattle.laws.proofs.SetUp.{each-alone, each-alone-after-set-up}
 use Rattle.laws.proofs.SideRuns.{side-alone-in-run}
 use Rattle.laws.proofs.Fairness.{fair}
-use Rattle.runs.specs.Chains.{Step, frames, ticks, sends, turns, shows, Made, Chain, anew, AfterSetUp, callsOf, saidBy, leftBy, ownIn, DueIn, EachAlone}
+use Rattle.runs.specs.Chains.{Step, frames, ticks, sends, turns, shows, Made, Chain, AfterSetUp, callsOf, saidBy, leftBy, ownIn, DueIn, EachAlone}
 
 -- EACH CALL'S PROMISE says that it answered and left the rule's outcome.
 pub step-is : {h : Held} {c : Call} {o : Outcome} → Step h c o → o ≡ outcome h c
@@ -36,8 +36,8 @@ step-is {h} (shows k choice part in-at out-at part-at p) = show-is (h .node) (h 
 -- ---- a chain is a run of the rules, from any start
 
 module _ (h : Held) (m : Made) (e : m .out ≡ outcome h (m .call)) where
-  held-is : m .out .held ≡ outcome h (m .call) .held
-  held-is = ap (λ (o : Outcome). o .held) e
+  held-same : m .out .held ≡ outcome h (m .call) .held
+  held-same = ap (λ (o : Outcome). o .held) e
 
 -- A CHAIN answers and leaves, call by call, what the rules say of the same calls.
 pub chain-is : (h : Held) (ms : List Made) → Chain h ms → map (λ (m : Made). m .out) ms ≡ outcomes h (callsOf ms)
@@ -46,7 +46,7 @@ chain-is h [] c = refl
 chain-is h (m ∷ ms) c =
     let e = step-is (c .0) in
     ap₂ (λ (o : Outcome) (rest : List Outcome). o ∷ rest) e
-    (chain-is (m .out .held) ms (c .1) ∙ ap (λ (g : Held). outcomes g (callsOf ms)) (held-is h m e))
+    (chain-is (m .out .held) ms (c .1) ∙ ap (λ (g : Held). outcomes g (callsOf ms)) (held-same h m e))
 
 -- A CHAIN SAYS `answers`,
 pub chain-says : (h : Held) (ms : List Made) → Chain h ms → saidBy ms ≡ answers h (callsOf ms)
@@ -55,14 +55,14 @@ chain-says h [] c = refl
 chain-says h (m ∷ ms) c =
     let e = step-is (c .0) in
     ap₂ (λ (a : Answer) (rest : List Answer). a ∷ rest) (ap (λ (o : Outcome). o .answer) e)
-    (chain-says (m .out .held) ms (c .1) ∙ ap (λ (g : Held). answers g (callsOf ms)) (held-is h m e))
+    (chain-says (m .out .held) ms (c .1) ∙ ap (λ (g : Held). answers g (callsOf ms)) (held-same h m e))
 
 -- AND LEAVES `final`;
 pub chain-leaves : (h : Held) (ms : List Made) → Chain h ms → leftBy h ms ≡ final h (callsOf ms)
 unfolding Chain leftBy final
 chain-leaves h [] c = refl
 chain-leaves h (m ∷ ms) c =
-    chain-leaves (m .out .held) ms (c .1) ∙ ap (λ (g : Held). final g (callsOf ms)) (held-is h m (step-is (c .0)))
+    chain-leaves (m .out .held) ms (c .1) ∙ ap (λ (g : Held). final g (callsOf ms)) (held-same h m (step-is (c .0)))
 
 -- a berth's own events in it are those of the run,
 chain-owns : (k : ℕ) (h : Held) (ms : List Made) → Chain h ms → ownIn k h ms ≡ owns k h (callsOf ms)
@@ -70,14 +70,14 @@ unfolding Chain ownIn owns
 chain-owns k h [] c = refl
 chain-owns k h (m ∷ ms) c =
     ap (λ (es : List Event). own k h (m .call) ++ es)
-    (chain-owns k (m .out .held) ms (c .1) ∙ ap (λ (g : Held). owns k g (callsOf ms)) (held-is h m (step-is (c .0))))
+    (chain-owns k (m .out .held) ms (c .1) ∙ ap (λ (g : Held). owns k g (callsOf ms)) (held-same h m (step-is (c .0))))
 
 -- and what is due in it is due in the run
 chain-due : (k : ℕ) (h : Held) (ms : List Made) → Chain h ms → DueIn k h ms → StaysDue k h (callsOf ms)
 unfolding Chain DueIn StaysDue
 chain-due k h [] c t = tt
 chain-due k h (m ∷ ms) c t =
-    (t .0, rw (held-is h m (step-is (c .0))) at (chain-due k (m .out .held) ms (c .1) (t .1)))
+    (t .0, rw (held-same h m (step-is (c .0))) at (chain-due k (m .out .held) ms (c .1) (t .1)))
 
 -- ---- demand 3
 
@@ -103,7 +103,7 @@ chain-fair k l h ms c t = rw (chain-says h ms c) (fair k l h (callsOf ms) (chain
 
 -- a set-up that is answered Ready was not refused, and left what the rules leave
 module _ (h : Held) (s : Settings) (n : Node) (p : SetUpPromise (h .node) (s .area) (s .block) (s .stmin) SetUpAnswer.Ready n) where
-  set-up-left : left ready (anew h n) [] ≡ setUpOutcome h (s .area) (s .block) (s .stmin)
+  set-up-left : left ready (withNode h n) [] ≡ setUpOutcome h (s .area) (s .block) (s .stmin)
   unfolding setUpSays
   set-up-left = set-up-is (h .node) n (s .area) (s .block) (s .stmin) SetUpAnswer.Ready p (h .incoming) (h .outgoing)
 
@@ -116,7 +116,7 @@ module _ (h : Held) (s : Settings) (n : Node) (p : SetUpPromise (h .node) (s .ar
       go zero e = refl
       go (suc number) e = cc
 
-  ready-held : anew h n ≡ setUp h s
+  ready-held : withNode h n ≡ setUp h s
   ready-held = ap (λ (o : Outcome). o .held) set-up-left
 
 -- DEMAND 3, FIRST HALF, OF THE CODE. Take any chain of calls after a set-up that the code answered with Ready. Each berth's state,
@@ -124,5 +124,5 @@ module _ (h : Held) (s : Settings) (n : Node) (p : SetUpPromise (h .node) (s .ar
 -- the start: its own frames and sends, all ticks, and the turns it received, refused calls left out.
 pub chain-alone-after-set-up : (h : Held) (s : Settings) (n : Node) (ms : List Made) → AfterSetUp h s n ms → EachAlone h s n ms
 chain-alone-after-set-up h s n ms r k l =
-    as-run s (freshPart h s k) k (anew h n) ms (r .chain)
+    as-run s (freshPart h s k) k (withNode h n) ms (r .chain)
     (rw (ready-held h s n (r .ready)) (each-alone-after-set-up h s (callsOf ms) k l (ready-free h s n (r .ready))))
