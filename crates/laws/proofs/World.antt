@@ -1,13 +1,13 @@
 -- THE LINE'S LAW over two nodes. Every deed that keeps apart is, for the two sides and the line between them, nothing, a tick, a
 -- hand-over or a frame that comes in; so a transfer goes from phase to phase, and at rest only the last is left.
 use mathlib.Core.Path.{_≡_, refl, sym, ap, _∙_, subst}
-use Prim.Native.Nat.{ℕ, suc, _+_, _-_, _*_, _≤_, _<_}
+use Prim.Native.Nat.{ℕ, _+_, _-_, _≤_, _<_}
 use native.Mathlib.Omega.{arith}
-use native.Mathlib.Nat.{mul-le-mul-right, zero-add}
+use native.Mathlib.Nat.{zero-add}
 use mathlib.Core.Bool.{true, false, not}
 use mathlib.Core.List.{List, [], _∷_, _++_, map, append-nil}
 use mathlib.Core.Logic.{⊎-elim}
-use lib.ListN.{length, take, replicate, length-take, length-drop}
+use lib.ListN.{length, take, replicate}
 use lib.Seq.{sets, length-sets}
 use lib.Dec.{T}
 use mir.Facts.{yes-eqb, yes-leb, yes-ltb}
@@ -29,6 +29,7 @@ use Rattle.rules.specs.declared.Choice.{Choice}
 use Rattle.rules.specs.declared.Rx.{Rx}
 use Rattle.rules.specs.declared.Tx.{Tx}
 use Rattle.rules.specs.declared.Berth.{Berth}
+use Rattle.rules.proofs.Areas.{area-length}
 use Rattle.rules.proofs.Cases.{is-true, eqb-is, eqb-not, or-cases}
 use Rattle.rules.proofs.Ranges.{range-in-order}
 use Rattle.rules.proofs.Facts.{set-up-refusal-leaves}
@@ -468,12 +469,6 @@ sent-part h k m e =
     let p : partOf k (outcome h (send k m) .held) ≡ alone (h .node .settings) (partOf k h) (sends m ∷ []) =
     part-step k h (send k m) ∙ ap (alone (h .node .settings) (partOf k h)) own-k in
     (ap (λ (x : Part). x .berth .tx) p, ap (λ (x : Part). x .outgoing) p)
-
-area-length : (a k : ℕ) (store : List ℕ) → k < berthCount → length store ≡ berthCount * a → length (areaOf a k store) ≡ a
-unfolding areaOf
-area-length a k store h e =
-    let m : suc k * a ≤ berthCount * a = mul-le-mul-right a h in
-    simp (length-take, length-drop) (omega arith)
 
 sent-bytes : (l m out : List ℕ) → out ≡ sets l 0 m → length m ≤ length l → take (length m) out ≡ m
 sent-bytes l m out e h = rw e (rw (zero-add (length m)) at (extended l 0 m (length m) refl (omega arith)))

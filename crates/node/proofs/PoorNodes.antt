@@ -5,7 +5,7 @@ use native.Mathlib.Omega.{arith}
 use native.Mathlib.Nat.{mul-le-mul-right}
 use mathlib.Core.Path.{_≡_, refl, sym, ap, _∙_}
 use mathlib.Core.List.{List, [], _∷_, _++_, append-assoc}
-use lib.ListN.{length, getD, take, drop, replicate, length-take, length-drop}
+use lib.ListN.{length, getD, take, drop, replicate}
 use lib.Seq.{sets, sets-eq, take-at, drop-at, getD-set-same, length-take-le}
 use lib.Dec.{T, eqb, ltb}
 use Rattle.rules.specs.Tests.{all, each, firstUnmet}
@@ -36,7 +36,7 @@ use Rattle.rules.specs.declared.SendAnswer.{SendAnswer}
 use Rattle.rules.specs.declared.TurnAnswer.{TurnAnswer}
 use Rattle.rules.proofs.Cases.{Tested, holds, fails, eqb-cases, ltb-cases, pick-either}
 use Rattle.rules.proofs.Ranges.{in-order-range}
-use Rattle.rules.proofs.Areas.{area-same}
+use Rattle.rules.proofs.Areas.{area-length, area-same}
 use Rattle.rules.proofs.Order.{berth-ticked}
 use Rattle.rules.proofs.Round.{passed-ten, reached-due}
 use Rattle.rules.proofs.Facts.{consecutive-came, frame-area}
@@ -261,13 +261,6 @@ bytes-there l at v h =
     ap (λ (x : List ℕ). take (length v) (drop at x)) (sets-eq v l at h ∙ append-assoc (take at l) v (drop (at + length v) l))
     ∙ ap (take (length v)) (drop-at (take at l) (v ++ drop (at + length v) l) at (length-take-le at l (omega arith)))
     ∙ take-at v (drop (at + length v) l) (length v) refl
-
--- berth k's area of a store of ten has A bytes
-area-length : (a k : ℕ) (store : List ℕ) → k < berthCount → length store ≡ berthCount * a → length (areaOf a k store) ≡ a
-unfolding areaOf
-area-length a k store h e =
-    let m : suc k * a ≤ berthCount * a = mul-le-mul-right a h in
-    simp (length-take, length-drop) (omega arith)
 
 -- BYTES PUT DOWN leave an area as it was only if they stood there before
 pub stood-before : (area : List ℕ) (at : ℕ) (v : List ℕ) → at + length v ≤ length area → sets area at v ≡ area → take (length v) (drop at area) ≡ v
