@@ -9,8 +9,8 @@ use Rattle.arrivals.specs.declared.Heard.{Heard}
 use Rattle.arrivals.specs.declared.Told.{Told}
 use Rattle.arrivals.specs.declared.Came.{Came}
 
-unfoldable pub heardOf : Heard → List ℕ → rule.Heard
-heardOf r d =
+unfoldable pub asHeard : Heard → List ℕ → rule.Heard
+asHeard r d =
     record {
       rx = r .rx;
       last = r .last;
@@ -22,7 +22,7 @@ heardOf r d =
 
 -- at a frame d the struct says what the rule says, and the part lies within the frame
 pub record Hears (r : Heard) (d : List ℕ) (h : rule.Heard) : Type 0 where
-  pub same : heardOf r d ≡ h
+  pub same : asHeard r d ≡ h
   pub within : r .from + r .count ≤ length d
 
 unfoldable pub toldOf : Told → rule.Told

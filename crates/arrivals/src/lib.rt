@@ -6,7 +6,7 @@ ghost use mathlib.Core.Path.{_≡_};
 ghost use mathlib.Core.List.{List, []};
 ghost use Prim.Native.Nat.{ℕ, _+_, _≤_, _<_};
 ghost use lib.ListN.{length};
-ghost use Rattle.rules.specs.Numbers.{frameLength, leastFlow, consecutiveMost};
+ghost use Rattle.rules.specs.Numbers.{frameSize, leastFlow, consecutiveMost};
 ghost use Rattle.rules.specs.Frames.{share};
 ghost use Rattle.rules.specs.Ranges.{TakingRange, RxRange, BerthRange};
 ghost use Rattle.rules.specs.Arrivals.{Heard as HeardRule, ignored, oldCode, singleCame, taking, begun, firstCame, missing, piece, grown, afterTook, awaitedCame, consecutiveCame, granted, byStatus, flowIgnored, flowCame, heardBy, toldBy, byKind, frameCame};
@@ -110,7 +110,7 @@ fn taking(n: u32) -> Taking
 }
 
 fn begun(n: u32, rx: Rx) -> Heard
-    ensures { λ r. ⌜ ((d : List ℕ) → length d ≡ frameLength → Hears r d (begun n rx d)) ⌝ }
+    ensures { λ r. ⌜ ((d : List ℕ) → length d ≡ frameSize → Hears r d (begun n rx d)) ⌝ }
 {
     let p = taking(n);
     Heard {

@@ -1,5 +1,6 @@
 // The loops: so many calls of one kind, each from the same node, which is passed by value or, as a local, lent.
 use crate::sums;
+use rules::Choice;
 use rules::Node;
 
 pub(crate) fn frame(
@@ -109,10 +110,10 @@ pub(crate) fn show<'a>(
     let mut i: u64 = 0;
     while i < count {
         if lent {
-            let part = carumpek::local::show(node, incoming, outgoing, berth, true);
+            let part = carumpek::local::show(node, incoming, outgoing, berth, Choice::Sending);
             sum = sums::add(sum, sums::add(part.len() as u64, sums::of_node(node)));
         } else {
-            let part = node::show(node, incoming, outgoing, berth, true);
+            let part = node::show(node, incoming, outgoing, berth, Choice::Sending);
             sum = sums::add(sum, sums::add(part.len() as u64, sums::of_node(node)));
         }
         i += 1;

@@ -4,18 +4,21 @@
 // Its words: FORM CALL SITUATION A LENGTH BUSY COUNT.
 // FORM: value, lent. CALL: frame, tick, send, turn, show, or nothing, a turn of the same loop without a call.
 // SITUATION: idle, busy, refused. LENGTH: of each message under way, and of the one that is sent. BUSY: how many berths are busy.
+mod asked;
 mod calls;
 mod loads;
 mod sums;
 mod words;
 
 ghost use Prim.Native.Nat.{_≤_};
+use crate::asked::Asked;
+use crate::asked::Call;
 use rules::Node;
 
 // So many calls of one kind.
 fn made(
     lent: bool,
-    call: u8,
+    call: Call,
     count: u64,
     node: Node,
     berth: u32,
@@ -26,30 +29,32 @@ fn made(
     buffer: &mut [u8],
 ) -> u64 {
     match call {
-        b'r' => calls::frame(count, lent, node, incoming, berth, payload),
-        b'i' => calls::tick(count, lent, node),
-        b'e' => calls::send(count, lent, node, outgoing, berth, message),
-        b'u' => calls::turn(count, lent, node, outgoing, buffer),
-        b'h' => calls::show(count, lent, node, incoming, outgoing, berth),
-        _ => sums::nothing(count, node),
+        Call::Frame => calls::frame(count, lent, node, incoming, berth, payload),
+        Call::Tick => calls::tick(count, lent, node),
+        Call::Send => calls::send(count, lent, node, outgoing, berth, message),
+        Call::Turn => calls::turn(count, lent, node, outgoing, buffer),
+        Call::Show => calls::show(count, lent, node, incoming, outgoing, berth),
+        Call::Nothing => sums::nothing(count, node),
     }
 }
 
 // Lends the calls what they are lent: of the two stores, of the message, the frame and the buffer as much as the load says.
-fn run(form: u8, call: u8, situation: u8, count: u64, node: Node, load: loads::Load) -> u64
+fn run(lent: bool, asked: Asked, count: u64, node: Node, load: loads::Load) -> u64
     requires { ⌜ (load .size ≤ 40950) × (load .came ≤ 9) × (load .sending ≤ 4095) × (load .room ≤ 8) ⌝ }
 {
     let mut incoming = loads::store();
     let mut outgoing = loads::store();
     let mut buffer = [0u8; 8];
     let message = loads::rising();
+    let call = asked.call;
+    let situation = asked.situation;
     let payload = loads::payload(situation);
     let size = load.size;
     let sending = load.sending;
     let came = load.came;
     let room = load.room;
     made(
-        form == b'l',
+        lent,
         call,
         count,
         node,
@@ -63,16 +68,22 @@ fn run(form: u8, call: u8, situation: u8, count: u64, node: Node, load: loads::L
 }
 
 fn main() {
-    let form = words::first(1);
-    let call = words::second(2);
-    let situation = words::first(3);
-    let area = words::number(4, 4095) as u32;
-    let length = words::number(5, 4095) as u32;
-    let busy = words::number(6, 10) as usize;
-    let count = words::number(7, 99999999);
-    let node = loads::node(call, situation, area, length, busy);
-    let load = loads::lending(call, situation, area, length);
-    let sum = run(form, call, situation, count, node, load);
+    let asked = Asked {
+        call: words::call(2),
+        situation: words::situation(3),
+        area: words::number(4, 4095) as u32,
+        length: words::number(5, 4095) as u32,
+        busy: words::number(6, 10) as usize,
+    };
+    let node = loads::node(asked);
+    let load = loads::lending(asked);
+    let sum = run(
+        words::is_lent(1),
+        asked,
+        words::number(7, 99999999),
+        node,
+        load,
+    );
     // the highest bit is set, so that every sum costs the same to print
     io::print_hex(libc::STDOUT_FILENO, sums::add(sum, 0x8000000000000000), 16);
 }

@@ -1,8 +1,7 @@
 // Paper 01, "Ticks and turns", a tick at one berth: its two sides after it, and the code of each.
 ghost use mathlib.Core.Path.{_≡_};
 ghost use Prim.Native.Nat.{_<_};
-ghost use Rattle.rules.specs.Ticks.{ran, rxTicked, rxCode, closer, txTicked, txCode, ticked};
-ghost use Rattle.rules.specs.Calls.{codesOf};
+ghost use Rattle.rules.specs.Ticks.{ran, rxTicked, rxCode, closer, txTicked, txCode, ticked, codesOf};
 use rules::Berth;
 use rules::Codes;
 use rules::Rx;

@@ -5,7 +5,7 @@ ghost use mathlib.Core.Bool.{true};
 ghost use mathlib.Core.List.{[], _∷_};
 ghost use Prim.Native.Nat.{_≤_, _<_};
 ghost use lib.ListN.{length, take, drop};
-ghost use Rattle.rules.specs.Numbers.{leastArea, largestArea, snCount, flowKind, frameLength, singleMost, firstBytes, consecutiveMost};
+ghost use Rattle.rules.specs.Numbers.{leastArea, largestArea, snCount, flowKind, frameSize, singleMost, firstBytes, consecutiveMost};
 ghost use Rattle.rules.specs.Frames.{headed, singleFrame, firstFrame, consecutiveFrame, share};
 ghost use Rattle.rules.specs.Ranges.{SendingRange, TxRange, BerthRange};
 ghost use Rattle.rules.specs.Turns.{flowDue, messageDue, due, flowFrame, afterFlow, toGo, messageFrame, messageCode, opened, moved, afterConsecutive, afterMessage, handOver, beginsWith, sent, lengthSending, busy};
@@ -52,7 +52,7 @@ pub fn due(berth: Berth) -> bool
 }
 
 fn flow_control(status: u8, block: u8, stmin: u8, frame: &mut [u8])
-    requires { ⌜ (status < 16) × (length (now frame) ≡ frameLength) ⌝ }
+    requires { ⌜ (status < 16) × (length (now frame) ≡ frameSize) ⌝ }
     ensures { λ _. ⌜ now (frame .exit) ≡ headed flowKind status (block ∷ stmin ∷ []) ⌝ }
 {
     let piece = [block, stmin];
@@ -61,7 +61,7 @@ fn flow_control(status: u8, block: u8, stmin: u8, frame: &mut [u8])
 
 // Flow control that is owed, into the frame.
 fn flow_frame(settings: Settings, rx: Rx, frame: &mut [u8])
-    requires { ⌜ (flowDue rx ≡ true) × (length (now frame) ≡ frameLength) ⌝ }
+    requires { ⌜ (flowDue rx ≡ true) × (length (now frame) ≡ frameSize) ⌝ }
     ensures { λ _. ⌜ now (frame .exit) ≡ flowFrame settings rx ⌝ }
 {
     match rx {
@@ -97,7 +97,7 @@ fn to_go(o: Sending) -> u32
 }
 
 fn single_frame(n: u32, area: &[u8], frame: &mut [u8])
-    requires { ⌜ (n ≤ singleMost) × (n ≤ length (now area)) × (length (now frame) ≡ frameLength) ⌝ }
+    requires { ⌜ (n ≤ singleMost) × (n ≤ length (now area)) × (length (now frame) ≡ frameSize) ⌝ }
     ensures { λ _. ⌜ now (frame .exit) ≡ singleFrame (take n (now (area .entry))) ⌝ }
 {
     let e = n as usize;
@@ -105,7 +105,7 @@ fn single_frame(n: u32, area: &[u8], frame: &mut [u8])
 }
 
 fn first_frame(n: u32, area: &[u8], frame: &mut [u8])
-    requires { ⌜ (n ≤ largestArea) × (firstBytes ≤ length (now area)) × (length (now frame) ≡ frameLength) ⌝ }
+    requires { ⌜ (n ≤ largestArea) × (firstBytes ≤ length (now area)) × (length (now frame) ≡ frameSize) ⌝ }
     ensures { λ _. ⌜ now (frame .exit) ≡ firstFrame n (take firstBytes (now (area .entry))) ⌝ }
 {
     let head = [rules::FIRST_KIND * 16 + (n / 256) as u8, (n % 256) as u8];
@@ -114,7 +114,7 @@ fn first_frame(n: u32, area: &[u8], frame: &mut [u8])
 }
 
 fn consecutive_frame(o: Sending, area: &[u8], frame: &mut [u8])
-    requires { ⌜ (o .position < o .length) × (o .length ≤ length (now area)) × (o .sn .0 < snCount) × (length (now frame) ≡ frameLength) ⌝ }
+    requires { ⌜ (o .position < o .length) × (o .length ≤ length (now area)) × (o .sn .0 < snCount) × (length (now frame) ≡ frameSize) ⌝ }
     ensures { λ _. ⌜ now (frame .exit) ≡ consecutiveFrame (o .sn) (take (share consecutiveMost (toGo o)) (drop (o .position) (now (area .entry)))) ⌝ }
 {
     let sn = o.sn.0;
@@ -125,7 +125,7 @@ fn consecutive_frame(o: Sending, area: &[u8], frame: &mut [u8])
 
 // A message's frame that is due, into the frame.
 fn message_frame(settings: Settings, tx: Tx, area: &[u8], frame: &mut [u8])
-    requires { ⌜ (messageDue tx ≡ true) × TxRange settings tx × (settings .area ≤ largestArea) × (leastArea ≤ settings .area) × (length (now area) ≡ settings .area) × (length (now frame) ≡ frameLength) ⌝ }
+    requires { ⌜ (messageDue tx ≡ true) × TxRange settings tx × (settings .area ≤ largestArea) × (leastArea ≤ settings .area) × (length (now area) ≡ settings .area) × (length (now frame) ≡ frameSize) ⌝ }
     ensures { λ _. ⌜ now (frame .exit) ≡ messageFrame tx (now (area .entry)) ⌝ }
 {
     match tx {
@@ -222,7 +222,7 @@ pub struct Handed {
 }
 
 pub fn hand_over(settings: Settings, berth: Berth, area: &[u8], frame: &mut [u8]) -> Handed
-    requires { ⌜ (due berth ≡ true) × BerthRange settings berth × (leastArea ≤ settings .area) × (settings .area ≤ largestArea) × (length (now area) ≡ settings .area) × (length (now frame) ≡ frameLength) ⌝ }
+    requires { ⌜ (due berth ≡ true) × BerthRange settings berth × (leastArea ≤ settings .area) × (settings .area ≤ largestArea) × (length (now area) ≡ settings .area) × (length (now frame) ≡ frameSize) ⌝ }
     ensures { λ r. ⌜ handedOf r (now (frame .exit)) ≡ handOver settings berth (now (area .entry)) ⌝ }
 {
     let rx = berth.rx;

@@ -2,9 +2,9 @@
 -- determines the entry determines: two answers and two nodes at exit, stores and buffers that meet it are equal.
 use Prim.Native.Nat.{ℕ}
 use mathlib.Core.Path.{_≡_}
-use mathlib.Core.Bool.{Bool}
 use mathlib.Core.List.{List}
 use Rattle.rules.specs.declared.Node.{Node}
+use Rattle.rules.specs.declared.Choice.{Choice}
 use Rattle.rules.specs.declared.SetUpAnswer.{SetUpAnswer}
 use Rattle.rules.specs.declared.FrameAnswer.{FrameAnswer}
 use Rattle.rules.specs.declared.TickAnswer.{TickAnswer}
@@ -33,7 +33,7 @@ module _ (entry exit₁ exit₂ : Node) where
       → TurnPromise entry outgoing buffer a exit₁ b₁ → TurnPromise entry outgoing buffer b exit₂ b₂ → (a ≡ b) × (exit₁ ≡ exit₂) × (b₁ ≡ b₂)
   turn-determined = by-value.turn-determined entry exit₁ exit₂
 
-pub show-determined : (n : Node) (incoming outgoing : List ℕ) (k : ℕ) (choice : Bool) (p₁ p₂ : List ℕ) (in-at out-at at₁ at₂ : ℕ × ℕ)
+pub show-determined : (n : Node) (incoming outgoing : List ℕ) (k : ℕ) (choice : Choice) (p₁ p₂ : List ℕ) (in-at out-at at₁ at₂ : ℕ × ℕ)
     → ShowPromise n incoming outgoing k choice p₁ in-at out-at at₁ → ShowPromise n incoming outgoing k choice p₂ in-at out-at at₂
     → (p₁ ≡ p₂) × (at₁ ≡ at₂)
 show-determined = by-value.show-determined

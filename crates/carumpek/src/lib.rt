@@ -4,6 +4,7 @@
 pub mod local;
 
 ghost use Rattle.node.specs.Promises.{SetUpPromise, FramePromise, TickPromise, SendPromise, TurnPromise, ShowPromise, NeededPromise};
+use rules::Choice;
 use rules::FrameAnswer;
 use rules::Node;
 use rules::SendAnswer;
@@ -62,7 +63,7 @@ pub fn show<'a>(
     incoming: &'a [u8],
     outgoing: &'a [u8],
     berth: u32,
-    choice: bool,
+    choice: Choice,
 ) -> &'a [u8]
     ensures { λ r. ⌜ ShowPromise (now (node .entry)) (now (incoming .entry)) (now (outgoing .entry)) berth choice (now r) (incoming .entry .ptr) (outgoing .entry .ptr) (r .ptr) ⌝ }
 {

@@ -6,6 +6,7 @@ use node::SendOut;
 use node::SetUpOut;
 use node::TickOut;
 use node::TurnOut;
+use rules::Choice;
 use rules::Node;
 
 pub fn set_up(node: Node, area: u32, block: u32, stmin: u32) -> SetUpOut
@@ -68,7 +69,7 @@ pub fn show<'a>(
     incoming: &'a [u8],
     outgoing: &'a [u8],
     berth: u32,
-    choice: bool,
+    choice: Choice,
 ) -> &'a [u8]
     ensures { λ r. ⌜ ShowPromise node (now (incoming .entry)) (now (outgoing .entry)) berth choice (now r) (incoming .entry .ptr) (outgoing .entry .ptr) (r .ptr) ⌝ }
 {

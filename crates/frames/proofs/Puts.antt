@@ -7,7 +7,7 @@ use mathlib.Core.List.{List, [], _++_, append-assoc}
 use lib.ListN.{length, take, drop, replicate, length-append, length-take, length-drop, length-replicate, take-append-drop, replicate-append-replicate, drop-of-length-le}
 use lib.Seq.{sets, sets-eq, take-length, take-take, take-add, take-at, drop-at, drop-append-le, drop-append-add, drop-drop}
 use borrow.Rule.Slice.PartMut.{putMid}
-use Rattle.rules.specs.Numbers.{frameLength, filler}
+use Rattle.rules.specs.Numbers.{frameSize, filler}
 use Rattle.rules.specs.Frames.{padded}
 
 -- what lies behind the first n of a part, and behind the part, is what lies behind the n
@@ -51,25 +51,25 @@ fewer n k h =
     ∙ ap (drop k) (sym (replicate-append-replicate k (n - k) filler))
     ∙ drop-at (replicate k filler) (replicate (n - k) filler) k (length-replicate k filler)
 
-module _ (frame blank headed laid head piece : List ℕ) (whole : length frame ≡ frameLength) (fits : length head + length piece ≤ frameLength) where
+module _ (frame blank headed laid head piece : List ℕ) (whole : length frame ≡ frameSize) (fits : length head + length piece ≤ frameSize) where
   abbrev rest : ℕ
   rest = length headed - length head
 
   pub laid-out :
-      blank ≡ take frameLength (replicate frameLength filler) ++ drop frameLength frame →
+      blank ≡ take frameSize (replicate frameSize filler) ++ drop frameSize frame →
       headed ≡ take (length head) head ++ drop (length head) blank →
       laid ≡ take (length piece) piece ++ drop (length piece) (take rest (drop (length head) headed)) →
       putMid (length head) rest headed laid ≡ padded (head ++ piece)
   unfolding padded
   laid-out first second third =
-      let none : drop frameLength frame ≡ [] = drop-of-length-le frame {i = frameLength} (omega arith) in
-      let filled : blank ≡ replicate frameLength filler = first ∙ rw none in
-      let behind = replicate (frameLength - length head) filler in
-      let h : headed ≡ head ++ behind = second ∙ rw (take-length, filled, fewer frameLength (length head) (omega arith)) in
-      let l : length headed ≡ frameLength = rw h (simp (length-append, length-replicate) (omega arith)) in
+      let none : drop frameSize frame ≡ [] = drop-of-length-le frame {i = frameSize} (omega arith) in
+      let filled : blank ≡ replicate frameSize filler = first ∙ rw none in
+      let behind = replicate (frameSize - length head) filler in
+      let h : headed ≡ head ++ behind = second ∙ rw (take-length, filled, fewer frameSize (length head) (omega arith)) in
+      let l : length headed ≡ frameSize = rw h (simp (length-append, length-replicate) (omega arith)) in
       let down = put-down headed (length head) rest piece (omega arith) (omega arith) in
-      let left : frameLength - length head - length piece ≡ frameLength - length (head ++ piece) = simp length-append (omega arith) in
+      let left : frameSize - length head - length piece ≡ frameSize - length (head ++ piece) = simp length-append (omega arith) in
       ap (putMid (length head) rest headed) third
       ∙ down
       ∙ sets-eq piece headed (length head) (omega arith)
-      ∙ rw (h, take-at head behind (length head) refl, drop-append-add, fewer (frameLength - length head) (length piece) (omega arith), left)
+      ∙ rw (h, take-at head behind (length head) refl, drop-append-add, fewer (frameSize - length head) (length piece) (omega arith), left)

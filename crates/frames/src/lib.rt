@@ -3,7 +3,7 @@ ghost use mathlib.Core.Path.{_≡_};
 ghost use mathlib.Core.List.{_++_};
 ghost use Prim.Native.Nat.{_+_, _-_, _≤_, _<_};
 ghost use lib.ListN.{length};
-ghost use Rattle.rules.specs.Numbers.{frameLength, consecutiveMost};
+ghost use Rattle.rules.specs.Numbers.{frameSize, consecutiveMost};
 ghost use Rattle.rules.specs.Ranges.{BlockRange};
 ghost use Rattle.rules.specs.Frames.{kind, low, singleFits, shortLength, escapeLength, announced, firstFits, consecutiveFits, flowFits, padded, headed, counted, fillsBlock, gapOf, share, framesNeeded};
 
@@ -34,25 +34,25 @@ pub fn single_fits(frame: &[u8]) -> bool
 {
     let l = wide(low(frame));
     let n = frame.len();
-    (1 <= l) & (l <= rules::SINGLE_MOST) & ((n == rules::FRAME_LENGTH) | (n == l as usize + 1))
+    (1 <= l) & (l <= rules::SINGLE_MOST) & ((n == rules::FRAME_SIZE) | (n == l as usize + 1))
 }
 
 fn short_length(frame: &[u8]) -> u32
-    requires { ⌜ length (now frame) ≡ frameLength ⌝ }
+    requires { ⌜ length (now frame) ≡ frameSize ⌝ }
     ensures { λ r. ⌜ r ≡ shortLength (now (frame .entry)) ⌝ }
 {
     wide(low(frame)) * 256 + wide(frame[1])
 }
 
 fn escape_length(frame: &[u8]) -> u32
-    requires { ⌜ length (now frame) ≡ frameLength ⌝ }
+    requires { ⌜ length (now frame) ≡ frameSize ⌝ }
     ensures { λ r. ⌜ r ≡ escapeLength (now (frame .entry)) ⌝ }
 {
     ((wide(frame[2]) * 256 + wide(frame[3])) * 256 + wide(frame[4])) * 256 + wide(frame[5])
 }
 
 pub fn announced(frame: &[u8]) -> u32
-    requires { ⌜ length (now frame) ≡ frameLength ⌝ }
+    requires { ⌜ length (now frame) ≡ frameSize ⌝ }
     ensures { λ r. ⌜ r ≡ announced (now (frame .entry)) ⌝ }
 {
     let short = short_length(frame);
@@ -65,7 +65,7 @@ pub fn announced(frame: &[u8]) -> u32
 pub fn first_fits(frame: &[u8]) -> bool
     ensures { λ r. ⌜ r ≡ firstFits (now (frame .entry)) ⌝ }
 {
-    if frame.len() != rules::FRAME_LENGTH {
+    if frame.len() != rules::FRAME_SIZE {
         return false;
     }
     let short = short_length(frame);
@@ -79,19 +79,18 @@ pub fn consecutive_fits(missing: u32, frame: &[u8]) -> bool
     ensures { λ r. ⌜ r ≡ consecutiveFits missing (now (frame .entry)) ⌝ }
 {
     let n = frame.len();
-    (n == rules::FRAME_LENGTH)
-        | ((missing <= rules::CONSECUTIVE_MOST) & (n == missing as usize + 1))
+    (n == rules::FRAME_SIZE) | ((missing <= rules::CONSECUTIVE_MOST) & (n == missing as usize + 1))
 }
 
 pub fn flow_fits(frame: &[u8]) -> bool
     ensures { λ r. ⌜ r ≡ flowFits (now (frame .entry)) ⌝ }
 {
-    (rules::LEAST_FLOW <= frame.len()) & (frame.len() <= rules::FRAME_LENGTH)
+    (rules::LEAST_FLOW <= frame.len()) & (frame.len() <= rules::FRAME_SIZE)
 }
 
 // The head and the piece, filled up with CC.
 pub fn lay_out(frame: &mut [u8], head: &[u8], piece: &[u8])
-    requires { ⌜ (length (now frame) ≡ frameLength) × (length (now head) + length (now piece) ≤ frameLength) ⌝ }
+    requires { ⌜ (length (now frame) ≡ frameSize) × (length (now head) + length (now piece) ≤ frameSize) ⌝ }
     ensures { λ _. ⌜ now (frame .exit) ≡ padded (now (head .entry) ++ now (piece .entry)) ⌝ }
 {
     let blank = [rules::FILLER; 8];
@@ -103,7 +102,7 @@ pub fn lay_out(frame: &mut [u8], head: &[u8], piece: &[u8])
 
 // A frame whose first byte has these halves.
 pub fn headed(frame: &mut [u8], kind: u8, low: u8, piece: &[u8])
-    requires { ⌜ (length (now frame) ≡ frameLength) × (kind < 16) × (low < 16) × (length (now piece) < frameLength) ⌝ }
+    requires { ⌜ (length (now frame) ≡ frameSize) × (kind < 16) × (low < 16) × (length (now piece) < frameSize) ⌝ }
     ensures { λ _. ⌜ now (frame .exit) ≡ headed kind low (now (piece .entry)) ⌝ }
 {
     let head = [kind * 16 + low];

@@ -7,16 +7,19 @@ use lib.ListN.{set, replicate}
 use lib.Dec.{lit<, lit≤}
 use Rattle.rules.specs.Tests.{all, each, firstUnmet}
 use Rattle.rules.specs.Numbers.{berthCount}
-use Rattle.rules.specs.Ranges.{settingsAllowed, inBlock, takingInRange, sendingInRange, berthInOrder, fresh, berthAt, inOrder}
+use Rattle.rules.specs.Nodes.{fresh, berthAt, Held, withBerth}
+use Rattle.rules.specs.Ranges.{settingsAllowed, inBlock, takingInRange, sendingInRange, berthInOrder, inOrder}
 use Rattle.rules.specs.Frames.{kind, low, singleFits, shortLength, escapeLength, announced, firstFits, consecutiveFits, flowFits, padded, singleFrame, firstFrame, consecutiveFrame, goFrame, firstSn, nextSn, counted, fillsBlock, gapOf, share}
 use Rattle.rules.specs.Arrivals.{ignored, singleCame, begun, firstCame, piece, grown, completed, afterTook, took, wrongSn, awaitedCame, granted, byStatus, heardBy, toldBy, byKind, frameCame}
-use Rattle.rules.specs.Ticks.{ran, ticked}
+use Rattle.rules.specs.Ticks.{ran, ticked, codesOf}
 use Rattle.rules.specs.Turns.{due, moved, afterConsecutive, handOver, beginsWith, sent as sentBerth}
-use Rattle.rules.specs.Stores.{Held, rightStore, areaOf, stored, inside, withBerth, tickedNode, servedNode, setUpNode, distance, leastDistance, passedOver, reached, cameAt, handedAt}
+use Rattle.rules.specs.Stores.{rightStore, areaOf, stored, inside, tickedNode, servedNode, setUpNode, distance, leastDistance, passedOver, reached, cameAt, handedAt}
 use Rattle.rules.specs.Answers.{refused, heard, codes, sent, handed, shown, receive, reported, failedSide, wordReports, codesReports, reports}
-use Rattle.rules.specs.Refusals.{Call, frame, tick, send, turn, show, needs, refusal}
-use Rattle.rules.specs.Calls.{showable, shownLength, showing, afterFrame, done, codesOf, reply, written, refusedOutcome, outcome, answers, final}
-use Rattle.rules.specs.Alone.{partOf, arrives, ticks, sends, turns}
+use Rattle.rules.specs.Events.{Call, frame, tick, send, turn, show, arrives, ticks, sends, turns}
+use Rattle.rules.specs.Refusals.{needs, refusal}
+use Rattle.rules.specs.Calls.{showable, shownLength, showing, afterFrame, done, reply, written, refusedOutcome, outcome, answers, final}
+use Rattle.rules.specs.Alone.{partOf}
+use Rattle.rules.specs.declared.Choice.{Choice}
 use Rattle.rules.specs.declared.Rx.{Rx}
 use Rattle.rules.specs.declared.Tx.{Tx}
 use Rattle.rules.specs.declared.Berth.{Berth}
@@ -52,7 +55,7 @@ two =
 abbrev twoRun : List Call
 twoRun =
     send 5 (1 ∷ 2 ∷ 3 ∷ []) ∷ frame 0x643 (0x70 ∷ []) ∷ turn (0 ∷ []) ∷ tick ∷ turn blank ∷ frame 0x645 (0x02 ∷ 0xAA ∷ 0xBB ∷ []) ∷ tick
-    ∷ show 5 false ∷ []
+    ∷ show 5 Choice.Arrived ∷ []
 
 pub two-sound : Sound two
 unfolding inOrder all each settingsAllowed berthInOrder takingInRange inBlock

@@ -9,10 +9,12 @@ use lib.ListN.{length, getD}
 use lib.Dec.{T, eqb}
 use Rattle.rules.specs.Tests.{unless}
 use Rattle.rules.specs.Numbers.{berthCount, toBerth}
-use Rattle.rules.specs.Ranges.{berthAt, InOrder}
+use Rattle.rules.specs.Nodes.{berthAt, Held, withBerth}
+use Rattle.rules.specs.Ranges.{InOrder}
 use Rattle.rules.specs.Turns.{due}
-use Rattle.rules.specs.Stores.{Held, withBerth, tickedNode, servedNode, distance, passedOver, reached}
-use Rattle.rules.specs.Refusals.{Call, frame, tick, send, turn, show, refusal}
+use Rattle.rules.specs.Stores.{tickedNode, servedNode, distance, passedOver, reached}
+use Rattle.rules.specs.Events.{Call, frame, tick, send, turn, show}
+use Rattle.rules.specs.Refusals.{refusal}
 use Rattle.rules.specs.Calls.{afterFrame, done, reply, written, bufferOf, Outcome, refusedOutcome, outcome, answers}
 use Rattle.rules.proofs.Cases.{Tested, holds, fails, eqb-cases, eqb-is, eqb-not, ltb-is}
 use Rattle.rules.proofs.Ranges.{in-order-range}

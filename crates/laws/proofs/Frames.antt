@@ -9,20 +9,20 @@ use mathlib.Core.List.{List, [], _∷_, _++_}
 use lib.ListN.{length, take, drop, replicate, length-append, length-replicate, length-take, length-drop}
 use lib.Seq.{sets, sets-eq, take-at, take-nil, take-all, take-take, drop-drop, take-add, length-take-le}
 use lib.Dec.{eqb}
-use Rattle.rules.specs.Numbers.{snCount, frameLength, filler, singleKind, firstKind, consecutiveKind, singleMost, firstBytes, consecutiveMost, leastLong, shortMost}
+use Rattle.rules.specs.Numbers.{snCount, frameSize, filler, singleKind, firstKind, consecutiveKind, singleMost, firstBytes, consecutiveMost, leastLong, shortMost}
 use Rattle.rules.specs.Frames.{kind, low, singleFits, shortLength, announced, firstFits, padded, singleFrame, firstFrame, consecutiveFrame, nextSn, counted, fillsBlock, share, cutRest, cut, framesOf}
 use Rattle.rules.specs.declared.Sn.{Sn}
 use Rattle.rules.proofs.Cases.{Tested, holds, fails, eqb-cases, eqb-is, eqb-not, leb-is, leb-not, ltb-is, split}
 
 -- ---- eight bytes
 
-pub padded-length : (s : List ℕ) → length s ≤ frameLength → length (padded s) ≡ frameLength
+pub padded-length : (s : List ℕ) → length s ≤ frameSize → length (padded s) ≡ frameSize
 unfolding padded
 padded-length s h = simp (length-append, length-replicate) (omega arith)
 
 padded-data : (x : ℕ) (s : List ℕ) (k : ℕ) → length s ≡ k → take k (drop 1 (padded (x ∷ s))) ≡ s
 unfolding padded
-padded-data x s k e = take-at s (replicate (frameLength - length (x ∷ s)) filler) k e
+padded-data x s k e = take-at s (replicate (frameSize - length (x ∷ s)) filler) k e
 
 -- bytes put down right behind the front
 pub extended : (l : List ℕ) (k : ℕ) (v : List ℕ) (s : ℕ) → length v ≡ s → k + s ≤ length l → take (k + s) (sets l k v) ≡ take k l ++ v
@@ -98,7 +98,7 @@ module _ (n : ℕ) (out : List ℕ) where
     unfolding share
     part-small i = omega (arith, part-length i)
 
-    pub frame-length : (i : ℕ) → length (frameAt i) ≡ frameLength
+    pub frame-length : (i : ℕ) → length (frameAt i) ≡ frameSize
     unfolding frameAt consecutiveFrame
     frame-length i = padded-length ((consecutiveKind * 16 + snAt i .0) ∷ partAt i) (omega (arith, part-small i))
 
@@ -124,7 +124,7 @@ module _ (n : ℕ) (out : List ℕ) where
         ∙ ap (λ (r : List ℕ). r ++ partAt i) e
         ∙ sym (take-add (posAt i) (share consecutiveMost (n - posAt i)) out)
 
-    pub single-length : n ≤ singleMost → length singleOf ≡ frameLength
+    pub single-length : n ≤ singleMost → length singleOf ≡ frameSize
     unfolding singleOf singleFrame
     single-length b = padded-length ((singleKind * 16 + length (take n out)) ∷ take n out) (omega (arith, length-take n out))
 
@@ -144,7 +144,7 @@ module _ (n : ℕ) (out : List ℕ) where
     unfolding singleFits
     single-fits a b = rw (single-low b, single-length b, leb-is 1 n a, leb-is n singleMost b)
 
-    pub first-length : length firstOf ≡ frameLength
+    pub first-length : length firstOf ≡ frameSize
     unfolding firstOf firstFrame
     first-length = padded-length ((firstKind * 16 + n / 256) ∷ (n % 256) ∷ take firstBytes out) (omega (arith, length-take firstBytes out))
 

@@ -9,14 +9,16 @@ use lib.Seq.{getD-set-same, getD-set-other}
 use lib.Dec.{T, eqb, ltb}
 use Rattle.rules.specs.Tests.{unless}
 use Rattle.rules.specs.Numbers.{berthCount, toBerth}
-use Rattle.rules.specs.Ranges.{fresh, berthAt, inOrder}
-use Rattle.rules.specs.Ticks.{ticked, rxTicked, txTicked}
+use Rattle.rules.specs.Nodes.{fresh, berthAt, Held, withBerth}
+use Rattle.rules.specs.Ranges.{inOrder}
+use Rattle.rules.specs.Ticks.{ticked, rxTicked, txTicked, codesOf}
 use Rattle.rules.specs.Turns.{sent as sentBerth}
-use Rattle.rules.specs.Stores.{Held, withBerth, tickedNode, servedNode, passedOver, reached, cameAt, handedAt}
+use Rattle.rules.specs.Stores.{tickedNode, servedNode, passedOver, reached, cameAt, handedAt}
 use Rattle.rules.specs.Answers.{receive}
-use Rattle.rules.specs.Refusals.{Call, frame, tick, send, turn, show, senderOf, refusal}
-use Rattle.rules.specs.Calls.{codesOf, afterFrame, done, reply, written, bufferOf, refusedOutcome, outcome, answers, final}
-use Rattle.rules.specs.Alone.{Part, partOf, Event, Says, expires, partAfter, says, alone, saysAll}
+use Rattle.rules.specs.Events.{Call, frame, tick, send, turn, show, senderOf, Event}
+use Rattle.rules.specs.Refusals.{refusal}
+use Rattle.rules.specs.Calls.{afterFrame, done, reply, written, bufferOf, refusedOutcome, outcome, answers, final}
+use Rattle.rules.specs.Alone.{Part, partOf, Says, expires, partAfter, says, alone, saysAll}
 use Rattle.rules.specs.declared.Settings.{Settings}
 use Rattle.rules.specs.declared.Berth.{Berth}
 use Rattle.rules.specs.declared.Node.{Node}

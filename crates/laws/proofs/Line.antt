@@ -10,7 +10,7 @@ use lib.ListN.{length, take, drop}
 use lib.Seq.{sets, length-sets, length-take-le, append-snoc}
 use lib.Dec.{T, eqb, ltb, leb}
 use Rattle.rules.specs.Tests.{pick}
-use Rattle.rules.specs.Numbers.{timeout, flowKind, frameLength, singleMost, firstBytes, consecutiveMost, leastLong, shortMost, longestGap, mostMillis, leastFraction, mostFraction, N-OK}
+use Rattle.rules.specs.Numbers.{timeout, flowKind, frameSize, singleMost, firstBytes, consecutiveMost, leastLong, shortMost, longestGap, mostMillis, leastFraction, mostFraction, N-OK}
 use Rattle.rules.specs.Frames.{kind, low, consecutiveFits, flowFits, padded, goFrame, nextSn, counted, fillsBlock, gapOf, share, framesOf}
 use Rattle.rules.specs.Arrivals.{Came, singleCame, firstCame, taking, begun, missing, piece, grown, completed, afterTook, took, awaitedCame, granted, byStatus, heardBy, toldBy, byKind, frameCame}
 use Rattle.rules.specs.Ticks.{ran, rxTicked, rxCode, closer, txTicked, txCode}
@@ -753,11 +753,11 @@ module _ (i j : ℕ) (set : Settings) (n : ℕ) (out : List ℕ) (E : List Hande
           rw (← (head-eq-of-cons-eq (sym (s .queued) ∙ z)), ← (tail-eq-of-cons-eq (sym (s .queued) ∙ z))) (take-last r p u last ina f c g s _ refl)
       carries-R l m d q z (arrived ina g a e) = absurd (nil≢cons z)
 
-      consecutive-whole : (k : ℕ) (d : List ℕ) → frameAt n out k ≡ d → (length d ≡ frameLength) × (kind d ≡ flowKind → ⊥)
+      consecutive-whole : (k : ℕ) (d : List ℕ) → frameAt n out k ≡ d → (length d ≡ frameSize) × (kind d ≡ flowKind → ⊥)
       consecutive-whole k d h = (rw h at (frame-length n out fit k), (λ y. omega (arith, frame-kind n out fit k, ap kind h)))
 
       -- a frame on the way is a whole frame, and no flow control; one on the way back is flow control
-      pub there-whole : (l : Line) (m : ℕ) (d : List ℕ) (q : List (List ℕ)) → l .toR ≡ d ∷ q → Phase l m → (length d ≡ frameLength) × (kind d ≡ flowKind → ⊥)
+      pub there-whole : (l : Line) (m : ℕ) (d : List ℕ) (q : List (List ℕ)) → l .toR ≡ d ∷ q → Phase l m → (length d ≡ frameSize) × (kind d ≡ flowKind → ⊥)
       unfolding span
       there-whole l m d q z (single-ready t last ina a b e) = absurd (nil≢cons z)
       there-whole l m d q z (single-sent last ina g a b e) =
@@ -775,10 +775,10 @@ module _ (i j : ℕ) (set : Settings) (n : ℕ) (out : List ℕ) (E : List Hande
       there-whole l m d q z (last-sent r p u last ina f c g s) = consecutive-whole f d (head-eq-of-cons-eq (sym (s .queued) ∙ z))
       there-whole l m d q z (arrived ina g a e) = absurd (nil≢cons z)
 
-      go-whole : (d : List ℕ) → goFrame set ≡ d → (length d ≡ frameLength) × (kind d ≡ flowKind)
+      go-whole : (d : List ℕ) → goFrame set ≡ d → (length d ≡ frameSize) × (kind d ≡ flowKind)
       go-whole d h = (sym (ap length h) ∙ unfold goFrame padded in refl, sym (ap kind h) ∙ unfold goFrame padded kind in refl)
 
-      pub back-whole : (l : Line) (m : ℕ) (d : List ℕ) (q : List (List ℕ)) → l .toS ≡ d ∷ q → Phase l m → (length d ≡ frameLength) × (kind d ≡ flowKind)
+      pub back-whole : (l : Line) (m : ℕ) (d : List ℕ) (q : List (List ℕ)) → l .toS ≡ d ∷ q → Phase l m → (length d ≡ frameSize) × (kind d ≡ flowKind)
       back-whole l m d q z (single-ready t last ina a b e) = absurd (nil≢cons z)
       back-whole l m d q z (single-sent last ina g a b e) = absurd (nil≢cons z)
       back-whole l m d q z (first-ready t last ina h a b c e) = absurd (nil≢cons z)

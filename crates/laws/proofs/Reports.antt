@@ -10,13 +10,15 @@ use lib.Dec.{T, eqb, ltb}
 use mir.Facts.{yes-eqb, yes-ltb, yes-and}
 use Rattle.rules.specs.Tests.{pick}
 use Rattle.rules.specs.Numbers.{berthCount, N-OK}
-use Rattle.rules.specs.Ranges.{berthAt, inOrder}
+use Rattle.rules.specs.Nodes.{berthAt, Held}
+use Rattle.rules.specs.Ranges.{inOrder}
 use Rattle.rules.specs.Turns.{lengthSending}
-use Rattle.rules.specs.Stores.{Held, rightStore, areaOf}
+use Rattle.rules.specs.Stores.{rightStore, areaOf}
 use Rattle.rules.specs.Answers.{Answer, refused, ready, heard, codes, sent, handed, none, shown, Side, receive, send, Report, reported, failedSide, wordReports, codesReports, reports}
-use Rattle.rules.specs.Refusals.{Call}
-use Rattle.rules.specs.Calls.{answers, showable, shownLength, showing}
+use Rattle.rules.specs.Events.{Call}
+use Rattle.rules.specs.Calls.{answers, showable, chosen, shownLength, showing}
 use Rattle.rules.specs.Alone.{Says, partOf, accepts, saysAll}
+use Rattle.rules.specs.declared.Choice.{Choice}
 use Rattle.rules.specs.declared.Codes.{Codes}
 use Rattle.rules.specs.declared.Word.{Word}
 use Rattle.rules.specs.declared.Word.the-variants.{Delivered, Begun, Failed, Ignored, TooLong, Took, Going, Waiting}
@@ -125,7 +127,7 @@ pub berth-reports : (k : ℕ) (h : Held) (cs : List Call)
 berth-reports k h cs = reports-all k (answers h cs) ∙ ap (over (saidReports k)) (berth-says k h cs)
 
 -- WHAT A SHOW OF A BERTH RETURNS is a function of that berth's own part, given the node in order and both stores of the right length.
-pub berth-shown : (k : ℕ) (h : Held) (choice : Bool) → k < berthCount → T (inOrder (h .node))
+pub berth-shown : (k : ℕ) (h : Held) (choice : Choice) → k < berthCount → T (inOrder (h .node))
     → length (h .incoming) ≡ berthCount * h .node .settings .area → length (h .outgoing) ≡ berthCount * h .node .settings .area
     → showing h k choice ≡ partShown (partOf k h) choice
 unfolding showing shownLength showable partShown partOf rightStore
@@ -135,9 +137,9 @@ berth-shown k h choice l o i e =
     is-true _ (yes-and (inOrder (h .node)) _ o (yes-and (eqb (length (h .incoming)) _) _ (yes-eqb i) (yes-and (eqb (length (h .outgoing)) _) _ (yes-eqb e) (yes-ltb l)))) in
     rw t (go choice)
   where
-    go : (choice : Bool)
-        → take (pick choice (lengthSending (berthAt (h .node) k .tx)) (berthAt (h .node) k .last)) (areaOf (h .node .settings .area) k (pick choice (h .outgoing) (h .incoming)))
-        ≡ pick choice (take (lengthSending (berthAt (h .node) k .tx)) (areaOf (h .node .settings .area) k (h .outgoing)))
-        (take (berthAt (h .node) k .last) (areaOf (h .node .settings .area) k (h .incoming)))
-    go true = refl
-    go false = refl
+    go : (choice : Choice)
+        → take (chosen choice (berthAt (h .node) k .last) (lengthSending (berthAt (h .node) k .tx))) (areaOf (h .node .settings .area) k (chosen choice (h .incoming) (h .outgoing)))
+        ≡ chosen choice (take (berthAt (h .node) k .last) (areaOf (h .node .settings .area) k (h .incoming)))
+        (take (lengthSending (berthAt (h .node) k .tx)) (areaOf (h .node .settings .area) k (h .outgoing)))
+    go Choice.Arrived = refl
+    go Choice.Sending = refl

@@ -4,7 +4,8 @@ use Prim.Native.Nat.{ℕ, _+_, _%_, _≤_, _<_}
 use native.Mathlib.Omega.{arith}
 use lib.Dec.{T}
 use Rattle.rules.specs.Numbers.{berthCount}
-use Rattle.rules.specs.Ranges.{berthAt, InOrder}
+use Rattle.rules.specs.Nodes.{berthAt}
+use Rattle.rules.specs.Ranges.{InOrder}
 use Rattle.rules.specs.Turns.{due}
 use Rattle.rules.specs.Stores.{distance, passedOver, reached}
 use Rattle.rules.specs.declared.Node.{Node}

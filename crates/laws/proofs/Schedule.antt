@@ -11,14 +11,15 @@ use lib.Dec.{T, eqb}
 use mir.Facts.{yes-eqb}
 use Rattle.rules.specs.Tests.{pick}
 use Rattle.rules.specs.Numbers.{berthCount, shortMost}
-use Rattle.rules.specs.Ranges.{berthAt}
+use Rattle.rules.specs.Nodes.{berthAt, Held}
 use Rattle.rules.specs.Ticks.{rxCode, txCode}
 use Rattle.rules.specs.Turns.{flowDue, messageDue, due, afterFlow, handOver}
-use Rattle.rules.specs.Stores.{Held, rightStore, servedNode, distance, passedOver, reached}
+use Rattle.rules.specs.Stores.{rightStore, servedNode, distance, passedOver, reached}
 use Rattle.rules.specs.Answers.{Side, receive, send as sendSide}
-use Rattle.rules.specs.Refusals.{Call, tick, turn, needs, refusal}
+use Rattle.rules.specs.Events.{Call, tick, turn, turns}
+use Rattle.rules.specs.Refusals.{needs, refusal}
 use Rattle.rules.specs.Calls.{done, outcome}
-use Rattle.rules.specs.Alone.{Part, partOf, turns, partAfter, alone}
+use Rattle.rules.specs.Alone.{Part, partOf, partAfter, alone}
 use Rattle.rules.specs.declared.Settings.{Settings}
 use Rattle.rules.specs.declared.Rx.{Rx}
 use Rattle.rules.proofs.Cases.{Tested, holds, fails, test-cases, eqb-cases, ltb-is, is-true}

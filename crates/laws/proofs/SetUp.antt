@@ -9,10 +9,11 @@ use lib.Seq.{length-sets}
 use lib.Dec.{ltb}
 use Rattle.rules.specs.Tests.{unless}
 use Rattle.rules.specs.Numbers.{berthCount}
-use Rattle.rules.specs.Ranges.{fresh, berthAt}
-use Rattle.rules.specs.Stores.{Held, areaOf, stored, setUpNode, passedOver}
+use Rattle.rules.specs.Nodes.{fresh, berthAt, Held}
+use Rattle.rules.specs.Stores.{areaOf, stored, setUpNode, passedOver}
 use Rattle.rules.specs.Answers.{Answer}
-use Rattle.rules.specs.Refusals.{Call, frame, tick, send, turn, show, refusal, setUpRefusal}
+use Rattle.rules.specs.Events.{Call, frame, tick, send, turn, show}
+use Rattle.rules.specs.Refusals.{refusal, setUpRefusal}
 use Rattle.rules.specs.Calls.{afterFrame, done, reply, written, bufferOf, refusedOutcome, outcome, setUpOutcome, final}
 use Rattle.rules.specs.Alone.{Part, partOf}
 use Rattle.rules.specs.declared.Settings.{Settings}

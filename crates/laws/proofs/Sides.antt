@@ -10,16 +10,15 @@ use lib.Seq.{sets}
 use lib.Dec.{eqb, leb}
 use Rattle.rules.specs.Tests.{pick}
 use Rattle.rules.specs.Numbers.{singleKind, firstKind, consecutiveKind, flowKind, goStatus, waitStatus, overflowStatus, consecutiveMost, noData, otherKind}
-use Rattle.rules.specs.Ranges.{fresh}
+use Rattle.rules.specs.Nodes.{fresh, Held}
 use Rattle.rules.specs.Frames.{kind, low, singleFits, announced, firstFits, consecutiveFits, flowFits}
 use Rattle.rules.specs.Arrivals.{Heard, Told, Came, ignored, singleCame, firstCame, aboveArea, turnedAway, begun, missing, completed, took, wrongSn, awaitedCame, consecutiveCame, byStatus, flowIgnored, flowCame, heardBy, toldBy, byKind, frameCame}
 use Rattle.rules.specs.Ticks.{ticked, rxCode, txCode}
 use Rattle.rules.specs.Turns.{flowDue, handOver, sent}
 use Rattle.rules.specs.Answers.{Side, receive, send, Report, reported, failedSide, wordReports, reports}
-use Rattle.rules.specs.Stores.{Held}
-use Rattle.rules.specs.Refusals.{Call}
+use Rattle.rules.specs.Events.{Call, Event, arrives, ticks, sends, turns}
 use Rattle.rules.specs.Calls.{final, answers}
-use Rattle.rules.specs.Alone.{Part, partOf, Event, arrives, ticks, sends, turns, Says, hears, hands, partAfter, says, alone, saysAll}
+use Rattle.rules.specs.Alone.{Part, partOf, Says, hears, hands, partAfter, says, alone, saysAll}
 use Rattle.rules.specs.declared.Settings.{Settings}
 use Rattle.rules.specs.declared.Rx.{Rx}
 use Rattle.rules.specs.declared.Tx.{Tx}

@@ -11,16 +11,18 @@ use lib.Seq.{sets}
 use lib.Dec.{T, eqb, ltb, leb, le→leb, lt→ltb}
 use mir.Facts.{eqb-yes, yes-eqb, yes-leb, yes-and}
 use Rattle.rules.specs.Tests.{pick, Need, firstUnmet}
-use Rattle.rules.specs.Numbers.{berthCount, fromBerth, toBerth, frameLength, singleKind, firstKind, consecutiveKind, flowKind, goStatus, waitStatus, overflowStatus, consecutiveMost, shortMost}
-use Rattle.rules.specs.Ranges.{berthAt, BerthRange, TxRange}
+use Rattle.rules.specs.Numbers.{berthCount, fromBerth, toBerth, frameSize, singleKind, firstKind, consecutiveKind, flowKind, goStatus, waitStatus, overflowStatus, consecutiveMost, shortMost}
+use Rattle.rules.specs.Nodes.{berthAt, Held}
+use Rattle.rules.specs.Ranges.{BerthRange, TxRange}
 use Rattle.rules.specs.Frames.{kind, low, padded, singleFits, announced, firstFits, consecutiveFits, flowFits, singleFrame, firstFrame, consecutiveFrame, goFrame, overflowFrame}
 use Rattle.rules.specs.Arrivals.{Heard, Told, Came, ignored, singleCame, firstCame, aboveArea, turnedAway, begun, missing, completed, took, wrongSn, awaitedCame, consecutiveCame, byStatus, flowIgnored, flowCame, heardBy, toldBy, byKind, frameCame}
 use Rattle.rules.specs.Turns.{flowDue, messageDue, due, flowFrame, messageFrame, handOver}
-use Rattle.rules.specs.Stores.{Held, rightStore, inside, passedOver, reached, cameAt, handedAt}
+use Rattle.rules.specs.Stores.{rightStore, inside, passedOver, reached, cameAt, handedAt}
 use Rattle.rules.specs.Answers.{Side, receive, send as sendSide, Report, reported, wordReports}
-use Rattle.rules.specs.Refusals.{Call, frame, tick, send, turn, show, senderOf, needs, refusal}
+use Rattle.rules.specs.Events.{Call, frame, tick, send, turn, show, senderOf, Event, arrives, ticks, sends, turns}
+use Rattle.rules.specs.Refusals.{needs, refusal}
 use Rattle.rules.specs.Calls.{done, reply, refusedOutcome, outcome}
-use Rattle.rules.specs.Alone.{Part, partOf, Event, arrives, ticks, sends, turns, hears, partAfter, says, alone, saysAll}
+use Rattle.rules.specs.Alone.{Part, partOf, hears, partAfter, says, alone, saysAll}
 use Rattle.rules.specs.declared.Settings.{Settings}
 use Rattle.rules.specs.declared.Rx.{Rx}
 use Rattle.rules.specs.declared.Tx.{Tx}
@@ -467,7 +469,7 @@ module _ (k : ℕ) (h : Held) where
     back-again : senderOf (fromBerth + k) ≡ k
     back-again = omega arith
 
-    carried-met : (d : List ℕ) → length d ≤ frameLength → refusal h (frame (fromBerth + k) d) ≡ 0
+    carried-met : (d : List ℕ) → length d ≤ frameSize → refusal h (frame (fromBerth + k) d) ≡ 0
     unfolding refusal needs rightStore inside
     carried-met d l =
         let i : senderOf (fromBerth + k) < berthCount = omega arith in
@@ -487,7 +489,7 @@ module _ (k : ℕ) (h : Held) where
           ),
         )
 
-    own-carried : (d : List ℕ) → length d ≤ frameLength → own k h (frame (fromBerth + k) d) ≡ arrives d ∷ []
+    own-carried : (d : List ℕ) → length d ≤ frameSize → own k h (frame (fromBerth + k) d) ≡ arrives d ∷ []
     unfolding ownDone
     own-carried d l = own-is (frame (fromBerth + k) d) (carried-met d l) ∙ rw (eqb-is (senderOf (fromBerth + k)) k back-again)
 
@@ -497,7 +499,7 @@ module _ (k : ℕ) (h : Held) where
       pub reported : reportsBy s k (outcome h (frame (fromBerth + k) d) .answer) ≡ saidReports k (says set (sideOf s (partOf k h)) (arrives d))
       pub frames : framesBy s k (outcome h (frame (fromBerth + k) d) .answer) ≡ []
 
-    pub carry : (s : Side) (d : List ℕ) → length d ≤ frameLength → frameSide d ≡ s → Carried s d
+    pub carry : (s : Side) (d : List ℕ) → length d ≤ frameSize → frameSide d ≡ s → Carried s d
     carry s d l e =
         let (x, y) = touched s (frame (fromBerth + k) d) (arrives d) (own-carried d l) (its s e) in
         record { part = x; reported = y; frames = ap (framesBy s k) (answer-is (frame (fromBerth + k) d) (carried-met d l)) ∙ unfold reply framesBy in refl }
@@ -512,7 +514,7 @@ module _ (k : ℕ) (h : Held) where
         → over deliveredIn (heardOf k (outcome h c .answer)) ≡ over deliveredIn (saysAll set (partOf k h) es)
     delivered-own c es o = ap (over deliveredIn) (says-step k h c ∙ ap (saysAll set (partOf k h)) o)
 
-    pub delivered-carried : (d : List ℕ) → length d ≤ frameLength → frameSide d ≡ receive
+    pub delivered-carried : (d : List ℕ) → length d ≤ frameSize → frameSide d ≡ receive
         → over deliveredIn (heardOf k (outcome h (frame (fromBerth + k) d) .answer)) ≡ deliveredIn (says set (sideOf receive (partOf k h)) (arrives d))
     unfolding saysAll over says sideOf withTx
     delivered-carried d l e =

@@ -11,18 +11,21 @@ use lib.ListN.{length, take, replicate, length-take, length-drop}
 use lib.Seq.{sets, length-sets}
 use lib.Dec.{T}
 use mir.Facts.{yes-eqb, yes-leb, yes-ltb}
-use Rattle.rules.specs.Numbers.{berthCount, fromBerth, frameLength, flowKind, shortMost}
-use Rattle.rules.specs.Ranges.{berthAt, inOrder}
+use Rattle.rules.specs.Numbers.{berthCount, fromBerth, frameSize, flowKind, shortMost}
+use Rattle.rules.specs.Nodes.{berthAt, Held}
+use Rattle.rules.specs.Ranges.{inOrder}
 use Rattle.rules.specs.Frames.{kind, goFrame, framesOf}
 use Rattle.rules.specs.Arrivals.{Came, frameCame}
 use Rattle.rules.specs.Ticks.{rxTicked, rxCode, txTicked, txCode, ticked}
 use Rattle.rules.specs.Turns.{flowDue, messageDue, due, flowFrame, afterFlow, messageFrame, messageCode, afterMessage, handOver, beginsWith, sent as sentBerth, busy}
-use Rattle.rules.specs.Stores.{Held, rightStore, areaOf}
+use Rattle.rules.specs.Stores.{rightStore, areaOf}
 use Rattle.rules.specs.Answers.{receive, send as sendSide, Report, reported, wordReports}
-use Rattle.rules.specs.Refusals.{Call, frame, send, needs, refusal}
+use Rattle.rules.specs.Events.{Call, frame, send, arrives, ticks, sends, turns}
+use Rattle.rules.specs.Refusals.{needs, refusal}
 use Rattle.rules.specs.Calls.{outcome}
-use Rattle.rules.specs.Alone.{Part, partOf, arrives, ticks, sends, turns, hears, partAfter, says, alone}
+use Rattle.rules.specs.Alone.{Part, partOf, hears, partAfter, says, alone}
 use Rattle.rules.specs.declared.Settings.{Settings}
+use Rattle.rules.specs.declared.Choice.{Choice}
 use Rattle.rules.specs.declared.Rx.{Rx}
 use Rattle.rules.specs.declared.Tx.{Tx}
 use Rattle.rules.specs.declared.Berth.{Berth}
@@ -338,7 +341,7 @@ module _ (i j : ℕ) (small-i : i < berthCount) (small-j : j < berthCount) (set 
   unfolding partAfter sideOf partOf says saidReports
   came-A h d = (refl, refl, refl)
 
-  pub took-A : (w : World) (d : List ℕ) (q : List (List ℕ)) → Sound (w .a) → length d ≤ frameLength → kind d ≡ flowKind
+  pub took-A : (w : World) (d : List ℕ) (q : List (List ℕ)) → Sound (w .a) → length d ≤ frameSize → kind d ≡ flowKind
       → (lineOf i j (carriedA i w (d ∷ q)) ≡ tookS i j set n out E (lineOf i j w) q (frameCame (w .a .node .settings) (sending i j set n out E (lineOf i j w)) d))
       × (partOf i (outcome (w .a) (frame (fromBerth + i) d) .held) .outgoing ≡ partOf i (w .a) .outgoing)
   unfolding lineOf carriedA callA tookS
@@ -373,7 +376,7 @@ module _ (i j : ℕ) (small-i : i < berthCount) (small-j : j < berthCount) (set 
   unfolding partAfter sideOf partOf says
   came-B h d = (refl, refl, refl)
 
-  pub took-B : (w : World) (d : List ℕ) (q : List (List ℕ)) → Sound (w .b) → w .b .node .settings ≡ set → length d ≤ frameLength → (kind d ≡ flowKind → ⊥)
+  pub took-B : (w : World) (d : List ℕ) (q : List (List ℕ)) → Sound (w .b) → w .b .node .settings ≡ set → length d ≤ frameSize → (kind d ≡ flowKind → ⊥)
       → lineOf i j (carriedB j w (d ∷ q)) ≡ tookR i j set n out E (lineOf i j w) q (frameCame set (receiving i j set n out E (lineOf i j w)) d)
   unfolding lineOf carriedB callB tookR saidReports
   took-B w d q s same l ne =
@@ -623,7 +626,7 @@ module _ (i j : ℕ) (m : List ℕ) (a b : Held) (may : MayBegin i j m a b) wher
       let bytes : take (length m) (areaOf (w .b .node .settings .area) j (w .b .incoming)) ≡ m = l .bytes ∙ message in
       record {
         bytes = bytes;
-        shown = berth-shown j (w .b) false (may .small-j) o (s .sound-b .incoming) (s .sound-b .outgoing)
+        shown = berth-shown j (w .b) Choice.Arrived (may .small-j) o (s .sound-b .incoming) (s .sound-b .outgoing)
             ∙ ap (λ (k : ℕ). take k (areaOf (w .b .node .settings .area) j (w .b .incoming))) (l .last) ∙ bytes;
         delivered = l .delivered;
         last = l .last;

@@ -7,17 +7,19 @@ use mathlib.Core.List.{List, [], _∷_, _++_, map}
 use lib.ListN.{length, take, replicate}
 use lib.Dec.{T, eqb}
 use Rattle.rules.specs.Tests.{pick}
-use Rattle.rules.specs.Numbers.{berthCount, fromBerth, frameLength, N-OK}
-use Rattle.rules.specs.Ranges.{berthAt}
+use Rattle.rules.specs.Numbers.{berthCount, fromBerth, frameSize, N-OK}
+use Rattle.rules.specs.Nodes.{berthAt, Held}
 use Rattle.rules.specs.Frames.{counted, fillsBlock, goFrame, roundedUp, framesOf}
 use Rattle.rules.specs.Ticks.{rxCode, txCode}
 use Rattle.rules.specs.Turns.{flowDue, messageDue}
-use Rattle.rules.specs.Stores.{Held, areaOf, cameAt}
+use Rattle.rules.specs.Stores.{areaOf, cameAt}
 use Rattle.rules.specs.Answers.{Answer, Side, receive, send as sendSide, Report, reports}
-use Rattle.rules.specs.Refusals.{Call, frame, tick, send, turn, show, senderOf, refusal}
+use Rattle.rules.specs.Events.{Call, frame, tick, send, turn, show, senderOf}
+use Rattle.rules.specs.Refusals.{refusal}
 use Rattle.rules.specs.Calls.{outcome, showing}
 use Rattle.rules.specs.Alone.{Says, hears, expires, accepts, hands}
 use Rattle.rules.specs.declared.Settings.{Settings}
+use Rattle.rules.specs.declared.Choice.{Choice}
 use Rattle.rules.specs.declared.Rx.{Rx}
 use Rattle.rules.specs.declared.Tx.{Tx}
 use Rattle.rules.specs.declared.Berth.{Berth}
@@ -227,7 +229,7 @@ pub record MayBegin (i j : ℕ) (m : List ℕ) (a b : Held) : Type 0 where
 -- those of the message, and those back one go for each block; both sides are idle again
 pub record Arrived (i j : ℕ) (m : List ℕ) (w : World) : Type 0 where
   pub bytes : take (length m) (areaOf (w .b .node .settings .area) j (w .b .incoming)) ≡ m
-  pub shown : showing (w .b) j false ≡ m
+  pub shown : showing (w .b) j Choice.Arrived ≡ m
   pub delivered : w .delivered ≡ length m ∷ []
   pub last : berthAt (w .b .node) j .last ≡ length m
   pub sender : w .said ≡ record { berth = i; side = sendSide; code = N-OK } ∷ []
@@ -245,7 +247,7 @@ pub data Act : Type 0 where
 
 -- a buffer of eight bytes
 abbrev pub blank : List ℕ
-blank = replicate frameLength 0
+blank = replicate frameSize 0
 
 unfoldable pub deedsOf : Act → List Deed
 deedsOf turnA = atA (turn blank) ∷ []

@@ -8,13 +8,16 @@ use lib.Dec.{ltb, eqb}
 use Rattle.rules.specs.Tests.{pick, unless}
 use Rattle.rules.specs.Numbers.{berthCount, toBerth}
 use Rattle.rules.specs.Turns.{lengthSending}
-use Rattle.rules.specs.Ranges.{fresh, InOrder}
-use Rattle.rules.specs.Stores.{Held, areaOf, passedOver, reached}
+use Rattle.rules.specs.Nodes.{fresh, Held}
+use Rattle.rules.specs.Ranges.{InOrder}
+use Rattle.rules.specs.Stores.{areaOf, passedOver, reached}
 use Rattle.rules.specs.Answers.{Answer, refused, ready, heard, codes, sent, handed, none, shown, receive, send as sendSide, Report, reported, wordReports, reports}
-use Rattle.rules.specs.Refusals.{Call, frame, tick, send, turn, show, senderOf, refusal}
-use Rattle.rules.specs.Calls.{outcome, setUpOutcome, answers, final, showing}
-use Rattle.rules.specs.Alone.{partOf, alone, saysAll, Part, Event, arrives, ticks, sends, turns, Says, hears, expires, accepts, hands}
+use Rattle.rules.specs.Events.{Call, frame, tick, send, turn, show, senderOf, Event, arrives, ticks, sends, turns}
+use Rattle.rules.specs.Refusals.{refusal}
+use Rattle.rules.specs.Calls.{chosen, outcome, setUpOutcome, answers, final, showing}
+use Rattle.rules.specs.Alone.{partOf, alone, saysAll, Part, Says, hears, expires, accepts, hands}
 use Rattle.rules.specs.declared.Settings.{Settings}
+use Rattle.rules.specs.declared.Choice.{Choice}
 use Rattle.rules.specs.declared.Codes.{Codes}
 
 -- one list for each element, all in one
@@ -76,11 +79,11 @@ saidReports k (expires r s) = reported k receive r ++ reported k sendSide s
 saidReports k accepts = []
 saidReports k (hands f c) = reported k sendSide c
 
--- ---- show, from a berth's own part: the last message arrived, or, if the choice is true, the message now being sent
+-- ---- show, from a berth's own part: the last message arrived, or the message now being sent
 
-unfoldable pub partShown : Part → Bool → List ℕ
+unfoldable pub partShown : Part → Choice → List ℕ
 partShown p choice =
-    pick choice (take (lengthSending (p .berth .tx)) (p .outgoing)) (take (p .berth .last) (p .incoming))
+    chosen choice (take (p .berth .last) (p .incoming)) (take (lengthSending (p .berth .tx)) (p .outgoing))
 
 -- ---- what is lent is sound: the node in order, both stores of the right length
 
@@ -107,4 +110,4 @@ pub record Alone (s : Settings) (start : Part) (k : ℕ) (h : Held) (cs : List C
   pub part : partOf k (final h cs) ≡ alone s start (owns k h cs)
   pub says : over (heardOf k) (answers h cs) ≡ saysAll s start (owns k h cs)
   pub reported : ofBerth k (over reports (answers h cs)) ≡ over (saidReports k) (saysAll s start (owns k h cs))
-  pub shown : Sound h → (choice : Bool) → showing (final h cs) k choice ≡ partShown (alone s start (owns k h cs)) choice
+  pub shown : Sound h → (choice : Choice) → showing (final h cs) k choice ≡ partShown (alone s start (owns k h cs)) choice

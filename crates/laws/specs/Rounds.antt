@@ -7,11 +7,11 @@ use mathlib.Core.List.{List, [], _∷_, List·Memᴰ}
 use lib.ListN.{length, getD}
 use lib.Dec.{T, eqb}
 use Rattle.rules.specs.Tests.{pick}
-use Rattle.rules.specs.Ranges.{berthAt}
+use Rattle.rules.specs.Nodes.{berthAt, Held}
 use Rattle.rules.specs.Turns.{due}
-use Rattle.rules.specs.Stores.{Held}
 use Rattle.rules.specs.Answers.{Answer, refused, ready, heard, codes, sent, handed, none, shown}
-use Rattle.rules.specs.Refusals.{Call, frame, tick, send, turn, show, refusal}
+use Rattle.rules.specs.Events.{Call, frame, tick, send, turn, show}
+use Rattle.rules.specs.Refusals.{refusal}
 use Rattle.rules.specs.Calls.{outcome}
 use Rattle.laws.specs.Own.{takerOf}
 

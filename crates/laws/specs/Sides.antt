@@ -6,11 +6,12 @@ use mathlib.Core.List.{List, [], _∷_, _++_, map}
 use lib.Dec.{eqb}
 use Rattle.rules.specs.Tests.{pick}
 use Rattle.rules.specs.Numbers.{flowKind}
-use Rattle.rules.specs.Ranges.{fresh}
+use Rattle.rules.specs.Nodes.{fresh}
 use Rattle.rules.specs.Frames.{kind}
 use Rattle.rules.specs.Turns.{flowDue}
 use Rattle.rules.specs.Answers.{Answer, refused, ready, heard, codes, sent, handed, none, shown, Side, receive, send, Report}
-use Rattle.rules.specs.Alone.{Part, Event, arrives, ticks, sends, turns, Says, hears, expires, accepts, hands, partAfter, says}
+use Rattle.rules.specs.Events.{Event, arrives, ticks, sends, turns}
+use Rattle.rules.specs.Alone.{Part, Says, hears, expires, accepts, hands, partAfter, says}
 use Rattle.rules.specs.declared.Settings.{Settings}
 use Rattle.laws.specs.Own.{takerOf, only}
 

@@ -1,20 +1,20 @@
 -- A promise determines everything: what a call leaves is the outcome of the rules, so two that meet a promise are equal.
 use Prim.Native.Nat.{ℕ, zero, suc}
 use mathlib.Core.Path.{_≡_, refl, sym, ap, _∙_}
-use mathlib.Core.Bool.{Bool}
 use mathlib.Core.List.{List, []}
 use Rattle.rules.specs.Tests.{unless}
 use Rattle.rules.specs.Answers.{shown, setUpSays, frameSays, tickSays, sendSays, turnSays}
-use Rattle.rules.specs.Refusals.{frame, tick, send, turn, show}
+use Rattle.rules.specs.Events.{frame, tick, send, turn, show}
 use Rattle.rules.specs.Calls.{Outcome, outcome, setUpOutcome}
 use Rattle.rules.specs.declared.Node.{Node}
 use Rattle.rules.specs.declared.SetUpAnswer.{SetUpAnswer}
 use Rattle.rules.specs.declared.FrameAnswer.{FrameAnswer}
+use Rattle.rules.specs.declared.Choice.{Choice}
 use Rattle.rules.specs.declared.Codes.{Codes}
 use Rattle.rules.specs.declared.TickAnswer.{TickAnswer}
 use Rattle.rules.specs.declared.SendAnswer.{SendAnswer}
 use Rattle.rules.specs.declared.TurnAnswer.{TurnAnswer}
-use Rattle.node.specs.Promises.{lent, left, Agrees, noCodes, SetUpPromise, FramePromise, TickPromise, SendPromise, TurnPromise, ShowPromise, NeededPromise}
+use Rattle.node.specs.Promises.{lent, left, Agrees, tenZeros, SetUpPromise, FramePromise, TickPromise, SendPromise, TurnPromise, ShowPromise, NeededPromise}
 use Rattle.rules.proofs.Answers.{paper-one}
 
 -- outcomes that agree are equal
@@ -47,7 +47,7 @@ module _ (n : Node) (n′ : Node) where
       → (incoming : List ℕ) → left (turnSays a buffer′) (lent n′ incoming outgoing) buffer′ ≡ outcome (lent n incoming outgoing) (turn buffer)
   turn-is outgoing buffer buffer′ a p incoming = same (p incoming)
 
-pub show-is : (n : Node) (incoming outgoing : List ℕ) (k : ℕ) (choice : Bool) (part : List ℕ) (in-at out-at part-at : ℕ × ℕ)
+pub show-is : (n : Node) (incoming outgoing : List ℕ) (k : ℕ) (choice : Choice) (part : List ℕ) (in-at out-at part-at : ℕ × ℕ)
     → ShowPromise n incoming outgoing k choice part in-at out-at part-at
     → left (shown part) (lent n incoming outgoing) [] ≡ outcome (lent n incoming outgoing) (show k choice)
 show-is n incoming outgoing k choice part in-at out-at part-at p = same (p .agrees)
@@ -89,7 +89,7 @@ turn-tells b₁ b₂ (TurnAnswer.HandedOver i c p) (TurnAnswer.HandedOver j d q)
 
 -- a tick's answer: its number and its codes; beside a refusal stand ten pairs of zeros
 abbrev Beside : ℕ → List Codes → Type 0
-Beside number cs = unless number (λ n. cs ≡ noCodes) (Unit {0})
+Beside number cs = unless number (λ n. cs ≡ tenZeros) (Unit {0})
 
 abbrev ticks : ℕ → List Codes → TickAnswer
 ticks number cs = record { refused = number; codes = cs }
@@ -136,7 +136,7 @@ module _ (n : Node) (n₁ n₂ : Node) where
 shown-tells : (p q : List ℕ) → shown p ≡ shown q → p ≡ q
 shown-tells p q e = cc
 
-pub show-determined : (n : Node) (incoming outgoing : List ℕ) (k : ℕ) (choice : Bool) (p₁ p₂ : List ℕ) (in-at out-at at₁ at₂ : ℕ × ℕ)
+pub show-determined : (n : Node) (incoming outgoing : List ℕ) (k : ℕ) (choice : Choice) (p₁ p₂ : List ℕ) (in-at out-at at₁ at₂ : ℕ × ℕ)
     → ShowPromise n incoming outgoing k choice p₁ in-at out-at at₁ → ShowPromise n incoming outgoing k choice p₂ in-at out-at at₂
     → (p₁ ≡ p₂) × (at₁ ≡ at₂)
 show-determined n incoming outgoing k choice p₁ p₂ in-at out-at at₁ at₂ p q =

@@ -8,15 +8,12 @@ use mathlib.Core.List.{List, [], _∷_}
 use lib.ListN.{length, getD}
 use Rattle.rules.specs.Numbers.{berthCount}
 use Rattle.rules.specs.Tests.{pick}
-use Rattle.rules.specs.Ranges.{fresh}
+use Rattle.rules.specs.Nodes.{fresh}
 use Rattle.rules.specs.Turns.{due}
 use Rattle.rules.specs.Stores.{distance, leastDistance}
 use Rattle.rules.specs.declared.Berth.{Berth}
 use Rattle.rules.proofs.Cases.{split}
-
--- whether the berth that the search probes after so many is due
-abbrev pub probed : ℕ → List Berth → ℕ → Bool
-probed served bs j = due (getD bs ((served + 1 + j) % berthCount) fresh)
+use Rattle.node.specs.Probes.{probed}
 
 module _ (served : ℕ) where
   here : (b : Bool) (p x : ℕ) → p ≤ berthCount → (b ≡ true → p ≤ x) → p ≤ pick b x berthCount
@@ -43,11 +40,6 @@ module _ (served : ℕ) where
       let rest = no-farther (suc k) bs i (omega arith) e in
       let z : k + suc i ≡ suc k + i = omega arith in
       rw z (omega arith)
-
-  pub at-most-ten : (k : ℕ) (bs : List Berth) → leastDistance served k bs ≤ berthCount
-  unfolding leastDistance
-  at-most-ten k [] = omega arith
-  at-most-ten k (b ∷ bs) = let rest = at-most-ten (suc k) bs in omega arith
 
 module _ (served : ℕ) (bs : List Berth) (served-most : served < berthCount) (ten : length bs ≡ berthCount) where
   -- the probe after as many as its distance meets a berth

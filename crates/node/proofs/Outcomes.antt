@@ -6,9 +6,10 @@ use mathlib.Core.Bool.{Bool, true, false, not, _&&_}
 use mathlib.Core.List.{List, [], _∷_, _++_}
 use lib.Dec.{T, ltb}
 use Rattle.rules.specs.Tests.{pick, Need, need, firstUnmet}
-use Rattle.rules.specs.Stores.{Held}
+use Rattle.rules.specs.Nodes.{Held}
 use Rattle.rules.specs.Answers.{Answer, refused, paperOf}
-use Rattle.rules.specs.Refusals.{Call, refusal}
+use Rattle.rules.specs.Events.{Call}
+use Rattle.rules.specs.Refusals.{refusal}
 use Rattle.rules.specs.Calls.{Outcome, outcome, done, reply, written, bufferOf, refusedOutcome}
 use Rattle.rules.proofs.Cases.{Tested, holds, fails, test-cases, and-left, and-right, tests}
 use Rattle.node.specs.Promises.{Agrees, left}

@@ -7,11 +7,12 @@ use mathlib.Core.List.{List, [], _∷_}
 use lib.ListN.{getD, set, replicate}
 use Rattle.rules.specs.Tests.{all, each, firstUnmet}
 use Rattle.rules.specs.Frames.{kind, low, singleFits, consecutiveFits, share}
-use Rattle.rules.specs.Ranges.{settingsAllowed, inBlock, takingInRange, berthInOrder, fresh, berthAt, inOrder}
+use Rattle.rules.specs.Nodes.{fresh, berthAt, withBerth}
+use Rattle.rules.specs.Ranges.{settingsAllowed, inBlock, takingInRange, berthInOrder, inOrder}
 use Rattle.rules.specs.Arrivals.{singleCame, piece, completed, awaitedCame, heardBy, byKind, frameCame}
 use Rattle.rules.specs.Ticks.{ran, ticked}
 use Rattle.rules.specs.Turns.{due}
-use Rattle.rules.specs.Stores.{rightStore, inside, stored, withBerth, tickedNode, distance, leastDistance, passedOver, cameAt}
+use Rattle.rules.specs.Stores.{rightStore, inside, stored, tickedNode, distance, leastDistance, passedOver, cameAt}
 use Rattle.rules.specs.Refusals.{needs, refusal}
 use Rattle.rules.specs.Calls.{afterFrame, done, reply, outcome}
 use Rattle.rules.specs.Answers.{paperOf, frameSays, turnSays}
@@ -22,7 +23,7 @@ use Rattle.rules.specs.declared.Tx.{Tx}
 use Rattle.rules.specs.declared.Word.{Word}
 use Rattle.rules.specs.declared.FrameAnswer.{FrameAnswer}
 use Rattle.rules.specs.declared.TurnAnswer.{TurnAnswer}
-use Rattle.node.specs.Promises.{noCodes, FramePromise, TickPromise, TurnPromise}
+use Rattle.node.specs.Promises.{tenZeros, FramePromise, TickPromise, TurnPromise}
 
 -- a node with areas of 8 bytes, whose berth 0 has a receive side and whose other sides are idle; its stores hold zeros
 abbrev hearing : Rx → Node
@@ -63,7 +64,7 @@ unfolding
 not-fixed p = let z : _≡_ {A = ℕ} 42 7 = ap (λ h. getD (h .incoming) 0 0) (p [] .held) in omega arith
 
 -- one that does nothing: a timer that runs stands at 1 after a tick
-pub not-idle : TickPromise (hearing (Rx.OwesOverflow 0)) (record { refused = 0; codes = noCodes }) (hearing (Rx.OwesOverflow 0)) → ⊥
+pub not-idle : TickPromise (hearing (Rx.OwesOverflow 0)) (record { refused = 0; codes = tenZeros }) (hearing (Rx.OwesOverflow 0)) → ⊥
 unfolding
     all each firstUnmet settingsAllowed berthInOrder inOrder ran ticked tickedNode
     needs refusal done outcome

@@ -2,19 +2,21 @@
 use Prim.Native.Nat.{ℕ, _+_, _-_, _*_, _≤_, _<_}
 use native.Mathlib.Omega.{arith}
 use mathlib.Core.Path.{_≡_, refl}
-use mathlib.Core.Bool.{Bool, true, false}
+use mathlib.Core.Bool.{true, false}
 use mathlib.Core.List.{List, []}
 use lib.ListN.{length, take, drop}
 use lib.Seq.{take-take}
 use mir.Facts.{eqb-yes, ltb-yes}
 use Rattle.rules.specs.Numbers.{berthCount, leastArea}
-use Rattle.rules.specs.Tests.{pick}
-use Rattle.rules.specs.Ranges.{RxRange, TxRange, InOrder, BerthRange, inOrder, berthAt}
+use Rattle.rules.specs.Nodes.{berthAt}
+use Rattle.rules.specs.Ranges.{RxRange, TxRange, InOrder, BerthRange, inOrder}
 use Rattle.rules.specs.Turns.{lengthSending}
 use Rattle.rules.specs.Stores.{rightStore, areaOf}
-use Rattle.rules.specs.Refusals.{show, needs, refusal}
-use Rattle.rules.specs.Calls.{showable, shownLength, showing, done, reply, written}
+use Rattle.rules.specs.Events.{show}
+use Rattle.rules.specs.Refusals.{needs, refusal}
+use Rattle.rules.specs.Calls.{showable, chosen, shownLength, showing, done, reply, written}
 use Rattle.rules.specs.declared.Settings.{Settings}
+use Rattle.rules.specs.declared.Choice.{Choice}
 use Rattle.rules.specs.declared.Rx.{Rx}
 use Rattle.rules.specs.declared.Tx.{Tx}
 use Rattle.rules.specs.declared.Berth.{Berth}
@@ -39,10 +41,10 @@ sending-fits s (Tx.FirstDue n t) l h = omega arith
 sending-fits s (Tx.AwaitsFlow o t) l h = h .0 .length-most
 sending-fits s (Tx.Consecutive o t) l h = h .0 .length-most
 
-pub shown-fits : (s : Settings) (b : Berth) (choice : Bool) → leastArea ≤ s .area → BerthRange s b
-    → pick choice (lengthSending (b .tx)) (b .last) ≤ s .area
-shown-fits s b true l h = sending-fits s (b .tx) l (h .send)
-shown-fits s b false l h = last-fits s (b .last) (b .rx) (h .receive)
+pub shown-fits : (s : Settings) (b : Berth) (choice : Choice) → leastArea ≤ s .area → BerthRange s b
+    → chosen choice (b .last) (lengthSending (b .tx)) ≤ s .area
+shown-fits s b Choice.Arrived l h = last-fits s (b .last) (b .rx) (h .receive)
+shown-fits s b Choice.Sending l h = sending-fits s (b .tx) l (h .send)
 
 -- ---- what is known where a part can be shown, and what is shown where it can and where it cannot
 
@@ -66,23 +68,23 @@ module _ (n : Node) (incoming outgoing : List ℕ) (k : ℕ) where
       }
 
 module _ (n : Node) (incoming outgoing : List ℕ) (k : ℕ) (in-at out-at : ℕ × ℕ) where
-  pub shows-none : (choice : Bool) → showable (lent n incoming outgoing) k ≡ false
+  pub shows-none : (choice : Choice) → showable (lent n incoming outgoing) k ≡ false
       → ShowPromise n incoming outgoing k choice [] in-at out-at in-at
   unfolding refusal needs reply done written showing shownLength
   shows-none choice e =
       record { agrees = does (lent n incoming outgoing) (show k choice) refl all-met (simp e); starts = simp e }
 
   -- the part that the code takes of the store that it chose, from the area's start to its end
-  pub shows : (choice b : Bool) (lo shown : ℕ) → choice ≡ b → lo ≡ k * n .settings .area → showable (lent n incoming outgoing) k ≡ true
-      → shown ≡ pick choice (lengthSending (berthAt n k .tx)) (berthAt n k .last) → shown ≤ n .settings .area
-      → ShowPromise n incoming outgoing k choice (take (lo + shown - lo) (drop lo (pick b outgoing incoming)))
-      in-at out-at (pick b out-at in-at .0, lo + pick b out-at in-at .1)
+  pub shows : (choice one : Choice) (lo shown : ℕ) → choice ≡ one → lo ≡ k * n .settings .area → showable (lent n incoming outgoing) k ≡ true
+      → shown ≡ chosen choice (berthAt n k .last) (lengthSending (berthAt n k .tx)) → shown ≤ n .settings .area
+      → ShowPromise n incoming outgoing k choice (take (lo + shown - lo) (drop lo (chosen one incoming outgoing)))
+      in-at out-at (chosen one in-at out-at .0, lo + chosen one in-at out-at .1)
   unfolding refusal needs reply done written showing shownLength areaOf
-  shows choice b lo shown chosen starts e is fits =
-      let length-is = rw chosen at is in
+  shows choice one lo shown same-choice starts e is fits =
+      let length-is = rw same-choice at is in
       let part : lo + shown - lo ≡ shown = omega arith in
-      let same = take-take shown (n .settings .area) (drop lo (pick b outgoing incoming)) fits in
-      rw chosen (record {
-        agrees = does (lent n incoming outgoing) (show k b) refl all-met (simp (e, ← length-is, ← starts, part, same));
+      let same = take-take shown (n .settings .area) (drop lo (chosen one incoming outgoing)) fits in
+      rw same-choice (record {
+        agrees = does (lent n incoming outgoing) (show k one) refl all-met (simp (e, ← length-is, ← starts, part, same));
         starts = simp (e, starts);
       })

@@ -2,17 +2,17 @@
 -- what the code leaves is the outcome of the rules at that call. Answers are compared as paper 01 numbers them.
 use Prim.Native.Nat.{ℕ, _+_, _*_}
 use mathlib.Core.Path.{_≡_}
-use mathlib.Core.Bool.{Bool}
 use mathlib.Core.List.{List, []}
 use lib.ListN.{replicate}
 use Rattle.rules.specs.Numbers.{berthCount}
 use Rattle.rules.specs.Tests.{pick, unless}
 use Rattle.rules.specs.Frames.{framesNeeded}
-use Rattle.rules.specs.Stores.{Held}
+use Rattle.rules.specs.Nodes.{Held}
 use Rattle.rules.specs.Answers.{Answer, shown, setUpSays, frameSays, tickSays, sendSays, turnSays, paperOf}
-use Rattle.rules.specs.Refusals.{frame, tick, send, turn, show}
-use Rattle.rules.specs.Calls.{Outcome, outcome, setUpOutcome, showable}
+use Rattle.rules.specs.Events.{frame, tick, send, turn, show}
+use Rattle.rules.specs.Calls.{Outcome, outcome, setUpOutcome, showable, chosen}
 use Rattle.rules.specs.declared.Node.{Node}
+use Rattle.rules.specs.declared.Choice.{Choice}
 use Rattle.rules.specs.declared.Codes.{Codes}
 use Rattle.rules.specs.declared.SetUpAnswer.{SetUpAnswer}
 use Rattle.rules.specs.declared.FrameAnswer.{FrameAnswer}
@@ -46,14 +46,14 @@ FramePromise n incoming id d a n′ incoming′ =
     Agrees (left (frameSays a) (lent n′ incoming′ outgoing) []) (outcome (lent n incoming outgoing) (frame id d))
 
 -- beside a refused tick stand ten pairs of zeros
-abbrev pub noCodes : List Codes
-noCodes = replicate berthCount (record { receive = 0; send = 0 })
+abbrev pub tenZeros : List Codes
+tenZeros = replicate berthCount (record { receive = 0; send = 0 })
 
 pub record TickPromise (n : Node) (a : TickAnswer) (n′ : Node) : Type 0 where
   pub agrees :
       (incoming outgoing : List ℕ) →
       Agrees (left (tickSays a) (lent n′ incoming outgoing) []) (outcome (lent n incoming outgoing) tick)
-  pub beside : unless (a .refused) (λ number. a .codes ≡ noCodes) (Unit {0})
+  pub beside : unless (a .refused) (λ number. a .codes ≡ tenZeros) (Unit {0})
 
 abbrev pub SendPromise : Node → List ℕ → ℕ → List ℕ → SendAnswer → Node → List ℕ → Type 0
 SendPromise n outgoing k m a n′ outgoing′ =
@@ -67,14 +67,14 @@ TurnPromise n outgoing buffer a n′ buffer′ =
 
 -- where a part starts: a block of memory, and the place in it. Berth k's area in the chosen store, or the front of the incoming
 -- store where nothing can be shown
-abbrev pub startsAt : Held → ℕ → Bool → ℕ × ℕ → ℕ × ℕ → ℕ × ℕ
+abbrev pub startsAt : Held → ℕ → Choice → ℕ × ℕ → ℕ × ℕ → ℕ × ℕ
 startsAt h k choice incoming outgoing =
     pick (showable h k)
-    (pick choice outgoing incoming .0, k * h .node .settings .area + pick choice outgoing incoming .1)
+    (chosen choice incoming outgoing .0, k * h .node .settings .area + chosen choice incoming outgoing .1)
     incoming
 
 -- show is lent everything to look at only, so nothing else changes
-pub record ShowPromise (n : Node) (incoming outgoing : List ℕ) (k : ℕ) (choice : Bool) (part : List ℕ) (in-at out-at part-at : ℕ × ℕ) : Type 0 where
+pub record ShowPromise (n : Node) (incoming outgoing : List ℕ) (k : ℕ) (choice : Choice) (part : List ℕ) (in-at out-at part-at : ℕ × ℕ) : Type 0 where
   pub agrees : Agrees (left (shown part) (lent n incoming outgoing) []) (outcome (lent n incoming outgoing) (show k choice))
   pub starts : part-at ≡ startsAt (lent n incoming outgoing) k choice in-at out-at
 

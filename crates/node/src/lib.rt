@@ -11,22 +11,23 @@ ghost use mathlib.Core.Bool.{true};
 ghost use mathlib.Core.List.{List};
 ghost use Prim.Native.Nat.{ℕ, _<_};
 ghost use Rattle.rules.specs.Numbers.{berthCount};
-ghost use Rattle.rules.specs.Tests.{pick, firstUnmet};
+ghost use Rattle.rules.specs.Tests.{firstUnmet};
 ghost use Rattle.rules.specs.Ranges.{inOrder};
 ghost use Rattle.rules.specs.Turns.{lengthSending};
 ghost use Rattle.rules.specs.Stores.{passedOver};
-ghost use Rattle.rules.specs.Refusals.{toHear, turn, refusal};
+ghost use Rattle.rules.specs.Events.{turn};
+ghost use Rattle.rules.specs.Refusals.{toHear, refusal};
+ghost use Rattle.rules.specs.Calls.{chosen};
 use rules::Berth;
+use rules::Choice;
 use rules::Codes;
 use rules::FrameAnswer;
 use rules::Node;
-use rules::Rx;
 use rules::SendAnswer;
 use rules::SetUpAnswer;
 use rules::Settings;
 use rules::TickAnswer;
 use rules::TurnAnswer;
-use rules::Tx;
 
 pub struct SetUpOut {
     pub answer: SetUpAnswer,
@@ -63,12 +64,7 @@ pub fn set_up(node: Node, area: u32, block: u32, stmin: u32) -> SetUpOut
             block: block as u8,
             stmin: stmin as u8,
         };
-        let fresh = Berth {
-            rx: Rx::Idle,
-            last: 0,
-            tx: Tx::Idle,
-        };
-        let berths = [fresh; 10];
+        let berths = [Berth::fresh(); 10];
         let n = Node {
             settings: settings,
             served: rules::BERTH_COUNT - 1,
@@ -110,7 +106,11 @@ fn heard(node: Node, incoming: &mut [u8], identifier: u32, payload: &[u8]) -> Fr
         let mut n = node;
         n.berths[at] = after;
         return FrameOut {
-            answer: FrameAnswer::Heard(k as u8, came.old, word),
+            answer: FrameAnswer::Heard {
+                berth: k as u8,
+                old: came.old,
+                word: word,
+            },
             node: n,
         };
     }
@@ -125,7 +125,7 @@ pub fn frame(node: Node, incoming: &mut [u8], identifier: u32, payload: &[u8]) -
 {
     let number = refusals::frame(
         order::in_order(node),
-        node,
+        node.settings.area,
         &incoming[..],
         identifier,
         payload,
@@ -192,10 +192,11 @@ pub fn send(node: Node, outgoing: &mut [u8], berth: u32, message: &[u8]) -> Send
 {
     let at = places::of_berth(berth);
     let one = node.berths[at];
+    let tx = one.tx;
     let number = refusals::send(
         order::in_order(node),
-        node,
-        one,
+        node.settings.area,
+        tx,
         &outgoing[..],
         berth,
         message,
@@ -255,47 +256,60 @@ fn hand_over_at(node: Node, outgoing: &[u8], buffer: &mut [u8], passed: u8) -> T
 pub fn turn(node: Node, outgoing: &[u8], buffer: &mut [u8]) -> TurnOut
     ensures { λ r. ⌜ TurnPromise node (now (outgoing .entry)) (now (buffer .entry)) (r .answer) (r .node) (now (buffer .exit)) ⌝ }
 {
-    let number = refusals::turn(order::in_order(node), node, outgoing, &buffer[..]);
+    let number = refusals::turn(
+        order::in_order(node),
+        node.settings.area,
+        outgoing,
+        &buffer[..],
+    );
     if number != 0 {
         return turn_answered(TurnAnswer::Refused(number), node);
     }
     let passed = round::passed_over(node);
     if rules::BERTH_COUNT <= passed {
-        return turn_answered(TurnAnswer::None(rules::BERTH_COUNT), node);
+        return turn_answered(TurnAnswer::None(passed), node);
     }
     hand_over_at(node, outgoing, &mut buffer[..], passed)
 }
 
-fn length_shown(berth: Berth, choice: bool) -> u32
-    ensures { λ r. ⌜ r ≡ pick choice (lengthSending (berth .tx)) (berth .last) ⌝ }
+fn length_shown(berth: Berth, choice: Choice) -> u32
+    ensures { λ r. ⌜ r ≡ chosen choice (berth .last) (lengthSending (berth .tx)) ⌝ }
 {
-    if choice {
-        let tx = berth.tx;
-        return berth::turns::length_sending(tx);
+    match choice {
+        Choice::Arrived => berth.last,
+        Choice::Sending => {
+            let tx = berth.tx;
+            berth::turns::length_sending(tx)
+        }
     }
-    berth.last
 }
 
-// The part of the incoming store that holds the last message arrived or, if the choice is true, the part of the outgoing store
-// that holds the message now being sent; empty if there is none.
+// The part of the incoming store that holds the last message arrived, or the part of the outgoing store that holds the message now
+// being sent; empty if there is none.
 pub fn show<'a>(
     node: Node,
     incoming: &'a [u8],
     outgoing: &'a [u8],
     berth: u32,
-    choice: bool,
+    choice: Choice,
 ) -> &'a [u8]
     ensures { λ r. ⌜ ShowPromise node (now (incoming .entry)) (now (outgoing .entry)) berth choice (now r) (incoming .entry .ptr) (outgoing .entry .ptr) (r .ptr) ⌝ }
 {
-    if refusals::showable(order::in_order(node), node, incoming, outgoing, berth) {
+    if refusals::showable(
+        order::in_order(node),
+        node.settings.area,
+        incoming,
+        outgoing,
+        berth,
+    ) {
         let at = places::of_berth(berth);
         let one = node.berths[at];
         let lo = places::of_area(at, node.settings.area);
         let hi = lo + length_shown(one, choice) as usize;
-        if choice {
-            return &outgoing[lo..hi];
+        match choice {
+            Choice::Arrived => return &incoming[lo..hi],
+            Choice::Sending => return &outgoing[lo..hi],
         }
-        return &incoming[lo..hi];
     }
     &incoming[..0]
 }

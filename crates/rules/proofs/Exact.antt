@@ -11,10 +11,12 @@ use lib.Dec.{T, ltb, leb}
 use mir.Facts.{leb-yes, leb-no, ltb-yes, ltb-no, eqb-yes, eqb-no, yes-leb, yes-ltb, yes-and}
 use Rattle.rules.specs.Tests.{Need, need, firstUnmet}
 use Rattle.rules.specs.Numbers.{berthCount, fromBerth, outOfOrder, badSetting, outsideArea}
-use Rattle.rules.specs.Ranges.{settingsAllowed, berthAt, inOrder, InOrder}
+use Rattle.rules.specs.Nodes.{berthAt, Held}
+use Rattle.rules.specs.Ranges.{settingsAllowed, inOrder, InOrder}
 use Rattle.rules.specs.Turns.{busy}
-use Rattle.rules.specs.Stores.{Held, rightStore, inside}
-use Rattle.rules.specs.Refusals.{Call, senderOf, needs, refusal, setUpRefusal, Condition, conditions, setUpConditions, Holds, Refuses}
+use Rattle.rules.specs.Stores.{rightStore, inside}
+use Rattle.rules.specs.Events.{Call, senderOf}
+use Rattle.rules.specs.Refusals.{needs, refusal, setUpRefusal, Condition, conditions, setUpConditions, Holds, Refuses}
 use Rattle.rules.specs.Calls.{setUpOutcome, final}
 use Rattle.rules.proofs.Cases.{Tested, holds, fails, test-cases, leb-cases, and-left, and-right, tests}
 use Rattle.rules.proofs.Ranges.{settings-range, settings-allowed, in-order-range, range-in-order}

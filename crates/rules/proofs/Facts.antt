@@ -4,17 +4,20 @@ use Prim.Native.Nat.{ℕ, zero, suc, _+_, _≤_, _<_, min}
 use native.Mathlib.Omega.{arith}
 use mathlib.Core.Bool.{_&&_}
 use mathlib.Core.Logic.{⊎-elim}
-use mathlib.Core.List.{List, []}
+use mathlib.Core.List.{List, [], _∷_}
 use lib.ListN.{length, take, drop, length-take, length-drop}
+use lib.Seq.{sets}
 use lib.Dec.{T, eqb, leb}
 use Rattle.rules.specs.Tests.{unless}
 use Rattle.rules.specs.Numbers.{singleKind, firstKind, consecutiveKind, flowKind, goStatus, waitStatus, overflowStatus, consecutiveMost}
 use Rattle.rules.specs.Frames.{kind, low, singleFits, announced, firstFits, consecutiveFits, flowFits, share}
 use Rattle.rules.specs.Arrivals.{Heard, ignored, singleCame, aboveArea, turnedAway, begun, firstCame, missing, piece, completed, took, wrongSn, awaitedCame, consecutiveCame, Told, granted, byStatus, flowIgnored, flowCame, Came, heardBy, toldBy, byKind, frameCame}
 use Rattle.rules.specs.Turns.{newBlock, afterFlow}
-use Rattle.rules.specs.Stores.{Held}
-use Rattle.rules.specs.Refusals.{Call, refusal, setUpRefusal}
-use Rattle.rules.specs.Calls.{bufferOf, refusedOutcome, outcome, setUpOutcome}
+use Rattle.rules.specs.Nodes.{berthAt, Held}
+use Rattle.rules.specs.Stores.{areaOf, cameAt}
+use Rattle.rules.specs.Events.{Call, frame, senderOf}
+use Rattle.rules.specs.Refusals.{refusal, setUpRefusal}
+use Rattle.rules.specs.Calls.{afterFrame, done, bufferOf, refusedOutcome, outcome, setUpOutcome}
 use Rattle.rules.specs.declared.Settings.{Settings}
 use Rattle.rules.specs.declared.Taking.{Taking}
 use Rattle.rules.specs.declared.Sending.{Sending}
@@ -22,7 +25,9 @@ use Rattle.rules.specs.declared.Rx.{Rx}
 use Rattle.rules.specs.declared.Tx.{Tx}
 use Rattle.rules.specs.declared.Berth.{Berth}
 use Rattle.rules.specs.declared.Word.the-variants.{Begun, Ignored}
-use Rattle.rules.proofs.Cases.{is-true, eqb-is, ltb-is, or-cases, and-left, and-right, tests, pick-either}
+use Rattle.rules.proofs.Areas.{area-same}
+use Rattle.rules.proofs.Answered.{frame-answered}
+use Rattle.rules.proofs.Cases.{is-true, eqb-is, eqb-not, ltb-is, or-cases, and-left, and-right, tests, pick-either}
 
 -- ---- every branch of a frame at a berth: what holds of each kind's rule holds of the frame
 
@@ -124,15 +129,33 @@ too-long s rx last d h =
 
 -- ---- storing seven bytes from the last frame
 
--- A CONSECUTIVE FRAME that is taken stores exactly min(7, r) bytes, at got
-pub consecutive-stores : (s : Settings) (p : Taking) (t last : ℕ) (d : List ℕ)
-    → T (consecutiveFits (missing p) d) → low d ≡ p .sn .0
-    → (awaitedCame s p t last d .place ≡ p .got) × (length (awaitedCame s p t last d .bytes) ≡ min 7 (missing p))
-unfolding awaitedCame completed took piece
-consecutive-stores s p t last d f e =
-    rw (is-true (consecutiveFits (missing p) d) f, eqb-is (low d) (p .sn .0) e)
-    (pick-either (λ (h : Heard). (h .place ≡ p .got) × (length (h .bytes) ≡ min 7 (missing p))) (leb (missing p) consecutiveMost) _ _
-    (λ u. (refl, exact)) (λ u. (refl, exact)))
+-- A RIGHT AWAITED CONSECUTIVE FRAME stores the next min(7, r) bytes of the message, those behind its first byte, at got
+pub consecutive-came : (s : Settings) (b : Berth) (p : Taking) (t : ℕ) (d : List ℕ) → b .rx ≡ Rx.Awaits p t → kind d ≡ consecutiveKind
+    → T (consecutiveFits (missing p) d) → low d ≡ p .sn .0 → (frameCame s b d .place ≡ p .got) × (frameCame s b d .bytes ≡ piece p d)
+unfolding frameCame byKind heardBy awaitedCame completed took
+consecutive-came s b p t [] r c f l = absurd (unfold kind in omega arith)
+consecutive-came s b p t (x ∷ xs) r c f l =
+    rw (eqb-not (length (x ∷ xs)) 0 (λ z. omega arith), c, r, is-true (consecutiveFits (missing p) (x ∷ xs)) f, eqb-is (low (x ∷ xs)) (p .sn .0) l)
+    (pick-either (λ (h : Heard). (h .place ≡ p .got) × (h .bytes ≡ piece p (x ∷ xs))) (leb (missing p) consecutiveMost) _ _
+    (λ u. (refl, refl)) (λ u. (refl, refl)))
+
+-- A FRAME THAT IS ANSWERED puts the bytes that the rule names down at their place of its berth's area, and leaves the rest of it
+pub frame-area : (h : Held) (id : ℕ) (d : List ℕ) → refusal h (frame id d) ≡ 0
+    → areaOf (h .node .settings .area) (senderOf id) (done h (frame id d) .incoming)
+    ≡ sets (areaOf (h .node .settings .area) (senderOf id) (h .incoming)) (cameAt h (senderOf id) d .place) (cameAt h (senderOf id) d .bytes)
+unfolding done afterFrame
+frame-area h id d e = area-same (h .node .settings .area) (senderOf id) _ _ (h .incoming) (frame-answered h id d e .fits)
+
+-- THE AREA AFTER A RIGHT AWAITED CONSECUTIVE FRAME: the next min(7, r) bytes stand at got, and every other byte is as it was
+pub consecutive-stores : (h : Held) (id : ℕ) (d : List ℕ) (p : Taking) (t : ℕ) → refusal h (frame id d) ≡ 0
+    → berthAt (h .node) (senderOf id) .rx ≡ Rx.Awaits p t → kind d ≡ consecutiveKind → T (consecutiveFits (missing p) d) → low d ≡ p .sn .0
+    → (areaOf (h .node .settings .area) (senderOf id) (done h (frame id d) .incoming)
+    ≡ sets (areaOf (h .node .settings .area) (senderOf id) (h .incoming)) (p .got) (take (min 7 (missing p)) (drop 1 d)))
+    × (length (take (min 7 (missing p)) (drop 1 d)) ≡ min 7 (missing p))
+unfolding cameAt piece share
+consecutive-stores h id d p t e r c f l =
+    let (at, bytes) = consecutive-came (h .node .settings) (berthAt (h .node) (senderOf id)) p t d r c f l in
+    (rw (at, bytes) at (frame-area h id d e), omega (arith, enough, length-take (min 7 (missing p)) (drop 1 d)))
   where
     enough : min 7 (missing p) ≤ length (drop 1 d)
     enough =
@@ -140,9 +163,6 @@ consecutive-stores s p t last d f e =
         (⊎-elim (λ (u : T (eqb (length d) 8)). omega (tests, length-drop 1 d))
         (λ (u : T (leb (missing p) 7 && eqb (length d) (missing p + 1))). omega (tests, length-drop 1 d, and-left (leb (missing p) 7) _ u, and-right (leb (missing p) 7) _ u))
         (or-cases (eqb (length d) 8) _ f))
-
-    exact : length (take (share consecutiveMost (missing p)) (drop 1 d)) ≡ min 7 (missing p)
-    exact = unfold share in (omega (arith, enough, length-take (min 7 (missing p)) (drop 1 d)))
 
 -- ---- resetting the SN at a new block
 
@@ -160,6 +180,21 @@ flow-leaves-sn o t d o′ t′ =
   where
     same : Tx.Consecutive (granted o d) 0 ≡ Tx.Consecutive o′ t′ → o′ .sn ≡ o .sn
     same e = let g : granted o d ≡ o′ = cc in ap (λ (x : Sending). x .sn) (sym g)
+
+-- under WAIT too, where the whole sending stays
+pub wait-leaves-sn : (o : Sending) (t : ℕ) (d : List ℕ) (o′ : Sending) (t′ : ℕ)
+    → flowCame (Tx.AwaitsFlow o t) d .tx ≡ Tx.AwaitsFlow o′ t′ → o′ .sn ≡ o .sn
+unfolding flowIgnored byStatus
+wait-leaves-sn o t d o′ t′ =
+    let K : Told → Type 0 = λ told. told .tx ≡ Tx.AwaitsFlow o′ t′ → o′ .sn ≡ o .sn in
+    pick-either K (flowFits d) _ _
+    (λ u. pick-either K (eqb (low d) goStatus) _ _ (λ v e. clash (cc))
+    (λ v. pick-either K (eqb (low d) waitStatus) _ _ (λ w e. same 0 e)
+    (λ w. pick-either K (eqb (low d) overflowStatus) _ _ (λ x e. clash (cc)) (λ x e. clash (cc)))))
+    (λ u e. same t e)
+  where
+    same : (u : ℕ) → Tx.AwaitsFlow o u ≡ Tx.AwaitsFlow o′ t′ → o′ .sn ≡ o .sn
+    same u e = let g : o ≡ o′ = cc in ap (λ (x : Sending). x .sn) (sym g)
 
 -- and on the side that gives it
 pub go-leaves-sn : (p : Taking) (t : ℕ) (p′ : Taking) (t′ : ℕ) → afterFlow (Rx.OwesGo p t) ≡ Rx.Awaits p′ t′ → p′ .sn ≡ p .sn

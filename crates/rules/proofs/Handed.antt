@@ -8,14 +8,17 @@ use mathlib.Core.List.{List, [], _∷_}
 use lib.ListN.{length, take, drop, replicate, length-take, length-append, length-replicate}
 use lib.Dec.{T, ltb}
 use Rattle.rules.specs.Tests.{unless}
-use Rattle.rules.specs.Numbers.{berthCount, toBerth, frameLength, filler, firstBytes, consecutiveMost}
-use Rattle.rules.specs.Ranges.{SettingsRange, TxRange, BerthRange, berthAt, InOrder}
-use Rattle.rules.specs.Frames.{byteAt, padded, headed, singleFrame, firstFrame, consecutiveFrame, goFrame, overflowFrame, share}
+use Rattle.rules.specs.Numbers.{berthCount, toBerth, filler, firstBytes, consecutiveMost}
+use Rattle.rules.specs.Nodes.{berthAt, Held}
+use Rattle.rules.specs.Ranges.{SettingsRange, TxRange, BerthRange, InOrder}
+use Rattle.rules.specs.Frames.{padded, headed, singleFrame, firstFrame, consecutiveFrame, goFrame, overflowFrame, share}
 use Rattle.rules.specs.Turns.{flowDue, messageDue, due, flowFrame, toGo, messageFrame, HandedOver, handOver}
-use Rattle.rules.specs.Stores.{Held, passedOver, reached, handedAt}
+use Rattle.rules.specs.Stores.{passedOver, reached, handedAt}
 use Rattle.rules.specs.Answers.{handed, none}
-use Rattle.rules.specs.Refusals.{Call, refusal}
+use Rattle.rules.specs.Events.{Call}
+use Rattle.rules.specs.Refusals.{refusal}
 use Rattle.rules.specs.Calls.{reply, done, written, refusedOutcome, outcome}
+use Rattle.rules.specs.Handing.{Fit}
 use Rattle.rules.specs.declared.Settings.{Settings}
 use Rattle.rules.specs.declared.Rx.{Rx}
 use Rattle.rules.specs.declared.Tx.{Tx}
@@ -25,11 +28,6 @@ use Rattle.rules.proofs.Answered.{turn-answered}
 use Rattle.rules.proofs.Ranges.{in-order-range}
 use Rattle.rules.proofs.Order.{reached-small}
 use Rattle.rules.proofs.Round.{reached-due}
-
--- eight bytes, and the first is not 31
-pub record Fit (f : List ℕ) : Type 0 where
-  pub eight : length f ≡ frameLength
-  pub no-wait : byteAt f 0 ≡ 0x31 → ⊥
 
 headed-fit : (k l : ℕ) (s : List ℕ) → length s ≤ 7 → (k * 16 + l ≡ 0x31 → ⊥) → Fit (headed k l s)
 unfolding padded

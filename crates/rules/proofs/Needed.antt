@@ -4,18 +4,18 @@ use mathlib.Core.Path.{_≡_, refl, _∙_}
 use Prim.Native.Nat.{ℕ, suc, _+_, _-_, _*_, _/_, _%_, _≤_, _<_}
 use native.Mathlib.Omega.{arith}
 use native.Mathlib.Nat.{zero-add}
-use mathlib.Core.Bool.{_||_}
 use mathlib.Core.List.{List, [], _∷_}
 use lib.ListN.{length, take, drop, length-take}
 use lib.Dec.{T, eqb, ltb, leb}
-use Rattle.rules.specs.Tests.{pick}
 use Rattle.rules.specs.Numbers.{flowKind, timeout, goStatus, waitStatus, overflowStatus, singleMost, firstBytes, consecutiveMost, largestArea}
 use Rattle.rules.specs.Ranges.{SettingsRange, TxRange, BerthRange}
 use Rattle.rules.specs.Frames.{kind, low, padded, singleFrame, firstFrame, consecutiveFrame, goFrame, overflowFrame, flowFits, fillsBlock, share, roundedUp, needed, framesNeeded}
 use Rattle.rules.specs.Arrivals.{Told, granted, byStatus, flowIgnored, flowCame, Came, heardBy, toldBy, frameCame}
 use Rattle.rules.specs.Ticks.{ran, txTicked, ticked}
 use Rattle.rules.specs.Turns.{flowDue, messageDue, flowFrame, toGo, messageFrame, messageCode, moved, afterConsecutive, afterMessage, HandedOver, handOver, beginsWith, sent, busy}
-use Rattle.rules.specs.Alone.{Part, Event, arrives, ticks, sends, turns, Says, hears, expires, accepts, hands, partAfter, says, alone, saysAll}
+use Rattle.rules.specs.Events.{Event, arrives, ticks, sends, turns}
+use Rattle.rules.specs.Alone.{Part, hands, partAfter, says, alone, saysAll}
+use Rattle.rules.specs.Handing.{dataFrames, dataTotal, Carried, CarriedAll}
 use Rattle.rules.specs.declared.Settings.{Settings}
 use Rattle.rules.specs.declared.Sending.{Sending}
 use Rattle.rules.specs.declared.Rx.{Rx}
@@ -24,30 +24,6 @@ use Rattle.rules.specs.declared.Berth.{Berth}
 use Rattle.rules.proofs.Cases.{Tested, holds, fails, eqb-not, ltb-is, leb-is, leb-cases, pick-either}
 use Rattle.rules.proofs.Order.{came-ok, ticked-ok, hand-over-ok, sent-ok}
 use Rattle.rules.proofs.Facts.{frame-either}
-
--- ---- what the theorem speaks of
-
--- the data frames that a berth hands over at an event: a frame that is no flow control
-abbrev pub dataFrames : Says → ℕ
-dataFrames (hears old w) = 0
-dataFrames (expires r s) = 0
-dataFrames accepts = 0
-dataFrames (hands f c) = pick (eqb (length f) 0 || eqb (kind f) flowKind) 0 1
-
-unfoldable pub dataTotal : List Says → ℕ
-dataTotal [] = 0
-dataTotal (x ∷ xs) = dataFrames x + dataTotal xs
-
--- no frame or tick ends the sending, and no other message is sent
-abbrev pub Carried : Settings → Part → Event → Type 0
-Carried s p (arrives d) = T (busy (p .berth .tx)) → T (busy (frameCame s (p .berth) d .berth .tx))
-Carried s p ticks = T (busy (p .berth .tx)) → T (busy (txTicked (p .berth .tx)))
-Carried s p (sends m) = ⊥
-Carried s p turns = Unit {0}
-
-unfoldable pub CarriedAll : Settings → Part → List Event → Type 0
-CarriedAll s p [] = Unit {0}
-CarriedAll s p (e ∷ es) = Carried s p e × CarriedAll s (partAfter s p e) es
 
 -- ---- the frames left
 

@@ -12,14 +12,16 @@ use lib.Seq.{getD-set-same, getD-set-other}
 use lib.Dec.{T, eqb, ltb, leb, lit<}
 use mir.Facts.{leb-yes, ltb-yes, ltb-no, eqb-yes, eqb-no}
 use Rattle.rules.specs.Tests.{pick, unless}
-use Rattle.rules.specs.Numbers.{berthCount, longestGap, mostMillis, leastFraction, mostFraction, singleMost, firstBytes, consecutiveMost, leastLong, shortMost, frameLength, singleKind, firstKind, consecutiveKind, flowKind, goStatus, waitStatus, overflowStatus, timeout}
-use Rattle.rules.specs.Ranges.{SettingsRange, BlockRange, TakingRange, RxRange, SendingRange, TxRange, BerthRange, fresh, berthAt, InOrder}
+use Rattle.rules.specs.Numbers.{berthCount, longestGap, mostMillis, leastFraction, mostFraction, singleMost, firstBytes, consecutiveMost, leastLong, shortMost, frameSize, singleKind, firstKind, consecutiveKind, flowKind, goStatus, waitStatus, overflowStatus, timeout}
+use Rattle.rules.specs.Nodes.{fresh, berthAt, Held, withBerth}
+use Rattle.rules.specs.Ranges.{SettingsRange, BlockRange, TakingRange, RxRange, SendingRange, TxRange, BerthRange, InOrder}
 use Rattle.rules.specs.Frames.{byteAt, kind, low, singleFits, shortLength, escapeLength, announced, firstFits, consecutiveFits, flowFits, nextSn, counted, fillsBlock, gapOf, share}
 use Rattle.rules.specs.Arrivals.{Heard, ignored, singleCame, aboveArea, turnedAway, taking, begun, firstCame, missing, piece, grown, completed, afterTook, took, wrongSn, awaitedCame, consecutiveCame, Told, granted, byStatus, flowIgnored, flowCame, Came, heardBy, toldBy, byKind, frameCame}
 use Rattle.rules.specs.Ticks.{ran, rxTicked, closer, txTicked, ticked}
 use Rattle.rules.specs.Turns.{flowDue, afterFlow, toGo, opened, moved, afterConsecutive, afterMessage, HandedOver, handOver, beginsWith, sent}
-use Rattle.rules.specs.Stores.{Held, withBerth, tickedNode, servedNode, setUpNode, passedOver, reached, cameAt, handedAt}
-use Rattle.rules.specs.Refusals.{Call, senderOf, refusal, setUpRefusal}
+use Rattle.rules.specs.Stores.{tickedNode, servedNode, setUpNode, passedOver, reached, cameAt, handedAt}
+use Rattle.rules.specs.Events.{Call, senderOf}
+use Rattle.rules.specs.Refusals.{refusal, setUpRefusal}
 use Rattle.rules.specs.Calls.{afterFrame, done, reply, bufferOf, written, refusedOutcome, outcome, setUpOutcome, final}
 use Rattle.rules.specs.declared.Settings.{Settings}
 use Rattle.rules.specs.declared.Taking.{Taking}
@@ -74,7 +76,7 @@ single-small d t = leb-yes (and-left (leb (low d) singleMost) _ (and-right (leb 
 
 pub announced-large : (d : List ℕ) → T (firstFits d) → leastLong ≤ announced d
 unfolding firstFits announced
-announced-large d t = go (eqb-cases (shortLength d) 0) (and-right (eqb (length d) frameLength) _ t)
+announced-large d t = go (eqb-cases (shortLength d) 0) (and-right (eqb (length d) frameSize) _ t)
   where
     go : Tested (eqb (shortLength d) 0) (shortLength d ≡ 0) (shortLength d ≡ 0 → ⊥)
         → T (pick (eqb (shortLength d) 0) (ltb shortMost (escapeLength d)) (ltb singleMost (shortLength d))) → leastLong ≤ announced d

@@ -8,7 +8,8 @@ use lib.ListN.{length}
 use lib.Dec.{T, eqb, leb}
 use mir.Facts.{leb-yes, ltb-yes, eqb-yes, yes-leb, yes-ltb, yes-eqb, yes-and}
 use Rattle.rules.specs.Numbers.{berthCount, mostMillis, leastFraction, snCount, firstBytes, leastLong}
-use Rattle.rules.specs.Ranges.{stminAllowed, StminRange, settingsAllowed, SettingsRange, inBlock, BlockRange, underWayInRange, takingInRange, TakingRange, rxInRange, RxRange, sendingInRange, SendingRange, txInRange, TxRange, berthInOrder, BerthRange, fresh, berthAt, inOrder, InOrder}
+use Rattle.rules.specs.Nodes.{fresh, berthAt}
+use Rattle.rules.specs.Ranges.{stminAllowed, StminRange, settingsAllowed, SettingsRange, inBlock, BlockRange, underWayInRange, takingInRange, TakingRange, rxInRange, RxRange, sendingInRange, SendingRange, txInRange, TxRange, berthInOrder, BerthRange, inOrder, InOrder}
 use Rattle.rules.specs.declared.Settings.{Settings}
 use Rattle.rules.specs.declared.Taking.{Taking}
 use Rattle.rules.specs.declared.Sending.{Sending}

@@ -10,7 +10,8 @@ use lib.ListN.{length, getD}
 use lib.Dec.{T, ltb, lit<}
 use Rattle.rules.specs.Tests.{pick}
 use Rattle.rules.specs.Numbers.{berthCount}
-use Rattle.rules.specs.Ranges.{fresh, berthAt, InOrder}
+use Rattle.rules.specs.Nodes.{fresh, berthAt}
+use Rattle.rules.specs.Ranges.{InOrder}
 use Rattle.rules.specs.Turns.{due}
 use Rattle.rules.specs.Stores.{distance, leastDistance, passedOver, reached}
 use Rattle.rules.specs.declared.Berth.{Berth}
@@ -75,7 +76,17 @@ found served (b ∷ bs) k h = go (test-cases (due b)) (ltb-cases (leastDistance 
         let m : pick (due b) (distance served k) berthCount ≡ berthCount = rw t in
         absurd (omega arith)
 
+pub least-ten : (served k : ℕ) (bs : List Berth) → leastDistance served k bs ≤ berthCount
+unfolding leastDistance
+least-ten served k [] = omega arith
+least-ten served k (b ∷ bs) = let l = least-ten served (suc k) bs in omega arith
+
 -- ---- the node
+
+-- at most ten are passed over, so None passes over ten
+pub passed-ten : (n : Node) → passedOver n ≤ berthCount
+unfolding passedOver
+passed-ten n = least-ten (n .served) 0 (n .berths)
 
 module _ (n : Node) (o : InOrder n) where
   -- PASSED OVER is at most the distance of any due berth

@@ -3,11 +3,12 @@ use Prim.Native.Nat.{ℕ}
 use mathlib.Core.List.{List, [], _∷_}
 use lib.ListN.{length}
 use lib.Seq.{sets}
-use Rattle.rules.specs.Ranges.{berthAt}
+use Rattle.rules.specs.Nodes.{berthAt, Held}
 use Rattle.rules.specs.Arrivals.{frameCame}
 use Rattle.rules.specs.Ticks.{ticked, rxCode, txCode}
 use Rattle.rules.specs.Turns.{handOver, sent}
-use Rattle.rules.specs.Stores.{Held, areaOf}
+use Rattle.rules.specs.Stores.{areaOf}
+use Rattle.rules.specs.Events.{Event, arrives, ticks, sends, turns}
 use Rattle.rules.specs.declared.Settings.{Settings}
 use Rattle.rules.specs.declared.Berth.{Berth}
 use Rattle.rules.specs.declared.Word.{Word}
@@ -26,13 +27,6 @@ partOf k h =
       outgoing = areaOf (h .node .settings .area) k (h .outgoing);
     }
 
--- a berth's own events: its frames and sends, all ticks, and the turns it received
-pub data Event : Type 0 where
-  arrives : List ℕ → Event
-  ticks : Event
-  sends : List ℕ → Event
-  turns : Event
-
 -- what a berth says at an event: old code and word; the codes of its two sides; that it takes the message; frame and code
 pub data Says : Type 0 where
   hears : ℕ → Word → Says
@@ -40,17 +34,23 @@ pub data Says : Type 0 where
   accepts : Says
   hands : List ℕ → ℕ → Says
 
+-- a part with its state anew, and with one of its areas anew
+abbrev pub withState : Part → Berth → Part
+withState p b = record { berth = b; incoming = p .incoming; outgoing = p .outgoing }
+
+abbrev pub withIncomingArea : Part → List ℕ → Part
+withIncomingArea p area = record { berth = p .berth; incoming = area; outgoing = p .outgoing }
+
+abbrev pub withOutgoingArea : Part → List ℕ → Part
+withOutgoingArea p area = record { berth = p .berth; incoming = p .incoming; outgoing = area }
+
 unfoldable pub partAfter : Settings → Part → Event → Part
 partAfter s p (arrives d) =
-    record {
-      berth = frameCame s (p .berth) d .berth;
-      incoming = sets (p .incoming) (frameCame s (p .berth) d .place) (frameCame s (p .berth) d .bytes);
-      outgoing = p .outgoing;
-    }
-partAfter s p ticks = record { berth = ticked (p .berth); incoming = p .incoming; outgoing = p .outgoing }
-partAfter s p (sends m) = record { berth = sent (p .berth) (length m); incoming = p .incoming; outgoing = sets (p .outgoing) 0 m }
-partAfter s p turns =
-    record { berth = handOver s (p .berth) (p .outgoing) .berth; incoming = p .incoming; outgoing = p .outgoing }
+    withIncomingArea (withState p (frameCame s (p .berth) d .berth))
+    (sets (p .incoming) (frameCame s (p .berth) d .place) (frameCame s (p .berth) d .bytes))
+partAfter s p ticks = withState p (ticked (p .berth))
+partAfter s p (sends m) = withOutgoingArea (withState p (sent (p .berth) (length m))) (sets (p .outgoing) 0 m)
+partAfter s p turns = withState p (handOver s (p .berth) (p .outgoing) .berth)
 
 unfoldable pub says : Settings → Part → Event → Says
 says s p (arrives d) = hears (frameCame s (p .berth) d .old) (frameCame s (p .berth) d .word)

@@ -4,7 +4,7 @@ use mathlib.Core.List.{List, [], _∷_, _++_}
 use lib.ListN.{take}
 use lib.Dec.{eqb}
 use Rattle.rules.specs.Tests.{pick, unless}
-use Rattle.rules.specs.Numbers.{frameLength, toBerth, N-OK, N-WRONG-SN}
+use Rattle.rules.specs.Numbers.{frameSize, toBerth, N-OK, N-WRONG-SN}
 use Rattle.rules.specs.declared.Word.{Word}
 use Rattle.rules.specs.declared.Word.the-variants.{Delivered, Begun, Failed, Ignored, TooLong, Took, Going, Waiting}
 use Rattle.rules.specs.declared.Codes.{Codes}
@@ -90,7 +90,7 @@ sendSays (SendAnswer.Sent k) = sent k
 unfoldable pub turnSays : TurnAnswer → List ℕ → Answer
 turnSays (TurnAnswer.Refused n) buffer = refused n
 turnSays (TurnAnswer.None passed) buffer = none passed
-turnSays (TurnAnswer.HandedOver id code passed) buffer = handed id (take frameLength buffer) code passed
+turnSays (TurnAnswer.HandedOver id code passed) buffer = handed id (take frameSize buffer) code passed
 
 -- ---- the paper's number and values for each case, as plain numbers: the words in the order in which the paper lists them
 

@@ -7,6 +7,7 @@ use lib.ListN.{length, take, drop}
 use lib.Dec.{ltb, leb, eqb}
 use Rattle.rules.specs.Tests.{pick}
 use Rattle.rules.specs.Numbers.{singleKind, firstKind, consecutiveKind, flowKind, goStatus, waitStatus, overflowStatus, firstBytes, consecutiveMost, noData, otherKind, wrongLength, notAwaited, N-WRONG-SN, N-INVALID-FS, N-UNEXP-PDU, N-BUFFER-OVFLW}
+use Rattle.rules.specs.Nodes.{withRx, withTx}
 use Rattle.rules.specs.Frames.{byteAt, kind, low, singleFits, announced, firstFits, consecutiveFits, flowFits, firstSn, nextSn, counted, fillsBlock, gapOf, share}
 use Rattle.rules.specs.declared.Settings.{Settings}
 use Rattle.rules.specs.declared.Taking.{Taking}
@@ -165,10 +166,10 @@ pub record Came : Type 0 where
 -- flow control touches only the send side, the other kinds only the receive side
 unfoldable pub heardBy : Berth → Heard → Came
 heardBy b h =
-    record { berth = record { rx = h .rx; last = h .last; tx = b .tx }; old = h .old; word = h .word; place = h .place; bytes = h .bytes }
+    record { berth = withRx b (h .rx) (h .last); old = h .old; word = h .word; place = h .place; bytes = h .bytes }
 
 unfoldable pub toldBy : Berth → Told → Came
-toldBy b t = record { berth = record { rx = b .rx; last = b .last; tx = t .tx }; old = 0; word = t .word; place = 0; bytes = [] }
+toldBy b t = record { berth = withTx b (t .tx); old = 0; word = t .word; place = 0; bytes = [] }
 
 unfoldable pub byKind : Settings → Berth → List ℕ → Came
 byKind s b d =

@@ -5,16 +5,17 @@ use mathlib.Core.List.{List, [], _∷_, _++_, map}
 use lib.ListN.{length, take, drop}
 use lib.Dec.{ltb}
 use Rattle.rules.specs.Tests.{pick, unless}
-use Rattle.rules.specs.Numbers.{berthCount, toBerth, frameLength}
-use Rattle.rules.specs.Ranges.{berthAt, inOrder}
+use Rattle.rules.specs.Numbers.{berthCount, toBerth, frameSize}
+use Rattle.rules.specs.Nodes.{berthAt, withBerth, Held, withNode, withIncoming, withOutgoing}
+use Rattle.rules.specs.Ranges.{inOrder}
 use Rattle.rules.specs.Arrivals.{Came}
-use Rattle.rules.specs.Ticks.{rxCode, txCode}
+use Rattle.rules.specs.Ticks.{codesOf}
 use Rattle.rules.specs.Turns.{sent as sentBerth, lengthSending}
-use Rattle.rules.specs.Stores.{Held, rightStore, areaOf, stored, withBerth, tickedNode, servedNode, setUpNode, passedOver, reached, cameAt, handedAt}
+use Rattle.rules.specs.Stores.{rightStore, areaOf, stored, tickedNode, servedNode, setUpNode, passedOver, reached, cameAt, handedAt}
 use Rattle.rules.specs.Answers.{Answer, refused, ready, heard, codes, sent, handed, none, shown}
-use Rattle.rules.specs.Refusals.{Call, frame, tick, send, turn, show, senderOf, refusal, setUpRefusal}
-use Rattle.rules.specs.declared.Berth.{Berth}
-use Rattle.rules.specs.declared.Codes.{Codes}
+use Rattle.rules.specs.Events.{Call, frame, tick, send, turn, show, senderOf}
+use Rattle.rules.specs.Refusals.{refusal, setUpRefusal}
+use Rattle.rules.specs.declared.Choice.{Choice}
 
 -- ---- show: the part that holds the last message arrived, or the message now being sent. It is empty if there is none, the berth
 -- is above 9, the node is out of order or either store has a wrong length
@@ -23,14 +24,19 @@ unfoldable pub showable : Held → ℕ → Bool
 showable h k =
     inOrder (h .node) && (rightStore (h .node) (h .incoming) && (rightStore (h .node) (h .outgoing) && ltb k berthCount))
 
-unfoldable pub shownLength : Held → ℕ → Bool → ℕ
+-- the first for the last message arrived, the second for the message now being sent
+abbrev pub chosen {ℓ} : {X : Type ℓ} → Choice → X → X → X
+chosen Choice.Arrived x y = x
+chosen Choice.Sending x y = y
+
+unfoldable pub shownLength : Held → ℕ → Choice → ℕ
 shownLength h k choice =
-    pick (showable h k) (pick choice (lengthSending (berthAt (h .node) k .tx)) (berthAt (h .node) k .last)) 0
+    pick (showable h k) (chosen choice (berthAt (h .node) k .last) (lengthSending (berthAt (h .node) k .tx))) 0
 
-abbrev pub chosenStore : Held → Bool → List ℕ
-chosenStore h choice = pick choice (h .outgoing) (h .incoming)
+abbrev pub chosenStore : Held → Choice → List ℕ
+chosenStore h choice = chosen choice (h .incoming) (h .outgoing)
 
-unfoldable pub showing : Held → ℕ → Bool → List ℕ
+unfoldable pub showing : Held → ℕ → Choice → List ℕ
 showing h k choice = take (shownLength h k choice) (areaOf (h .node .settings .area) k (chosenStore h choice))
 
 -- ---- what a call that is not refused leaves: the node and the stores
@@ -38,35 +44,22 @@ showing h k choice = take (shownLength h k choice) (areaOf (h .node .settings .a
 -- a frame changes its berth, and stores in its area
 unfoldable pub afterFrame : Held → ℕ → Came → Held
 afterFrame h k c =
-    record {
-      node = withBerth (h .node) k (c .berth);
-      incoming = stored (h .node .settings .area) k (c .place) (c .bytes) (h .incoming);
-      outgoing = h .outgoing;
-    }
+    withIncoming (withNode h (withBerth (h .node) k (c .berth)))
+    (stored (h .node .settings .area) k (c .place) (c .bytes) (h .incoming))
 
 unfoldable pub done : Held → Call → Held
 done h (frame id d) = afterFrame h (senderOf id) (cameAt h (senderOf id) d)
-done h tick = record { node = tickedNode (h .node); incoming = h .incoming; outgoing = h .outgoing }
+done h tick = withNode h (tickedNode (h .node))
 done h (send k m) =
-    record {
-      node = withBerth (h .node) k (sentBerth (berthAt (h .node) k) (length m));
-      incoming = h .incoming;
-      outgoing = stored (h .node .settings .area) k 0 m (h .outgoing);
-    }
+    withOutgoing (withNode h (withBerth (h .node) k (sentBerth (berthAt (h .node) k) (length m))))
+    (stored (h .node .settings .area) k 0 m (h .outgoing))
 done h (turn buffer) =
     pick (ltb (passedOver (h .node)) berthCount)
-    (record {
-      node = servedNode (h .node) (reached (h .node)) (handedAt h (reached (h .node)) .berth);
-      incoming = h .incoming;
-      outgoing = h .outgoing;
-    })
+    (withNode h (servedNode (h .node) (reached (h .node)) (handedAt h (reached (h .node)) .berth)))
     h
 done h (show k choice) = h
 
 -- ---- what it answers
-
-unfoldable pub codesOf : Berth → Codes
-codesOf b = record { receive = rxCode (b .rx); send = txCode (b .tx) }
 
 unfoldable pub reply : Held → Call → Answer
 reply h (frame id d) = heard (senderOf id) (cameAt h (senderOf id) d .old) (cameAt h (senderOf id) d .word)
@@ -92,7 +85,7 @@ written h (frame id d) = []
 written h tick = []
 written h (send k m) = []
 written h (turn buffer) =
-    pick (ltb (passedOver (h .node)) berthCount) (handedAt h (reached (h .node)) .frame ++ drop frameLength buffer) buffer
+    pick (ltb (passedOver (h .node)) berthCount) (handedAt h (reached (h .node)) .frame ++ drop frameSize buffer) buffer
 written h (show k choice) = []
 
 -- ---- the outcome of a call: the answer, the node and both stores, the buffer. A refusal gives only its number; all else stays
@@ -115,7 +108,7 @@ setUpOutcome h a bs stmin =
     unless (setUpRefusal a bs stmin) (refusedOutcome h [])
     (record {
       answer = ready;
-      held = record { node = setUpNode (record { area = a; block = bs; stmin = stmin }); incoming = h .incoming; outgoing = h .outgoing };
+      held = withNode h (setUpNode (record { area = a; block = bs; stmin = stmin }));
       buffer = [];
     })
 

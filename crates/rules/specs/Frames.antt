@@ -6,7 +6,7 @@ use mathlib.Core.List.{List, [], _∷_, _++_}
 use lib.ListN.{length, getD, take, drop, replicate}
 use lib.Dec.{ltb, leb, eqb}
 use Rattle.rules.specs.Tests.{pick}
-use Rattle.rules.specs.Numbers.{snCount, longestGap, mostMillis, leastFraction, mostFraction, frameLength, filler, leastFlow, singleKind, firstKind, consecutiveKind, flowKind, goStatus, overflowStatus, singleMost, firstBytes, consecutiveMost, largestArea, shortMost}
+use Rattle.rules.specs.Numbers.{snCount, longestGap, mostMillis, leastFraction, mostFraction, frameSize, filler, leastFlow, singleKind, firstKind, consecutiveKind, flowKind, goStatus, overflowStatus, singleMost, firstBytes, consecutiveMost, largestArea, shortMost}
 use Rattle.rules.specs.declared.Settings.{Settings}
 use Rattle.rules.specs.declared.Sn.{Sn}
 
@@ -24,7 +24,7 @@ low d = byteAt d 0 % 16
 
 -- single: L is 1 to 7, and the data length is 8 or L + 1
 unfoldable pub singleFits : List ℕ → Bool
-singleFits d = leb 1 (low d) && (leb (low d) singleMost && (eqb (length d) frameLength || eqb (length d) (low d + 1)))
+singleFits d = leb 1 (low d) && (leb (low d) singleMost && (eqb (length d) frameSize || eqb (length d) (low d + 1)))
 
 -- first: h x 256 + second byte; if that is 0, a 32-bit length in bytes 2 to 5, high byte first
 unfoldable pub shortLength : List ℕ → ℕ
@@ -39,21 +39,21 @@ announced d = pick (eqb (shortLength d) 0) (escapeLength d) (shortLength d)
 -- the data length is 8, the length is not 1 to 7, and an escape length is above 4,095
 unfoldable pub firstFits : List ℕ → Bool
 firstFits d =
-    eqb (length d) frameLength
+    eqb (length d) frameSize
     && pick (eqb (shortLength d) 0) (ltb shortMost (escapeLength d)) (ltb singleMost (shortLength d))
 
 -- consecutive, with r bytes missing: the data length is 8, or r is at most 7 and it is r + 1
 unfoldable pub consecutiveFits : ℕ → List ℕ → Bool
-consecutiveFits r d = eqb (length d) frameLength || (leb r consecutiveMost && eqb (length d) (r + 1))
+consecutiveFits r d = eqb (length d) frameSize || (leb r consecutiveMost && eqb (length d) (r + 1))
 
 -- flow control: the data length is 3 to 8
 unfoldable pub flowFits : List ℕ → Bool
-flowFits d = leb leastFlow (length d) && leb (length d) frameLength
+flowFits d = leb leastFlow (length d) && leb (length d) frameSize
 
 -- ---- the node's own frames are always 8 bytes, filled up with CC
 
 unfoldable pub padded : List ℕ → List ℕ
-padded s = s ++ replicate (frameLength - length s) filler
+padded s = s ++ replicate (frameSize - length s) filler
 
 abbrev pub headed : ℕ → ℕ → List ℕ → List ℕ
 headed k l s = padded ((k * 16 + l) ∷ s)

@@ -73,8 +73,8 @@ abbrev pub overflowStatus : ℕ
 overflowStatus = 2
 
 -- the bytes of a whole frame, and what fills it up
-abbrev pub frameLength : ℕ
-frameLength = 8
+abbrev pub frameSize : ℕ
+frameSize = 8
 
 abbrev pub filler : ℕ
 filler = 0xCC
@@ -141,7 +141,13 @@ N-UNEXP-PDU = 7
 abbrev pub N-BUFFER-OVFLW : ℕ
 N-BUFFER-OVFLW = 9
 
--- ---- refusals 1 to 11
+-- ---- refusals 1 to 11: the most data bytes of a frame that comes in, the fewest bytes of a turn's buffer, and the numbers
+
+abbrev pub mostData : ℕ
+mostData = 8
+
+abbrev pub leastBuffer : ℕ
+leastBuffer = 8
 
 abbrev pub outOfOrder : ℕ
 outOfOrder = 1

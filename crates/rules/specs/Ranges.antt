@@ -5,10 +5,11 @@ use mathlib.Core.Path.{_≡_}
 use mathlib.Core.Logic.{_⊎_}
 use mathlib.Core.Bool.{Bool, true, _&&_, _||_}
 use mathlib.Core.List.{[], _∷_}
-use lib.ListN.{length, getD}
+use lib.ListN.{length}
 use lib.Dec.{ltb, leb, eqb}
 use Rattle.rules.specs.Tests.{pick, all, each}
 use Rattle.rules.specs.Numbers.{berthCount, leastArea, largestArea, largestBlock, mostMillis, leastFraction, mostFraction, timeout, snCount, longestGap, singleMost, firstBytes, leastLong}
+use Rattle.rules.specs.Nodes.{berthAt}
 use Rattle.rules.specs.declared.Settings.{Settings}
 use Rattle.rules.specs.declared.Taking.{Taking}
 use Rattle.rules.specs.declared.Sending.{Sending}
@@ -124,14 +125,6 @@ berthInOrder s b = all (rxInRange s (b .last) (b .rx) ∷ txInRange s (b .tx) �
 pub record BerthRange (s : Settings) (b : Berth) : Type 0 where
   pub receive : RxRange s (b .last) (b .rx)
   pub send : TxRange s (b .tx)
-
--- a berth with both sides idle and nothing arrived
-abbrev pub fresh : Berth
-fresh = record { rx = Rx.Idle; last = 0; tx = Tx.Idle }
-
--- berth k's part of the node
-unfoldable pub berthAt : Node → ℕ → Berth
-berthAt n k = getD (n .berths) k fresh
 
 -- the settings are in range, the berth served last is 0 to 9, and each of the ten berths is in order
 unfoldable pub inOrder : Node → Bool

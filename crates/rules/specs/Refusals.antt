@@ -1,4 +1,4 @@
--- Paper 01, "Refusal numbers": the calls, and for each the needs in ascending order, as tests and as plain conditions. That a
+-- Paper 01, "Refusal numbers": for each call its needs in ascending order, as tests and as plain conditions. That a
 -- refusal is n if and only if condition n holds and no lower one of the call does is proved (proofs/Exact).
 use Prim.Native.Nat.{ℕ, _+_, _-_, _*_, _≤_, _<_}
 use mathlib.Core.Path.{_≡_}
@@ -8,24 +8,13 @@ use mathlib.Core.List.{List, [], _∷_, _++_}
 use lib.ListN.{length}
 use lib.Dec.{ltb, leb}
 use Rattle.rules.specs.Tests.{Need, need, firstUnmet}
-use Rattle.rules.specs.Numbers.{berthCount, fromBerth, frameLength, outOfOrder, wrongStore, wrongIdentifier, tooManyBytes, noSuchBerth, emptyMessage, messageTooLong, alreadySending, shortBuffer, badSetting, outsideArea}
-use Rattle.rules.specs.Ranges.{settingsAllowed, SettingsRange, berthAt, inOrder, InOrder}
+use Rattle.rules.specs.Numbers.{berthCount, fromBerth, mostData, leastBuffer, outOfOrder, wrongStore, wrongIdentifier, tooManyBytes, noSuchBerth, emptyMessage, messageTooLong, alreadySending, shortBuffer, badSetting, outsideArea}
+use Rattle.rules.specs.Nodes.{berthAt, Held}
+use Rattle.rules.specs.Ranges.{settingsAllowed, SettingsRange, inOrder, InOrder}
 use Rattle.rules.specs.Turns.{busy}
-use Rattle.rules.specs.Stores.{Held, rightStore, inside, cameAt}
+use Rattle.rules.specs.Events.{Call, frame, tick, send, turn, show, senderOf}
+use Rattle.rules.specs.Stores.{rightStore, inside, cameAt}
 use Rattle.rules.specs.declared.Node.{Node}
-
--- the five calls: a frame came in on an identifier; a tick; send a message to a berth; call for a frame with a buffer; show a
--- berth's message, of the outgoing store if the choice is true
-pub data Call : Type 0 where
-  frame : ℕ → List ℕ → Call
-  tick : Call
-  send : ℕ → List ℕ → Call
-  turn : List ℕ → Call
-  show : ℕ → Bool → Call
-
--- the berth that sends on an identifier
-abbrev pub senderOf : ℕ → ℕ
-senderOf id = id - fromBerth
 
 -- what frame, send and turn need first: the node is in order, and the store has ten areas
 abbrev pub orderAndStore : Node → List ℕ → List Need
@@ -35,7 +24,7 @@ orderAndStore n store = need outOfOrder (inOrder n) ∷ need wrongStore (rightSt
 abbrev pub toHear : Node → List ℕ → ℕ → List ℕ → List Need
 toHear n incoming id d =
     orderAndStore n incoming
-    ++ (need wrongIdentifier (leb fromBerth id && ltb id (fromBerth + berthCount)) ∷ need tooManyBytes (leb (length d) frameLength) ∷ [])
+    ++ (need wrongIdentifier (leb fromBerth id && ltb id (fromBerth + berthCount)) ∷ need tooManyBytes (leb (length d) mostData) ∷ [])
 
 -- the needs of each call; show has none, it answers with an empty part
 unfoldable pub needs : Held → Call → List Need
@@ -50,7 +39,7 @@ needs h (send k m) =
     ∷ need messageTooLong (leb (length m) (h .node .settings .area))
     ∷ need alreadySending (not (busy (berthAt (h .node) k .tx)))
     ∷ [])
-needs h (turn buffer) = orderAndStore (h .node) (h .outgoing) ++ (need shortBuffer (leb frameLength (length buffer)) ∷ [])
+needs h (turn buffer) = orderAndStore (h .node) (h .outgoing) ++ (need shortBuffer (leb leastBuffer (length buffer)) ∷ [])
 needs h (show k choice) = []
 
 unfoldable pub refusal : Held → Call → ℕ

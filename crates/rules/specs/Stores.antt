@@ -1,4 +1,4 @@
--- Paper 01, the node of ten berths: the two stores and the berths' areas, the round, the node after a call, and set-up.
+-- Paper 01, ten berths: the two stores and the berths' areas, the node after a tick and a turn, set-up, and the round.
 use Prim.Native.Nat.{ℕ, suc, _+_, _-_, _*_, _%_, min}
 use mathlib.Core.Bool.{Bool}
 use mathlib.Core.List.{List, [], _∷_, map}
@@ -7,7 +7,7 @@ use lib.Seq.{sets}
 use lib.Dec.{leb, eqb}
 use Rattle.rules.specs.Tests.{pick}
 use Rattle.rules.specs.Numbers.{berthCount}
-use Rattle.rules.specs.Ranges.{fresh, berthAt}
+use Rattle.rules.specs.Nodes.{fresh, berthAt, withBerths, withServed, Held}
 use Rattle.rules.specs.Arrivals.{Came, frameCame}
 use Rattle.rules.specs.Ticks.{ticked}
 use Rattle.rules.specs.Turns.{due, HandedOver, handOver}
@@ -15,12 +15,7 @@ use Rattle.rules.specs.declared.Settings.{Settings}
 use Rattle.rules.specs.declared.Berth.{Berth}
 use Rattle.rules.specs.declared.Node.{Node}
 
--- ---- what the calls are lent: the node and the two stores
-
-pub record Held : Type 0 where
-  pub node : Node
-  pub incoming : List ℕ
-  pub outgoing : List ℕ
+-- ---- the stores and the areas
 
 -- a store is exactly 10 x A bytes
 unfoldable pub rightStore : Node → List ℕ → Bool
@@ -38,16 +33,13 @@ stored a k place bytes store = sets store (k * a + place) bytes
 unfoldable pub inside : ℕ → ℕ → ℕ → Bool
 inside a place count = leb (place + count) a
 
--- ---- the node with one berth anew, and with each berth anew
-
-unfoldable pub withBerth : Node → ℕ → Berth → Node
-withBerth n k b = record { settings = n .settings; served = n .served; berths = set (n .berths) k b }
+-- ---- the node with each berth after a tick, and with one berth after its turn
 
 unfoldable pub tickedNode : Node → Node
-tickedNode n = record { settings = n .settings; served = n .served; berths = map ticked (n .berths) }
+tickedNode n = withBerths n (map ticked (n .berths))
 
 unfoldable pub servedNode : Node → ℕ → Berth → Node
-servedNode n k b = record { settings = n .settings; served = k; berths = set (n .berths) k b }
+servedNode n k b = withServed (withBerths n (set (n .berths) k b)) k
 
 -- ---- set-up fills the node whatever it held before: served 9, all sides idle, all last lengths 0
 

@@ -3,10 +3,12 @@ use Prim.Native.Nat.{ℕ, _+_, _-_}
 use lib.Dec.{ltb, eqb}
 use Rattle.rules.specs.Tests.{pick}
 use Rattle.rules.specs.Numbers.{timeout, N-TIMEOUT-A, N-TIMEOUT-Bs, N-TIMEOUT-Cr}
+use Rattle.rules.specs.Nodes.{withRx, withTx}
 use Rattle.rules.specs.declared.Sending.{Sending}
 use Rattle.rules.specs.declared.Rx.{Rx}
 use Rattle.rules.specs.declared.Tx.{Tx}
 use Rattle.rules.specs.declared.Berth.{Berth}
+use Rattle.rules.specs.declared.Codes.{Codes}
 
 -- a tick adds one to a running timer; the one that makes it 1,000 ends the side
 unfoldable pub ran {ℓ} : {X : Type ℓ} → ℕ → (ℕ → X) → X → X
@@ -56,7 +58,10 @@ txCode (Tx.FirstDue n t) = ran t (λ u. 0) N-TIMEOUT-A
 txCode (Tx.AwaitsFlow o t) = ran t (λ u. 0) N-TIMEOUT-Bs
 txCode (Tx.Consecutive o t) = pick (eqb (o .left) 0) (ran t (λ u. 0) N-TIMEOUT-A) 0
 
--- ---- the berth
+-- ---- the berth, and its two codes
 
 unfoldable pub ticked : Berth → Berth
-ticked b = record { rx = rxTicked (b .rx); last = b .last; tx = txTicked (b .tx) }
+ticked b = withTx (withRx b (rxTicked (b .rx)) (b .last)) (txTicked (b .tx))
+
+unfoldable pub codesOf : Berth → Codes
+codesOf b = record { receive = rxCode (b .rx); send = txCode (b .tx) }

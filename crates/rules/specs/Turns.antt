@@ -7,6 +7,7 @@ use lib.ListN.{take, drop}
 use lib.Dec.{leb, eqb}
 use Rattle.rules.specs.Tests.{pick}
 use Rattle.rules.specs.Numbers.{singleMost, firstBytes, consecutiveMost, N-OK}
+use Rattle.rules.specs.Nodes.{withRx, withTx}
 use Rattle.rules.specs.Frames.{singleFrame, firstFrame, consecutiveFrame, goFrame, overflowFrame, firstSn, nextSn, counted, fillsBlock, share}
 use Rattle.rules.specs.declared.Settings.{Settings}
 use Rattle.rules.specs.declared.Taking.{Taking}
@@ -111,12 +112,8 @@ pub record HandedOver : Type 0 where
 unfoldable pub handOver : Settings → Berth → List ℕ → HandedOver
 handOver s b area =
     pick (flowDue (b .rx))
-    (record { berth = record { rx = afterFlow (b .rx); last = b .last; tx = b .tx }; frame = flowFrame s (b .rx); code = 0 })
-    (record {
-      berth = record { rx = b .rx; last = b .last; tx = afterMessage (b .tx) };
-      frame = messageFrame (b .tx) area;
-      code = messageCode (b .tx);
-    })
+    (record { berth = withRx b (afterFlow (b .rx)) (b .last); frame = flowFrame s (b .rx); code = 0 })
+    (record { berth = withTx b (afterMessage (b .tx)); frame = messageFrame (b .tx) area; code = messageCode (b .tx) })
 
 -- ---- send: a message of n bytes begins as single due or first due, timer 0
 
@@ -124,7 +121,7 @@ unfoldable pub beginsWith : ℕ → Tx
 beginsWith n = pick (leb n singleMost) (Tx.SingleDue n 0) (Tx.FirstDue n 0)
 
 unfoldable pub sent : Berth → ℕ → Berth
-sent b n = record { rx = b .rx; last = b .last; tx = beginsWith n }
+sent b n = withTx b (beginsWith n)
 
 -- ---- the message now being sent: its length, 0 for none
 

@@ -3,8 +3,16 @@ use crate::judged;
 use crate::output;
 use crate::scene::Scene;
 use crate::words;
-use lines::Line;
+use text::building::Text;
+use rules::Choice;
 use rules::Node;
+
+fn chosen(b: u8) -> Choice {
+    if b == 1 {
+        return Choice::Sending;
+    }
+    Choice::Arrived
+}
 
 fn show<'a>(
     before: Scene,
@@ -17,14 +25,9 @@ fn show<'a>(
     let other = output::lent(outgoing, before.outgoing);
     let node = before.node;
     let k = judged::two(0, record[1]);
-    let part = carumpek::local::show(
-        node,
-        &incoming[..store],
-        &outgoing[..other],
-        k,
-        record[2] == 1,
-    );
-    let line = lines::numbered(before.number).text(b"show");
+    let choice = chosen(record[2]);
+    let part = carumpek::local::show(node, &incoming[..store], &outgoing[..other], k, choice);
+    let line = text::answers::numbered(before.number).put_all(b"show");
     output::put_bytes(out, before.waiting, line, part)
 }
 
@@ -37,7 +40,7 @@ fn area(before: Scene, berth: u8, store: &[u8], out: &mut [u8]) -> usize {
     let from = output::lent(store, start(berth, before.area));
     let rest = &store[from..];
     let n = output::lent(rest, before.area as usize);
-    let line = lines::numbered(before.number).text(b"area");
+    let line = text::answers::numbered(before.number).put_all(b"area");
     output::put_bytes(out, before.waiting, line, &rest[..n])
 }
 
@@ -59,7 +62,7 @@ pub(crate) fn bytes<'a>(
 }
 
 // What has room in a line: a berth's state, the node's own, or the frames needed.
-pub(crate) fn line(number: u64, node: Node, record: &[u8; 16]) -> Line {
+pub(crate) fn line(number: u64, node: Node, record: &[u8; 16]) -> Text {
     match record[0] {
         10 => {
             let k = (record[1] % 10) as usize;

@@ -19,7 +19,7 @@ use rules::Node;
 // The header's areas are lent whole. A header that is refused or bad leaves the stores empty.
 fn header(before: Scene, record: &[u8; 16], out: &mut [u8]) -> Scene {
     if !records::record::unused(record, 8, 16) {
-        return scene::say(before, lines::bad(0), out);
+        return scene::say(before, text::answers::bad(0), out);
     }
     let node = before.node;
     let came = calls::set_up(0, node, record, 0);
@@ -95,7 +95,7 @@ fn run_record(
         return header(before, record, out);
     }
     if !judged::is_good(record) {
-        return scene::say(before, lines::bad(before.number), out);
+        return scene::say(before, text::answers::bad(before.number), out);
     }
     if record[0] == 5 || record[0] == 6 {
         let mut after = before;
@@ -126,7 +126,7 @@ fn step(
     out: &mut [u8],
 ) -> Scene {
     if rest.len() < 16 {
-        return scene::say(before, lines::short(before.number), out);
+        return scene::say(before, text::answers::short(before.number), out);
     }
     let record = record_at(rest);
     let mut after = run_record(before, &record, incoming, outgoing, out);

@@ -1,6 +1,6 @@
 // A scene: the node, how much of the stores is lent to it, and how far the records have come.
 use crate::output;
-use lines::Line;
+use text::building::Text;
 use rules::Berth;
 use rules::Node;
 use rules::Rx;
@@ -46,14 +46,14 @@ pub(crate) fn first() -> Scene {
     }
 }
 
-pub(crate) fn say(before: Scene, line: Line, out: &mut [u8]) -> Scene {
+pub(crate) fn say(before: Scene, line: Text, out: &mut [u8]) -> Scene {
     let mut after = before;
     after.waiting = output::put(out, before.waiting, line);
     after
 }
 
 // A record that did something to the node: its line, and the node after it.
-pub(crate) fn say_after(before: Scene, node: Node, line: Line, out: &mut [u8]) -> Scene {
+pub(crate) fn say_after(before: Scene, node: Node, line: Text, out: &mut [u8]) -> Scene {
     let mut after = before;
     after.node = node;
     after.waiting = output::put(out, before.waiting, line);

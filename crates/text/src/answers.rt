@@ -2,7 +2,7 @@
 ghost use mathlib.Core.Path.{_≡_};
 ghost use mathlib.Core.List.{[], _∷_, _++_};
 ghost use lib.ListN.{take};
-ghost use Rattle.rules.specs.Numbers.{frameLength};
+ghost use Rattle.rules.specs.Numbers.{frameSize};
 ghost use Rattle.rules.specs.Answers.{refused as Answers·refused, frameSays, tickSays, sendSays, turnSays};
 ghost use Rattle.text.specs.Building.{textOf, clipped, decimal, numberPlaces, hexText};
 ghost use Rattle.text.specs.Answers.{space, idText, wordText, codeText, codesText, answerText, badText, shortText};
@@ -16,7 +16,7 @@ use rules::Word;
 
 // The frame that was handed over is the buffer's first eight bytes.
 fn handed(text: Text, buffer: &[u8]) -> Text
-    ensures { λ r. ⌜ textOf r ≡ clipped (textOf text ++ hexText (take frameLength (now (buffer .entry)))) ⌝ }
+    ensures { λ r. ⌜ textOf r ≡ clipped (textOf text ++ hexText (take frameSize (now (buffer .entry)))) ⌝ }
 {
     if buffer.len() < 8 {
         return text.hex(buffer);
@@ -96,7 +96,11 @@ pub fn frame(number: u64, answer: FrameAnswer) -> Text
 {
     match answer {
         FrameAnswer::Refused(n) => refused(number, n),
-        FrameAnswer::Heard(berth, old, said) => {
+        FrameAnswer::Heard {
+            berth,
+            old,
+            word: said,
+        } => {
             let text = numbered(number).put_all(b"berth ").small(berth);
             word(text.put_all(b" old ").small(old), said).put(b'\n')
         }

@@ -5,7 +5,7 @@ use borrow.Author.Needs.{needs}
 use Rattle.rules.specs.Arrivals.{piece}
 use Rattle.rules.specs.Frames.{share}
 use Rattle.rules.specs.Numbers.{consecutiveMost}
-use Rattle.arrivals.specs.Reading.{heardOf}
+use Rattle.arrivals.specs.Reading.{asHeard}
 use Rattle.arrivals.proofs.pieced.Statement.{statement}
 use Rattle.arrivals.proofs.pieced.Tie as tie
 
@@ -16,7 +16,7 @@ share-requires : tie.Need-share-requires
 share-requires c κs = search needs
 
 returns : tie.Need-returns
-unfolding piece heardOf
+unfolding piece asHeard
 returns c = λ d h. record { same = simp (c .share .ensures, c .before .missing .ensures); within = omega (arith, c .share .ensures, ap (share consecutiveMost) (c .before .missing .ensures)) }
 
 pub pieced-spec : {M : Type 1} → statement M

@@ -4,7 +4,7 @@ use mathlib.Core.Path.{sym, _∙_}
 use borrow.Author.Needs.{needs}
 use Rattle.rules.specs.Arrivals.{singleCame}
 use Rattle.frames.proofs.Fits.{single-within}
-use Rattle.arrivals.specs.Reading.{heardOf}
+use Rattle.arrivals.specs.Reading.{asHeard}
 use Rattle.arrivals.proofs.single_came.Statement.{statement}
 use Rattle.arrivals.proofs.single_came.Tie as tie
 
@@ -21,7 +21,7 @@ old-code-requires : tie.Need-old-code-requires
 old-code-requires c κs = search needs
 
 returns : tie.Need-returns
-unfolding singleCame heardOf
+unfolding singleCame asHeard
 returns c = let fits = sym (c .before .before .before .before .single-fits .ensures) ∙ c .before .before .before .if1 .taken in
     let l = c .before .wide .ensures .0 ∙ c .before .before .low .ensures .0 in
     record { same = simp (fits, c .old-code .ensures, l); within = omega (arith, l, single-within _ fits) }

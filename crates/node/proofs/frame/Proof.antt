@@ -1,13 +1,20 @@
 -- Refused with the number found, which stands before refusal 11; else heard.
-use mathlib.Core.Path.{sym, refl, _∙_}
+use mathlib.Core.Path.{_≡_, sym, refl, _∙_}
 use denote.Ref.{now}
 use borrow.Author.Needs.{needs}
+use Rattle.rules.specs.Tests.{firstUnmet}
 use Rattle.rules.specs.Answers.{frameSays}
-use Rattle.rules.specs.Refusals.{frame, toHear, refusal, needs as needsOf}
+use Rattle.rules.specs.Events.{frame}
+use Rattle.rules.specs.Refusals.{toHear, refusal, needs as needsOf}
 use Rattle.node.proofs.Outcomes.{stands, refuses}
 use Rattle.node.specs.Promises.{lent}
 use Rattle.node.proofs.frame.Statement.{statement}
 use Rattle.node.proofs.frame.Tie as tie
+
+-- the number found is that of the needs before refusal 11
+found : (c : tie.After-frame) → let a = c .before .before .before .before .before .args in
+    c .frame .result ≡ firstUnmet (toHear (a .node) (now (a .incoming)) (a .identifier) (now (a .payload)))
+found c = c .frame .ensures (c .before .before .before .before .before .args .node) (c .before .before .in-order .ensures) refl
 
 in-order-requires : tie.Need-in-order-requires
 in-order-requires c κs = search needs
@@ -20,13 +27,12 @@ same-length c = search needs
 
 returns : tie.Need-returns
 unfolding refusal needsOf frameSays
-returns c = let found = c .before in
-    let a = found .before .before .before .before .before .args in
-    λ outgoing. refuses (lent (a .node) (now (a .incoming)) outgoing) (frame (a .identifier) (now (a .payload))) (found .frame .result) (c .if1 .taken) refl refl
-    (stands (toHear (a .node) (now (a .incoming)) (a .identifier) (now (a .payload))) _ (c .if1 .taken) (found .frame .ensures))
+returns c = let a = c .before .before .before .before .before .before .args in
+    λ outgoing. refuses (lent (a .node) (now (a .incoming)) outgoing) (frame (a .identifier) (now (a .payload))) (c .before .frame .result) (c .if1 .taken) refl refl
+    (stands (toHear (a .node) (now (a .incoming)) (a .identifier) (now (a .payload))) _ (c .if1 .taken) (found (c .before)))
 
 heard-requires : tie.Need-heard-requires
-heard-requires c κs = sym (c .before .before .frame .ensures) ∙ c .before .if1 .left
+heard-requires c κs = sym (found (c .before .before)) ∙ c .before .if1 .left
 
 same-length-2 : tie.Need-same-length-2
 same-length-2 c = search needs

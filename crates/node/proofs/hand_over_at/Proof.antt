@@ -9,11 +9,12 @@ use lib.Seq.{take-at}
 use denote.Ref.{now}
 use borrow.Author.Tests.{lt-ltb}
 use borrow.Author.Needs.{needs}
-use Rattle.rules.specs.Numbers.{berthCount, frameLength}
-use Rattle.rules.specs.Ranges.{InOrder, berthAt}
+use Rattle.rules.specs.Numbers.{berthCount, frameSize}
+use Rattle.rules.specs.Nodes.{berthAt}
+use Rattle.rules.specs.Ranges.{InOrder}
 use Rattle.rules.specs.Stores.{servedNode, reached, handedAt, areaOf, passedOver}
 use Rattle.rules.specs.Answers.{turnSays}
-use Rattle.rules.specs.Refusals.{turn}
+use Rattle.rules.specs.Events.{turn}
 use Rattle.rules.specs.Calls.{done, reply, written}
 use Rattle.rules.proofs.Answered.{TurnAnswered, turn-answered}
 use Rattle.rules.proofs.Ranges.{in-order-range}
@@ -109,10 +110,10 @@ returns c = let handed = c .before .before .before in
     let lo = (a .t1 .served + 1 + a .passed) % berthCount * area in
     let part : lo + area - lo ≡ area = omega arith in
     let frame = handed .hand-over .last .1 .1 .1 .0 in
-    let eight : length frame ≡ frameLength = handed .hand-over .kept .1 .1 .1 .0 ∙ simp length-take (omega (arith, met s .room)) in
+    let eight : length frame ≡ frameSize = handed .hand-over .kept .1 .1 .1 .0 ∙ simp length-take (omega (arith, met s .room)) in
     let said = rw (area-known .of-area .ensures .0, part) at (handed .hand-over .ensures) in
     λ incoming. does (lent (a .t1) incoming (now (a .outgoing))) (turn (now (a .buffer))) refl (sym (s .pre .0 incoming))
-    (simp (← s .pre .1, lt-ltb _ _ (s .pre .2), ← said, take-at frame (drop frameLength (now (a .buffer))) frameLength eight))
+    (simp (← s .pre .1, lt-ltb _ _ (s .pre .2), ← said, take-at frame (drop frameSize (now (a .buffer))) frameSize eight))
 
 pub hand-over-at-spec : {M : Type 1} → statement M
 hand-over-at-spec =

@@ -11,12 +11,13 @@ use denote.Ref.{now}
 use borrow.Author.Needs.{needs}
 use Rattle.rules.specs.Numbers.{berthCount, outsideArea}
 use Rattle.rules.specs.Tests.{pick}
-use Rattle.rules.specs.Ranges.{berthAt}
+use Rattle.rules.specs.Nodes.{berthAt, withBerth}
 use Rattle.rules.specs.Arrivals.{frameCame}
-use Rattle.rules.specs.Stores.{inside, cameAt, withBerth, stored}
+use Rattle.rules.specs.Stores.{inside, cameAt, stored}
 use Rattle.rules.specs.Calls.{done, afterFrame, reply, written}
 use Rattle.rules.specs.Answers.{frameSays}
-use Rattle.rules.specs.Refusals.{frame, senderOf, toHear, refusal, needs as needsOf}
+use Rattle.rules.specs.Events.{frame, senderOf}
+use Rattle.rules.specs.Refusals.{toHear, refusal, needs as needsOf}
 use Rattle.rules.proofs.Cases.{yes-of}
 use Rattle.rules.proofs.Answered.{MayHear, may-hear}
 use Rattle.rules.proofs.Ranges.{in-order-range}

@@ -1,17 +1,18 @@
 -- Refused with the number found; else the message is put down at the front of the area (`put-down`).
-use Prim.Native.Nat.{_+_, _-_, _*_}
+use Prim.Native.Nat.{ℕ, _+_, _-_, _*_}
 use native.Mathlib.Omega.{arith}
 use mathlib.Core.Path.{sym, refl, ap, _∙_, _≡_}
-use mathlib.Core.List.{[]}
+use mathlib.Core.List.{List, []}
 use lib.ListN.{length, length-take, length-drop}
 use lib.Seq.{sets}
 use denote.Ref.{now}
 use borrow.Author.Needs.{needs}
-use Rattle.rules.specs.Ranges.{berthAt}
-use Rattle.rules.specs.Stores.{withBerth, stored}
+use Rattle.rules.specs.Nodes.{berthAt, withBerth}
+use Rattle.rules.specs.Stores.{stored}
 use Rattle.rules.specs.Turns.{sent as sentBerth}
 use Rattle.rules.specs.Answers.{sent, sendSays}
-use Rattle.rules.specs.Refusals.{send}
+use Rattle.rules.specs.Events.{send}
+use Rattle.rules.specs.Refusals.{refusal}
 use Rattle.rules.specs.Calls.{done, reply, written}
 use Rattle.rules.proofs.Answered.{SendAnswered, send-answered}
 use Rattle.rules.proofs.Ranges.{in-order-range}
@@ -21,12 +22,20 @@ use Rattle.node.specs.Promises.{lent, left}
 use Rattle.node.proofs.send.Statement.{statement}
 use Rattle.node.proofs.send.Tie as tie
 
+-- the number found is that of the rules; the send side was read at the berth's place
+found : (c : tie.After-send) → let a = c .before .before .before .before .before .before .before .args in
+    (incoming : List ℕ) → c .send .result ≡ refusal (lent (a .t1) incoming (now (a .outgoing))) (send (a .berth) (now (a .message)))
+unfolding berthAt
+found c =
+    let placed = c .before .before .before .before in
+    c .send .ensures (placed .before .before .before .args .t1) (c .before .before .in-order .ensures) refl (λ l. rw (placed .of-berth .ensures .1 l))
+
 abbrev start : tie.Else1 → tie.Start
 start c = c .before .before .before .before .before .before .before .before
 
 -- what a send that is not refused may count on
 met : (c : tie.Else1) → let a = start c .args in SendAnswered (lent (a .t1) [] (now (a .outgoing))) (a .berth) (now (a .message))
-met c = send-answered _ _ _ (sym (c .before .send .ensures []) ∙ c .if1 .left)
+met c = send-answered _ _ _ (sym (found (c .before) []) ∙ c .if1 .left)
 
 here : (c : tie.Else1) → c .before .before .before .before .before .of-berth .result ≡ start c .args .berth
 here c = c .before .before .before .before .before .of-berth .ensures .1 (met c .mine)
@@ -44,17 +53,15 @@ in-order-requires : tie.Need-in-order-requires
 in-order-requires c κs = search needs
 
 send-requires : tie.Need-send-requires
-unfolding berthAt
-send-requires c κs = (c .before .in-order .ensures, λ l. rw (c .before .before .before .of-berth .ensures .1 l))
+send-requires c κs = search needs
 
 same-length : tie.Need-same-length
 same-length c = search needs
 
 returns : tie.Need-returns
 unfolding sendSays
-returns c = let found = c .before in
-    let a = found .before .before .before .before .before .before .before .args in
-    λ incoming. refuses (lent (a .t1) incoming (now (a .outgoing))) (send (a .berth) (now (a .message))) (found .send .result) (c .if1 .taken) refl refl (found .send .ensures incoming)
+returns c = let a = c .before .before .before .before .before .before .before .before .args in
+    λ incoming. refuses (lent (a .t1) incoming (now (a .outgoing))) (send (a .berth) (now (a .message))) (c .before .send .result) (c .if1 .taken) refl refl (found (c .before) incoming)
 
 of-area-requires : tie.Need-of-area-requires
 of-area-requires c κs = search needs
@@ -85,8 +92,8 @@ cast-sent c = let e = c .before .before .before .before .before in
 sent-requires : tie.Need-sent-requires
 sent-requires c κs = search needs
 
-mul-t12 : tie.Need-mul-t12
-mul-t12 c = search needs
+mul-t13 : tie.Need-mul-t13
+mul-t13 c = search needs
 
 element-set-from-n : tie.Need-element-set-from-n
 element-set-from-n c = search needs
@@ -108,7 +115,7 @@ returns-2 c = let area-known = c .before .before .before .before .before in
     let part : a .berth * area + area - a .berth * area ≡ area = omega arith in
     let front : a .berth * area + 0 ≡ a .berth * area = omega arith in
     let put = put-down out (a .berth * area) area (now (a .message)) (omega (arith, area-known .of-area .ensures, met e .store)) (met e .fits) in
-    λ incoming. does (lent (a .t1) incoming out) (send (a .berth) (now (a .message))) (e .if1 .left) (e .before .send .ensures incoming)
+    λ incoming. does (lent (a .t1) incoming out) (send (a .berth) (now (a .message))) (e .if1 .left) (found (e .before) incoming)
     (rw (c .sent .ensures, c .before .before .before .copy .ensures .1, lo, part, put, front)
     (ap (λ at. left (sent (a .berth)) (lent (withBerth (a .t1) at (sentBerth (berthAt (a .t1) at) (length (now (a .message))))) incoming (sets out (a .berth * area) (now (a .message)))) []) (here e)))
 
@@ -132,7 +139,7 @@ send-spec =
     copy-requires
     cast-sent
     sent-requires
-    mul-t12
+    mul-t13
     element-set-from-n
     cast-t30
     same-length-2

@@ -24,18 +24,21 @@ range c = let a = c .before .before .args in settings-range (a .area) (a .block)
 settings-allowed-requires : tie.Need-settings-allowed-requires
 settings-allowed-requires c κs = search needs
 
+cast-t9 : tie.Need-cast-t9
+cast-t9 c = omega (arith, range c .block-most)
+
 cast-t10 : tie.Need-cast-t10
-cast-t10 c = omega (arith, range c .block-most)
+cast-t10 c = ⊎-elim (λ h. omega arith) (λ h. omega arith) (range c .stmin-allowed)
 
-cast-t11 : tie.Need-cast-t11
-cast-t11 c = ⊎-elim (λ h. omega arith) (λ h. omega arith) (range c .stmin-allowed)
+fresh-requires : tie.Need-fresh-requires
+fresh-requires c κs = search needs
 
-sub-t10 : tie.Need-sub-t10
-sub-t10 c = search needs
+sub-t9 : tie.Need-sub-t9
+sub-t9 c = search needs
 
 returns : tie.Need-returns
 unfolding setUpOutcome setUpRefusal setUpSays setUpNode
-returns c = λ incoming outgoing. rw (← meets _ _ (allowed c) all-met) (agrees refl)
+returns c = λ incoming outgoing. rw (← meets _ _ (allowed (c .before)) all-met, c .fresh .ensures) (agrees refl)
 
 returns-2 : tie.Need-returns-2
 unfolding setUpOutcome setUpRefusal setUpSays refusedOutcome
@@ -43,4 +46,4 @@ returns-2 c = λ incoming outgoing. rw (← unmet _ _ (sym (c .before .settings-
 
 pub set-up-spec : {M : Type 1} → statement M
 set-up-spec =
-    tie.close (tie.spec settings-allowed-requires cast-t10 cast-t11 sub-t10 returns returns-2)
+    tie.close (tie.spec settings-allowed-requires cast-t9 cast-t10 fresh-requires sub-t9 returns returns-2)

@@ -1,15 +1,15 @@
 -- What cannot be shown is nothing; else the part lies within the berth's area, since the length shown does (`shown-fits`).
 use Prim.Native.Nat.{_+_, _-_, _*_, _≤_}
 use native.Mathlib.Omega.{arith}
-use mathlib.Core.Path.{sym, ap, _∙_, _≡_}
-use mathlib.Core.Bool.{Bool, true, false}
+use mathlib.Core.Path.{sym, ap, refl, _∙_, _≡_}
+use mathlib.Core.Bool.{true}
 use lib.ListN.{take, drop}
 use denote.Ref.{now}
 use borrow.Author.Needs.{needs}
-use Rattle.rules.specs.Tests.{pick}
-use Rattle.rules.specs.Ranges.{berthAt}
+use Rattle.rules.specs.Nodes.{berthAt}
 use Rattle.rules.specs.Turns.{lengthSending}
-use Rattle.rules.specs.Calls.{showable}
+use Rattle.rules.specs.Calls.{showable, chosen}
+use Rattle.rules.specs.declared.Choice.{Choice}
 use Rattle.node.proofs.Shows.{shown-fits, Able, able, shows-none, shows}
 use Rattle.node.specs.Promises.{lent, ShowPromise}
 use Rattle.node.proofs.show.Statement.{statement}
@@ -17,7 +17,7 @@ use Rattle.node.proofs.show.Tie as tie
 
 says : (c : tie.After-showable) → let a = c .before .before .before .before .args in
     showable (lent (a .t1) (now (a .incoming)) (now (a .outgoing))) (a .berth) ≡ c .showable .result
-says c = sym (c .showable .ensures)
+says c = sym (c .showable .ensures (c .before .before .before .before .args .t1) (c .before .in-order .ensures) refl)
 
 abbrev start : tie.After-length-shown → tie.Start
 start c = c .before .before .before .before .before .before .before .before .before
@@ -33,7 +33,7 @@ here c = c .before .before .before .of-berth .ensures .1 (can c .mine)
 
 -- the length shown is that of berth k, and at most A
 shown : (c : tie.After-length-shown) → let a = start c .args in
-    c .length-shown .result ≡ pick (a .choice) (lengthSending (berthAt (a .t1) (a .berth) .tx)) (berthAt (a .t1) (a .berth) .last)
+    c .length-shown .result ≡ chosen (a .choice) (berthAt (a .t1) (a .berth) .last) (lengthSending (berthAt (a .t1) (a .berth) .tx))
 unfolding berthAt
 shown c = rw (here c) at (c .length-shown .ensures)
 
@@ -44,17 +44,17 @@ fits c =
     omega (arith, shown c, shown-fits (a .t1 .settings) (berthAt (a .t1) (a .berth)) (a .choice) (o .settings .area-least) (o .berth (a .berth) (can c .mine)))
 
 -- the part of the chosen store, from where the area starts
-part : (c : tie.After-length-shown) (b : Bool) → let a = start c .args in
+part : (c : tie.After-length-shown) (one : Choice) → let a = start c .args in
     let lo = c .before .of-area .result in
-    let at = pick b (a .outgoing .ptr) (a .incoming .ptr) in
-    a .choice ≡ b →
+    let at = chosen one (a .incoming .ptr) (a .outgoing .ptr) in
+    a .choice ≡ one →
     ShowPromise (a .t1) (now (a .incoming)) (now (a .outgoing)) (a .berth) (a .choice)
-    (take (lo + c .length-shown .result - lo) (drop lo (pick b (now (a .outgoing)) (now (a .incoming)))))
+    (take (lo + c .length-shown .result - lo) (drop lo (chosen one (now (a .incoming)) (now (a .outgoing)))))
     (a .incoming .ptr) (a .outgoing .ptr) (at .0, lo + at .1)
-part c b chosen =
+part c one same-choice =
     let a = start c .args in
-    shows (a .t1) (now (a .incoming)) (now (a .outgoing)) (a .berth) (a .incoming .ptr) (a .outgoing .ptr) (a .choice) b (c .before .of-area .result) (c .length-shown .result)
-    chosen (c .before .of-area .ensures .0 ∙ ap (λ at. at * a .t1 .settings .area) (here c)) (yes c) (shown c) (fits c)
+    shows (a .t1) (now (a .incoming)) (now (a .outgoing)) (a .berth) (a .incoming .ptr) (a .outgoing .ptr) (a .choice) one (c .before .of-area .result) (c .length-shown .result)
+    same-choice (c .before .of-area .ensures .0 ∙ ap (λ at. at * a .t1 .settings .area) (here c)) (yes c) (shown c) (fits c)
 
 in-order-requires : tie.Need-in-order-requires
 in-order-requires c κs = search needs
@@ -83,6 +83,9 @@ cast-hi c = search needs
 add-hi : tie.Need-add-hi
 add-hi c = search needs
 
+enum-told : tie.Need-enum-told
+enum-told c = search needs
+
 sub-result : tie.Need-sub-result
 sub-result c = search needs
 
@@ -90,10 +93,13 @@ part-result-start : tie.Need-part-result-start
 part-result-start c = search needs
 
 part-result-end : tie.Need-part-result-end
-part-result-end c = omega (arith, c .before .before .of-area .ensures, fits (c .before), can (c .before) .outgoing-right)
+part-result-end c = let l = c .before .before in omega (arith, l .before .of-area .ensures, fits l, can l .incoming-right)
 
 returns : tie.Need-returns
-returns c = part (c .before .before) true (c .before .if2 .taken)
+returns c = part (c .before .before .before) Choice.Arrived (c .before .enum-told .given .1)
+
+enum-told-2 : tie.Need-enum-told-2
+enum-told-2 c = search needs
 
 sub-result-2 : tie.Need-sub-result-2
 sub-result-2 c = search needs
@@ -102,10 +108,10 @@ part-result-start-2 : tie.Need-part-result-start-2
 part-result-start-2 c = search needs
 
 part-result-end-2 : tie.Need-part-result-end-2
-part-result-end-2 c = omega (arith, c .before .before .of-area .ensures, fits (c .before), can (c .before) .incoming-right)
+part-result-end-2 c = let l = c .before .before in omega (arith, l .before .of-area .ensures, fits l, can l .outgoing-right)
 
 returns-2 : tie.Need-returns-2
-returns-2 c = part (c .before .before) false (c .before .if2 .left)
+returns-2 c = part (c .before .before .before) Choice.Sending (c .before .enum-told2 .given .1)
 
 slice-aggregate-result : tie.Need-slice-aggregate-result
 slice-aggregate-result c = search needs
@@ -127,10 +133,12 @@ show-spec =
     length-shown-requires
     cast-hi
     add-hi
+    enum-told
     sub-result
     part-result-start
     part-result-end
     returns
+    enum-told-2
     sub-result-2
     part-result-start-2
     part-result-end-2

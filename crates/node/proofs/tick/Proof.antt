@@ -2,7 +2,8 @@
 use native.Mathlib.Omega.{arith}
 use mathlib.Core.Path.{sym, refl, _∙_}
 use borrow.Author.Needs.{needs}
-use Rattle.rules.specs.Refusals.{refusal, needs as needsOf, tick}
+use Rattle.rules.specs.Events.{tick}
+use Rattle.rules.specs.Refusals.{refusal, needs as needsOf}
 use Rattle.rules.specs.Answers.{tickSays}
 use Rattle.rules.specs.Numbers.{outOfOrder}
 use Rattle.node.proofs.Outcomes.{unmet, refuses}

@@ -5,15 +5,16 @@ use mathlib.Core.Path.{_≡_, refl, sym, _∙_}
 use lib.ListN.{length, length-map}
 use borrow.Author.Needs.{needs}
 use Rattle.rules.specs.Numbers.{berthCount}
-use Rattle.rules.specs.Ranges.{fresh}
-use Rattle.rules.specs.Ticks.{ticked}
+use Rattle.rules.specs.Nodes.{fresh}
+use Rattle.rules.specs.Ticks.{ticked, codesOf}
 use Rattle.rules.specs.Stores.{tickedNode}
 use Rattle.rules.specs.Answers.{tickSays}
-use Rattle.rules.specs.Refusals.{refusal, needs as needsOf, tick}
-use Rattle.rules.specs.Calls.{codesOf, done, reply, written}
+use Rattle.rules.specs.Events.{tick}
+use Rattle.rules.specs.Refusals.{refusal, needs as needsOf}
+use Rattle.rules.specs.Calls.{done, reply, written}
 use Rattle.node.proofs.Lists.{filled, filled-more, filled-next, filled-all}
 use Rattle.node.proofs.Outcomes.{meets, all-met, does}
-use Rattle.node.specs.Promises.{lent, noCodes}
+use Rattle.node.specs.Promises.{lent, tenZeros}
 use Rattle.node.proofs.ticked.Statement.{statement}
 use Rattle.node.proofs.ticked.Tie as tie
 
@@ -21,7 +22,7 @@ abbrev Inv-loop : tie.InvT-loop
 Inv-loop node codes₀ i₀ n codes i =
     (i ≤ berthCount) × (length (node .berths) ≡ berthCount)
     × (n ≡ record { settings = node .settings; served = node .served; berths = filled ticked (node .berths) (node .berths) i })
-    × (codes ≡ filled codesOf (node .berths) noCodes i)
+    × (codes ≡ filled codesOf (node .berths) tenZeros i)
 
 abbrev μ-loop : tie.MeasureT-loop
 μ-loop node codes₀ i₀ n codes i = berthCount - i
@@ -67,7 +68,7 @@ loop-again c = let s = c .before .before .before .before in
       search needs,
       search needs,
       rw (c .ticked .ensures, s .loop .inv .2, next, filled-more ticked (node .berths) (node .berths) i fresh (omega arith) (omega arith)),
-      rw (s .loop .inv .3, c .before .codes-of .ensures, s .loop .inv .2, next) (filled-more codesOf (node .berths) noCodes i fresh (omega arith) (omega arith)),
+      rw (s .loop .inv .3, c .before .codes-of .ensures, s .loop .inv .2, next) (filled-more codesOf (node .berths) tenZeros i fresh (omega arith) (omega arith)),
     )
 
 returns : tie.Need-returns Inv-loop μ-loop
@@ -77,7 +78,7 @@ returns c = let s = c .before in
     let i = s .loop .i in
     record {
       agrees = λ incoming outgoing. does (lent node incoming outgoing) tick refl (meets _ _ (s .before .pre) all-met)
-          (rw (s .loop .inv .2, s .loop .inv .3, filled-all ticked (node .berths) (node .berths) i (omega arith) (omega arith), filled-all codesOf (node .berths) noCodes i (omega arith) (omega arith)));
+          (rw (s .loop .inv .2, s .loop .inv .3, filled-all ticked (node .berths) (node .berths) i (omega arith) (omega arith), filled-all codesOf (node .berths) tenZeros i (omega arith) (omega arith)));
       beside = tt;
     }
 

@@ -10,8 +10,8 @@ Inv-loop area length busy n₀ i₀ n i = Unit {0}
 abbrev μ-loop : tie.MeasureT-loop
 μ-loop area length busy n₀ i₀ n i = 10 - i
 
-idle-requires : tie.Need-idle-requires Inv-loop μ-loop
-idle-requires c κs = search needs
+blank-requires : tie.Need-blank-requires Inv-loop μ-loop
+blank-requires c κs = search needs
 
 loop-holds : tie.Need-loop-holds Inv-loop μ-loop
 loop-holds c = search needs
@@ -19,8 +19,8 @@ loop-holds c = search needs
 busy-berth-requires : tie.Need-busy-berth-requires Inv-loop μ-loop
 busy-berth-requires c κs = search needs
 
-mul-t11 : tie.Need-mul-t11 Inv-loop μ-loop
-mul-t11 c = search needs
+mul-t10 : tie.Need-mul-t10 Inv-loop μ-loop
+mul-t10 c = search needs
 
 element-set-from-n : tie.Need-element-set-from-n Inv-loop μ-loop
 element-set-from-n c = search needs
@@ -43,10 +43,10 @@ with-busy-spec =
     (tie.spec
     Inv-loop
     μ-loop
-    idle-requires
+    blank-requires
     loop-holds
     busy-berth-requires
-    mul-t11
+    mul-t10
     element-set-from-n
     add-i
     loop-less

@@ -1,6 +1,6 @@
 -- The codes of the two sides.
 use borrow.Author.Needs.{needs}
-use Rattle.rules.specs.Calls.{codesOf}
+use Rattle.rules.specs.Ticks.{codesOf}
 use Rattle.berth.proofs.ticks.codes_of.Statement.{statement}
 use Rattle.berth.proofs.ticks.codes_of.Tie as tie
 

@@ -4,7 +4,8 @@ use native.Mathlib.Omega.{arith}
 use mathlib.Core.Path.{sym, _∙_, refl, _≡_}
 use lib.ListN.{length-map, drop-of-length-le, length, drop}
 use borrow.Author.Needs.{needs}
-use Rattle.rules.specs.Ranges.{fresh, berthInOrder}
+use Rattle.rules.specs.Nodes.{fresh}
+use Rattle.rules.specs.Ranges.{berthInOrder}
 use Rattle.rules.specs.Numbers.{berthCount}
 use Rattle.rules.specs.Tests.{each}
 use Rattle.node.proofs.Lists.{each-passes, each-fails}

@@ -10,7 +10,9 @@ use borrow.Author.Needs.{needs}
 use Rattle.rules.specs.Stores.{passedOver}
 use Rattle.rules.proofs.Cases.{split}
 use Rattle.rules.specs.Numbers.{berthCount}
-use Rattle.node.proofs.Distances.{passed-all, stopped-at, at-most-ten, probed}
+use Rattle.node.proofs.Distances.{passed-all, stopped-at}
+use Rattle.node.specs.Probes.{probed}
+use Rattle.rules.proofs.Round.{least-ten}
 use Rattle.node.proofs.round.passed_over.Statement.{statement}
 use Rattle.node.proofs.round.passed_over.Tie as tie
 
@@ -69,7 +71,7 @@ unfolding passedOver
 returns-2 c = let s = c .before in
     let node = s .before .args .t1 in
     let p = s .loop .passed in
-    let most = at-most-ten (node .served) 0 (node .berths) in
+    let most = least-ten (node .served) 0 (node .berths) in
     le-antisymm
     (passed-all (node .served) (node .berths) (s .before .pre) (s .loop .inv .1) p (s .loop .inv .0) (s .loop .inv .2))
     (omega (arith, c .loop-test .left))

@@ -1,0 +1,60 @@
+-- Paper 01, the node and what is lent with it: a fresh berth, berth k's part of the node, and each record with one part anew. A record
+-- is built here and at set-up and nowhere else, so that a new field is one line.
+use Prim.Native.Nat.{ℕ}
+use mathlib.Core.List.{List}
+use lib.ListN.{getD, set, replicate}
+use Rattle.rules.specs.Numbers.{berthCount}
+use Rattle.rules.specs.declared.Settings.{Settings}
+use Rattle.rules.specs.declared.Rx.{Rx}
+use Rattle.rules.specs.declared.Tx.{Tx}
+use Rattle.rules.specs.declared.Berth.{Berth}
+use Rattle.rules.specs.declared.Node.{Node}
+
+-- ---- one berth
+
+-- a berth with both sides idle and nothing arrived
+abbrev pub fresh : Berth
+fresh = record { rx = Rx.Idle; last = 0; tx = Tx.Idle }
+
+-- a berth with its receive side and last length anew, and with its send side anew
+abbrev pub withRx : Berth → Rx → ℕ → Berth
+withRx b rx last = record { rx = rx; last = last; tx = b .tx }
+
+abbrev pub withTx : Berth → Tx → Berth
+withTx b tx = record { rx = b .rx; last = b .last; tx = tx }
+
+-- ---- the node
+
+-- a node that no set-up has filled: settings 0, ten fresh berths
+abbrev pub blankNode : Node
+blankNode = record { settings = record { area = 0; block = 0; stmin = 0 }; served = 0; berths = replicate berthCount fresh }
+
+-- berth k's part of the node
+unfoldable pub berthAt : Node → ℕ → Berth
+berthAt n k = getD (n .berths) k fresh
+
+-- the node with its berths anew, with one berth anew, and with the berth served last anew
+abbrev pub withBerths : Node → List Berth → Node
+withBerths n bs = record { settings = n .settings; served = n .served; berths = bs }
+
+unfoldable pub withBerth : Node → ℕ → Berth → Node
+withBerth n k b = withBerths n (set (n .berths) k b)
+
+abbrev pub withServed : Node → ℕ → Node
+withServed n k = record { settings = n .settings; served = k; berths = n .berths }
+
+-- ---- what the calls are lent: the node and the two stores
+
+pub record Held : Type 0 where
+  pub node : Node
+  pub incoming : List ℕ
+  pub outgoing : List ℕ
+
+abbrev pub withNode : Held → Node → Held
+withNode h n = record { node = n; incoming = h .incoming; outgoing = h .outgoing }
+
+abbrev pub withIncoming : Held → List ℕ → Held
+withIncoming h store = record { node = h .node; incoming = store; outgoing = h .outgoing }
+
+abbrev pub withOutgoing : Held → List ℕ → Held
+withOutgoing h store = record { node = h .node; incoming = h .incoming; outgoing = store }
