@@ -6,9 +6,10 @@ use lib.ListN.{length, take, drop, replicate}
 use lib.Dec.{ltb}
 use Rattle.rules.specs.Numbers.{frameSize}
 use Rattle.rules.specs.Tests.{pick}
-use Rattle.rules.specs.Stores.{Held, setUpNode}
+use Rattle.rules.specs.Nodes.{Held}
+use Rattle.rules.specs.Stores.{setUpNode}
 use Rattle.rules.specs.Answers.{Answer}
-use Rattle.rules.specs.Refusals.{Call, frame, tick, send, turn}
+use Rattle.rules.specs.Events.{Call, frame, tick, send, turn}
 use Rattle.rules.specs.Calls.{outcome, answers, final}
 use Rattle.rules.specs.declared.Node.{Node}
 use Rattle.rules.specs.declared.Settings.{Settings}
@@ -54,10 +55,14 @@ unfoldable pub stepHeld : List ℕ → Held → Held
 stepHeld d h = final h (asks d (recordOf d))
 
 pub record Steps (number : ℕ) (d : List ℕ) (h : Held) (text : Text) (h′ : Held) : Type 0 where
-  pub text : textOf text ≡ stepText number d h
-  pub held : h′ ≡ stepHeld d h
+  pub prints : textOf text ≡ stepText number d h
+  pub leaves : h′ ≡ stepHeld d h
 
 -- one call of a step: its text, and what it leaves
 pub record Does (number : ℕ) (h : Held) (call : Call) (text : Text) (h′ : Held) : Type 0 where
-  pub says : textOf text ≡ answerText number (outcome h call .answer)
+  pub prints : textOf text ≡ answerText number (outcome h call .answer)
   pub leaves : h′ ≡ outcome h call .held
+
+-- a call that is not given a store leaves any such store as it is
+abbrev pub Whatever : (List ℕ → Type 0) → Type 0
+Whatever P = (store : List ℕ) → P store

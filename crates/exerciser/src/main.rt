@@ -2,11 +2,12 @@
 // It has areas of 1,000 bytes, block size 8 and STmin 00.
 ghost use Prim.Native.Nat.{_≤_};
 ghost use mathlib.Core.Path.{_≡_};
-ghost use lib.ListN.{take};
-ghost use Rattle.rules.specs.Refusals.{frame, tick, send, turn};
+ghost use mathlib.Core.List.{[]};
+ghost use Rattle.rules.specs.Events.{frame, tick, send, turn};
 ghost use Rattle.node.specs.Promises.{lent};
 ghost use Rattle.records.specs.Records.{risingFrom};
-ghost use Rattle.exerciser.specs.Steps.{firstNode, zeros, Does, Steps};
+ghost use Rattle.text.specs.Building.{textOf};
+ghost use Rattle.exerciser.specs.Steps.{firstNode, zeros, says, Whatever, Does, Steps};
 use libc::STDIN_FILENO;
 use libc::STDOUT_FILENO;
 use reading::input::Kind;
@@ -14,11 +15,7 @@ use reading::input::Part;
 use reading::input::Source;
 use reading::output::Sink;
 use records::record::Record;
-use rules::Berth;
 use rules::Node;
-use rules::Rx;
-use rules::Settings;
-use rules::Tx;
 use text::building::Text;
 
 // What a record leaves beside the stores: its text and the node.
@@ -30,27 +27,11 @@ struct Left {
 fn first_node() -> Node
     ensures { λ r. ⌜ r ≡ firstNode ⌝ }
 {
-    let idle = Berth {
-        rx: Rx::Idle,
-        last: 0,
-        tx: Tx::Idle,
-    };
-    let berths = [idle; 10];
-    let settings = Settings {
-        area: 0,
-        block: 0,
-        stmin: 0,
-    };
-    let blank = Node {
-        settings: settings,
-        served: 0,
-        berths: berths,
-    };
-    carumpek::local::set_up(blank, 1000, 8, 0).node
+    carumpek::local::set_up(Node::blank(), 1000, 8, 0).node
 }
 
 fn heard(number: u64, node: Node, incoming: &mut [u8], identifier: u32, payload: &[u8]) -> Left
-    ensures { λ r. ⌜ (outgoing : _) → Does number (lent node (now (incoming .entry)) outgoing) (frame identifier (now (payload .entry))) (r .text) (lent (r .node) (now (incoming .exit)) outgoing) ⌝ }
+    ensures { λ r. ⌜ Whatever (λ outgoing. Does number (lent node (now (incoming .entry)) outgoing) (frame identifier (now (payload .entry))) (r .text) (lent (r .node) (now (incoming .exit)) outgoing)) ⌝ }
 {
     let out = carumpek::local::frame(node, incoming, identifier, payload);
     let answer = out.answer;
@@ -62,7 +43,7 @@ fn heard(number: u64, node: Node, incoming: &mut [u8], identifier: u32, payload:
 }
 
 fn ticked(number: u64, node: Node) -> Left
-    ensures { λ r. ⌜ (incoming outgoing : _) → Does number (lent node incoming outgoing) tick (r .text) (lent (r .node) incoming outgoing) ⌝ }
+    ensures { λ r. ⌜ Whatever (λ incoming. Whatever (λ outgoing. Does number (lent node incoming outgoing) tick (r .text) (lent (r .node) incoming outgoing))) ⌝ }
 {
     let out = carumpek::local::tick(node);
     let answer = out.answer;
@@ -75,7 +56,7 @@ fn ticked(number: u64, node: Node) -> Left
 
 fn sent(number: u64, node: Node, outgoing: &mut [u8], berth: u8, length: u32, first: u8) -> Left
     requires { ⌜ length ≤ 1001 ⌝ }
-    ensures { λ r. ⌜ (incoming : _) → Does number (lent node incoming (now (outgoing .entry))) (send berth (risingFrom first length)) (r .text) (lent (r .node) incoming (now (outgoing .exit))) ⌝ }
+    ensures { λ r. ⌜ Whatever (λ incoming. Does number (lent node incoming (now (outgoing .entry))) (send berth (risingFrom first length)) (r .text) (lent (r .node) incoming (now (outgoing .exit)))) ⌝ }
 {
     let mut message = [0u8; 1001];
     records::message::rise(&mut message, first);
@@ -90,7 +71,7 @@ fn sent(number: u64, node: Node, outgoing: &mut [u8], berth: u8, length: u32, fi
 }
 
 fn turned(number: u64, node: Node, outgoing: &[u8]) -> Left
-    ensures { λ r. ⌜ (incoming : _) → Does number (lent node incoming (now (outgoing .entry))) (turn zeros) (r .text) (lent (r .node) incoming (now (outgoing .entry))) ⌝ }
+    ensures { λ r. ⌜ Whatever (λ incoming. Does number (lent node incoming (now (outgoing .entry))) (turn zeros) (r .text) (lent (r .node) incoming (now (outgoing .entry)))) ⌝ }
 {
     let mut buffer = [0u8; 8];
     let out = carumpek::local::turn(node, outgoing, &mut buffer);
@@ -102,32 +83,26 @@ fn turned(number: u64, node: Node, outgoing: &[u8]) -> Left
     }
 }
 
-fn none(number: u64, bytes: &[u8], node: Node) -> Left {
+// A record that asks for no call.
+fn none(number: u64, bytes: &[u8]) -> Text
+    ensures { λ r. ⌜ textOf r ≡ says number (now (bytes .entry)) [] ⌝ }
+{
     if bytes.len() < 16 {
-        return Left {
-            text: text::answers::short(number),
-            node: node,
-        };
+        return text::answers::short(number);
     }
-    Left {
-        text: text::answers::bad(number),
-        node: node,
-    }
+    text::answers::bad(number)
 }
 
 // What one record does.
-fn step(
-    number: u64,
-    bytes: &[u8],
-    node: Node,
-    incoming: &mut [u8],
-    outgoing: &mut [u8],
-) -> Left
+fn step(number: u64, bytes: &[u8], node: Node, incoming: &mut [u8], outgoing: &mut [u8]) -> Left
     ensures { λ r. ⌜ Steps number (now (bytes .entry)) (lent node (now (incoming .entry)) (now (outgoing .entry))) (r .text) (lent (r .node) (now (incoming .exit)) (now (outgoing .exit))) ⌝ }
 {
     let record = records::record::read(bytes);
     match record {
-        Record::Bad => none(number, bytes, node),
+        Record::Bad => Left {
+            text: none(number, bytes),
+            node: node,
+        },
         Record::Frame { identifier, length } => {
             let end = 8 + length as usize;
             heard(number, node, incoming, identifier, &bytes[8..end])
@@ -176,22 +151,26 @@ fn run_next(
     output: &mut [u8],
 ) -> Progress {
     let mut after = before;
-    let next = before.source.next(input, Kind::Record(16));
+    let source = before.source;
+    let next = source.next(input, Kind::Record(16));
     let part = next.part;
     if let Part::End = part {
         after.more = false;
         return after;
     }
+    let node = before.node;
     let from = next.from;
     let to = next.to;
-    let left = step(before.number, &input[from..to], before.node, incoming, outgoing);
-    Progress {
-        node: left.node,
-        number: std::num::wrapping_add_u64(before.number, 1),
-        source: next.source,
-        sink: say(before.sink, output, left.text),
-        more: true,
-    }
+    let left = step(before.number, &input[from..to], node, incoming, outgoing);
+    let sink = before.sink;
+    let text = left.text;
+    let left_node = left.node;
+    let left_source = next.source;
+    after.node = left_node;
+    after.number = std::num::wrapping_add_u64(before.number, 1);
+    after.source = left_source;
+    after.sink = say(sink, output, text);
+    after
 }
 
 // A proved loop has to end, and nothing says that the input does. So the loop counts its turns down, from a number that no run
@@ -203,7 +182,8 @@ fn run(input: &mut [u8], incoming: &mut [u8], outgoing: &mut [u8], output: &mut 
         progress = run_next(progress, input, incoming, outgoing, output);
         turns -= 1;
     }
-    progress.sink.flush(output);
+    let sink = progress.sink;
+    sink.flush(output);
 }
 
 fn main() {

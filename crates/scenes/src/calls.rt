@@ -2,9 +2,9 @@
 ghost use Prim.Native.Nat.{_<_};
 use crate::judged;
 use crate::output;
-use text::building::Text;
 use rules::Node;
 use rules::SetUpAnswer;
+use text::building::Text;
 
 // What a record leaves beside the stores: its line and the node.
 pub(crate) struct Outcome {

@@ -3,9 +3,9 @@ use crate::judged;
 use crate::output;
 use crate::scene::Scene;
 use crate::words;
-use text::building::Text;
 use rules::Choice;
 use rules::Node;
+use text::building::Text;
 
 fn chosen(b: u8) -> Choice {
     if b == 1 {

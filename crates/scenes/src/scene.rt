@@ -1,11 +1,11 @@
 // A scene: the node, how much of the stores is lent to it, and how far the records have come.
 use crate::output;
-use text::building::Text;
 use rules::Berth;
 use rules::Node;
 use rules::Rx;
 use rules::Settings;
 use rules::Tx;
+use text::building::Text;
 
 // The header's area size is 0 where the header was refused or bad.
 pub struct Scene {

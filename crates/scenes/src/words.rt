@@ -1,11 +1,11 @@
 // The scenes' own lines: a berth's state, the node's own, and the frames needed.
-use text::building::Text;
 use rules::Berth;
 use rules::Rx;
 use rules::Sending;
 use rules::Settings;
 use rules::Taking;
 use rules::Tx;
+use text::building::Text;
 
 // Each with a space before it.
 fn numbers(line: Text, list: &[u64]) -> Text {
