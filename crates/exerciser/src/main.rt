@@ -1,5 +1,4 @@
 // The exerciser of paper 01: records of sixteen bytes from standard input, a line of text for each to standard output.
-// It has areas of 1,000 bytes, block size 8 and STmin 00.
 ghost use Prim.Native.Nat.{_≤_};
 ghost use mathlib.Core.Path.{_≡_};
 ghost use mathlib.Core.List.{[]};
@@ -18,6 +17,14 @@ use records::record::Record;
 use rules::Node;
 use text::building::Text;
 
+const AREA: u32 = 1000;
+
+const BLOCK: u32 = 8;
+
+const STMIN: u32 = 0;
+
+const RECORD: usize = 16;
+
 // What a record leaves beside the stores: its text and the node.
 struct Left {
     text: Text,
@@ -27,7 +34,7 @@ struct Left {
 fn first_node() -> Node
     ensures { λ r. ⌜ r ≡ firstNode ⌝ }
 {
-    carumpek::local::set_up(Node::blank(), 1000, 8, 0).node
+    carumpek::local::set_up(Node::blank(), AREA, BLOCK, STMIN).node
 }
 
 fn heard(number: u64, node: Node, incoming: &mut [u8], identifier: u32, payload: &[u8]) -> Left
@@ -87,7 +94,7 @@ fn turned(number: u64, node: Node, outgoing: &[u8]) -> Left
 fn none(number: u64, bytes: &[u8]) -> Text
     ensures { λ r. ⌜ textOf r ≡ says number (now (bytes .entry)) [] ⌝ }
 {
-    if bytes.len() < 16 {
+    if bytes.len() < RECORD {
         return text::answers::short(number);
     }
     text::answers::bad(number)
@@ -152,7 +159,7 @@ fn run_next(
 ) -> Progress {
     let mut after = before;
     let source = before.source;
-    let next = source.next(input, Kind::Record(16));
+    let next = source.next(input, Kind::Record(RECORD));
     let part = next.part;
     if let Part::End = part {
         after.more = false;

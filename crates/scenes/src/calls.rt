@@ -6,9 +6,9 @@ use rules::Node;
 use rules::SetUpAnswer;
 use text::building::Text;
 
-// What a record leaves beside the stores: its line and the node.
+// What a record leaves beside the stores: its text and the node.
 pub(crate) struct Outcome {
-    pub line: Text,
+    pub text: Text,
     pub node: Node,
 }
 
@@ -31,7 +31,7 @@ pub(crate) fn frame(number: u64, node: Node, record: &[u8; 16], incoming: &mut [
     let answer = came.answer;
     let after = came.node;
     Outcome {
-        line: text::answers::frame(number, answer),
+        text: text::answers::frame(number, answer),
         node: after,
     }
 }
@@ -41,7 +41,7 @@ pub(crate) fn tick(number: u64, node: Node) -> Outcome {
     let answer = came.answer;
     let after = came.node;
     Outcome {
-        line: text::answers::tick(number, answer),
+        text: text::answers::tick(number, answer),
         node: after,
     }
 }
@@ -55,19 +55,19 @@ pub(crate) fn send(number: u64, node: Node, record: &[u8; 16], outgoing: &mut [u
     let answer = came.answer;
     let after = came.node;
     Outcome {
-        line: text::answers::send(number, answer),
+        text: text::answers::send(number, answer),
         node: after,
     }
 }
 
-// The line goes on with the whole buffer, also after `none` and a refusal.
+// The text goes on with the whole buffer, also after `none` and a refusal.
 fn turned(number: u64, node: Node, outgoing: &[u8], buffer: &mut [u8]) -> Outcome {
     let came = carumpek::local::turn(node, outgoing, buffer);
     let answer = came.answer;
     let after = came.node;
-    let line = output::open(text::answers::turn(number, answer, buffer));
+    let text = output::open(text::answers::turn(number, answer, buffer));
     Outcome {
-        line: output::with_bytes(line.put_all(b" buffer"), buffer),
+        text: output::with_bytes(text.put_all(b" buffer"), buffer),
         node: after,
     }
 }
@@ -96,7 +96,7 @@ pub(crate) fn set_up(number: u64, node: Node, record: &[u8; 16], at: usize) -> O
     let answer = came.answer;
     let after = came.node;
     Outcome {
-        line: set_up_line(number, answer),
+        text: set_up_line(number, answer),
         node: after,
     }
 }

@@ -8,8 +8,8 @@ use rules::Tx;
 use text::building::Text;
 
 // Each with a space before it.
-fn numbers(line: Text, list: &[u64]) -> Text {
-    let mut all = line;
+fn numbers(text: Text, list: &[u64]) -> Text {
+    let mut all = text;
     let mut i = 0;
     while i < list.len() {
         all = all.put(b' ').decimal(list[i], 20);
@@ -18,7 +18,7 @@ fn numbers(line: Text, list: &[u64]) -> Text {
     all
 }
 
-fn taking_numbers(line: Text, p: Taking, timer: u16) -> Text {
+fn taking_numbers(text: Text, p: Taking, timer: u16) -> Text {
     let sn = p.sn.0;
     let list = [
         p.total as u64,
@@ -27,10 +27,10 @@ fn taking_numbers(line: Text, p: Taking, timer: u16) -> Text {
         p.taken as u64,
         timer as u64,
     ];
-    numbers(line, &list)
+    numbers(text, &list)
 }
 
-fn sending_numbers(line: Text, o: Sending, timer: u16) -> Text {
+fn sending_numbers(text: Text, o: Sending, timer: u16) -> Text {
     let sn = o.sn.0;
     let list = [
         o.length as u64,
@@ -42,25 +42,25 @@ fn sending_numbers(line: Text, o: Sending, timer: u16) -> Text {
         o.left as u64,
         timer as u64,
     ];
-    numbers(line, &list)
+    numbers(text, &list)
 }
 
-fn receive_side(line: Text, rx: Rx) -> Text {
+fn receive_side(text: Text, rx: Rx) -> Text {
     match rx {
-        Rx::Idle => line.put_all(b" rx 0"),
-        Rx::OwesOverflow(timer) => numbers(line.put_all(b" rx 1"), &[timer as u64]),
-        Rx::OwesGo(p, timer) => taking_numbers(line.put_all(b" rx 2"), p, timer),
-        Rx::Awaits(p, timer) => taking_numbers(line.put_all(b" rx 3"), p, timer),
+        Rx::Idle => text.put_all(b" rx 0"),
+        Rx::OwesOverflow(timer) => numbers(text.put_all(b" rx 1"), &[timer as u64]),
+        Rx::OwesGo(p, timer) => taking_numbers(text.put_all(b" rx 2"), p, timer),
+        Rx::Awaits(p, timer) => taking_numbers(text.put_all(b" rx 3"), p, timer),
     }
 }
 
-fn send_side(line: Text, tx: Tx) -> Text {
+fn send_side(text: Text, tx: Tx) -> Text {
     match tx {
-        Tx::Idle => line.put_all(b" tx 0"),
-        Tx::SingleDue(n, timer) => numbers(line.put_all(b" tx 1"), &[n as u64, timer as u64]),
-        Tx::FirstDue(n, timer) => numbers(line.put_all(b" tx 2"), &[n as u64, timer as u64]),
-        Tx::AwaitsFlow(o, timer) => sending_numbers(line.put_all(b" tx 3"), o, timer),
-        Tx::Consecutive(o, timer) => sending_numbers(line.put_all(b" tx 4"), o, timer),
+        Tx::Idle => text.put_all(b" tx 0"),
+        Tx::SingleDue(n, timer) => numbers(text.put_all(b" tx 1"), &[n as u64, timer as u64]),
+        Tx::FirstDue(n, timer) => numbers(text.put_all(b" tx 2"), &[n as u64, timer as u64]),
+        Tx::AwaitsFlow(o, timer) => sending_numbers(text.put_all(b" tx 3"), o, timer),
+        Tx::Consecutive(o, timer) => sending_numbers(text.put_all(b" tx 4"), o, timer),
     }
 }
 
@@ -68,8 +68,8 @@ fn send_side(line: Text, tx: Tx) -> Text {
 pub(crate) fn state(number: u64, berth: Berth) -> Text {
     let rx = berth.rx;
     let tx = berth.tx;
-    let line = receive_side(text::answers::numbered(number).put_all(b"state"), rx);
-    send_side(numbers(line.put_all(b" last"), &[berth.last as u64]), tx).put(b'\n')
+    let text = receive_side(text::answers::numbered(number).put_all(b"state"), rx);
+    send_side(numbers(text.put_all(b" last"), &[berth.last as u64]), tx).put(b'\n')
 }
 
 pub(crate) fn own(number: u64, settings: Settings, served: u8) -> Text {
