@@ -1,53 +1,69 @@
-// The exerciser of paper 01: records of sixteen bytes from standard input, a line for each to standard output.
-// It has areas of 1,000 bytes, block size 8 and STmin 00.
-ghost use Prim.Native.Nat.{_≤_, _<_};
+// The exerciser of paper 01: records of sixteen bytes from standard input, a line of text for each to standard output.
+ghost use Prim.Native.Nat.{_≤_};
+ghost use mathlib.Core.Path.{_≡_};
+ghost use mathlib.Core.List.{[]};
+ghost use Rattle.rules.specs.Events.{frame, tick, send, turn};
+ghost use Rattle.node.specs.Promises.{lent};
+ghost use Rattle.records.specs.Records.{risingFrom};
+ghost use Rattle.text.specs.Building.{textOf};
+ghost use Rattle.exerciser.specs.Steps.{firstNode, zeros, says, Whatever, Does, Steps};
 use libc::STDIN_FILENO;
 use libc::STDOUT_FILENO;
-use lines::Line;
+use reading::input::Kind;
+use reading::input::Part;
+use reading::input::Source;
+use reading::output::Sink;
 use records::record::Record;
-use rules::Berth;
 use rules::Node;
-use rules::Rx;
-use rules::Settings;
-use rules::Tx;
+use text::building::Text;
 
-// What a record leaves beside the stores: its line and the node.
-struct Outcome {
-    line: Line,
+const AREA: u32 = 1000;
+
+const BLOCK: u32 = 8;
+
+const STMIN: u32 = 0;
+
+const RECORD: usize = 16;
+
+// What a record leaves beside the stores: its text and the node.
+struct Left {
+    text: Text,
     node: Node,
 }
 
-// What goes from one record to the next: the node, the number of the next record, how much of the output waits to be written,
-// and whether there may be more input.
-struct Progress {
-    node: Node,
-    number: u64,
-    waiting: usize,
-    more: bool,
+fn first_node() -> Node
+    ensures { λ r. ⌜ r ≡ firstNode ⌝ }
+{
+    carumpek::local::set_up(Node::blank(), AREA, BLOCK, STMIN).node
 }
 
-fn first_node() -> Node {
-    let idle = Berth {
-        rx: Rx::Idle,
-        last: 0,
-        tx: Tx::Idle,
-    };
-    let berths = [idle; 10];
-    let settings = Settings {
-        area: 0,
-        block: 0,
-        stmin: 0,
-    };
-    let blank = Node {
-        settings: settings,
-        served: 0,
-        berths: berths,
-    };
-    carumpek::local::set_up(blank, 1000, 8, 0).node
+fn heard(number: u64, node: Node, incoming: &mut [u8], identifier: u32, payload: &[u8]) -> Left
+    ensures { λ r. ⌜ Whatever (λ outgoing. Does number (lent node (now (incoming .entry)) outgoing) (frame identifier (now (payload .entry))) (r .text) (lent (r .node) (now (incoming .exit)) outgoing)) ⌝ }
+{
+    let out = carumpek::local::frame(node, incoming, identifier, payload);
+    let answer = out.answer;
+    let after = out.node;
+    Left {
+        text: text::answers::frame(number, answer),
+        node: after,
+    }
 }
 
-fn sent(number: u64, node: Node, outgoing: &mut [u8], berth: u8, length: u32, first: u8) -> Outcome
+fn ticked(number: u64, node: Node) -> Left
+    ensures { λ r. ⌜ Whatever (λ incoming. Whatever (λ outgoing. Does number (lent node incoming outgoing) tick (r .text) (lent (r .node) incoming outgoing))) ⌝ }
+{
+    let out = carumpek::local::tick(node);
+    let answer = out.answer;
+    let after = out.node;
+    Left {
+        text: text::answers::tick(number, answer),
+        node: after,
+    }
+}
+
+fn sent(number: u64, node: Node, outgoing: &mut [u8], berth: u8, length: u32, first: u8) -> Left
     requires { ⌜ length ≤ 1001 ⌝ }
+    ensures { λ r. ⌜ Whatever (λ incoming. Does number (lent node incoming (now (outgoing .entry))) (send berth (risingFrom first length)) (r .text) (lent (r .node) incoming (now (outgoing .exit)))) ⌝ }
 {
     let mut message = [0u8; 1001];
     records::message::rise(&mut message, first);
@@ -55,55 +71,43 @@ fn sent(number: u64, node: Node, outgoing: &mut [u8], berth: u8, length: u32, fi
     let out = carumpek::local::send(node, outgoing, berth as u32, &message[..n]);
     let answer = out.answer;
     let after = out.node;
-    Outcome {
-        line: lines::send(number, answer),
+    Left {
+        text: text::answers::send(number, answer),
         node: after,
     }
 }
 
-fn turned(number: u64, node: Node, outgoing: &[u8]) -> Outcome {
+fn turned(number: u64, node: Node, outgoing: &[u8]) -> Left
+    ensures { λ r. ⌜ Whatever (λ incoming. Does number (lent node incoming (now (outgoing .entry))) (turn zeros) (r .text) (lent (r .node) incoming (now (outgoing .entry)))) ⌝ }
+{
     let mut buffer = [0u8; 8];
     let out = carumpek::local::turn(node, outgoing, &mut buffer);
     let answer = out.answer;
     let after = out.node;
-    Outcome {
-        line: lines::turn(number, answer, &buffer),
+    Left {
+        text: text::answers::turn(number, answer, &buffer),
         node: after,
     }
 }
 
-fn ticked(number: u64, node: Node) -> Outcome {
-    let out = carumpek::local::tick(node);
-    let answer = out.answer;
-    let after = out.node;
-    Outcome {
-        line: lines::tick(number, answer),
-        node: after,
+// A record that asks for no call.
+fn none(number: u64, bytes: &[u8]) -> Text
+    ensures { λ r. ⌜ textOf r ≡ says number (now (bytes .entry)) [] ⌝ }
+{
+    if bytes.len() < RECORD {
+        return text::answers::short(number);
     }
-}
-
-fn heard(number: u64, node: Node, incoming: &mut [u8], identifier: u32, payload: &[u8]) -> Outcome {
-    let out = carumpek::local::frame(node, incoming, identifier, payload);
-    let answer = out.answer;
-    let after = out.node;
-    Outcome {
-        line: lines::frame(number, answer),
-        node: after,
-    }
+    text::answers::bad(number)
 }
 
 // What one record does.
-fn answered(
-    number: u64,
-    bytes: &[u8],
-    node: Node,
-    incoming: &mut [u8],
-    outgoing: &mut [u8],
-) -> Outcome {
+fn step(number: u64, bytes: &[u8], node: Node, incoming: &mut [u8], outgoing: &mut [u8]) -> Left
+    ensures { λ r. ⌜ Steps number (now (bytes .entry)) (lent node (now (incoming .entry)) (now (outgoing .entry))) (r .text) (lent (r .node) (now (incoming .exit)) (now (outgoing .exit))) ⌝ }
+{
     let record = records::record::read(bytes);
     match record {
-        Record::Bad => Outcome {
-            line: lines::bad(number),
+        Record::Bad => Left {
+            text: none(number, bytes),
             node: node,
         },
         Record::Frame { identifier, length } => {
@@ -120,111 +124,73 @@ fn answered(
     }
 }
 
-// The output is collected, so that few calls write it.
-fn flush(output: &[u8], waiting: usize) {
-    if waiting <= output.len() {
-        io::write_all(STDOUT_FILENO, &output[..waiting]);
-    }
+// What goes from one record to the next.
+struct Progress {
+    node: Node,
+    number: u64,
+    source: Source,
+    sink: Sink,
+    more: bool,
 }
 
-fn put(output: &mut [u8], waiting: usize, line: Line) -> usize {
-    if waiting < output.len() {
-        if line.length < output.len() - waiting {
-            return lines::copy(line, output, waiting);
-        }
-    }
-    flush(output, waiting);
-    lines::copy(line, output, 0)
-}
-
-// The record at the start of what is left of a piece. A piece ends inside a record only where the input does.
-fn step(
-    rest: &[u8],
-    before: Progress,
-    incoming: &mut [u8],
-    outgoing: &mut [u8],
-    output: &mut [u8],
-) -> Progress {
-    let node = before.node;
-    let number = before.number;
-    let waiting = before.waiting;
-    if rest.len() < 16 {
-        return Progress {
-            node: node,
-            number: number,
-            waiting: put(output, waiting, lines::short(number)),
-            more: false,
-        };
-    }
-    let one = answered(number, &rest[..16], node, incoming, outgoing);
-    let after = one.node;
-    let line = one.line;
+fn first() -> Progress {
     Progress {
-        node: after,
-        number: std::num::wrapping_add_u64(number, 1),
-        waiting: put(output, waiting, line),
-        more: before.more,
+        node: first_node(),
+        number: 1,
+        source: Source::of(STDIN_FILENO),
+        sink: Sink::of(STDOUT_FILENO),
+        more: true,
     }
 }
 
-// Where the next record starts.
-fn next(at: usize, length: usize) -> usize
-    requires { ⌜ at < length ⌝ }
-    ensures { λ r. ⌜ (at < r) × (r ≤ length) ⌝ }
-{
-    if length - at < 16 { length } else { at + 16 }
+fn say(sink: Sink, output: &mut [u8], text: Text) -> Sink {
+    let mut bytes = [0u8; 128];
+    let n = text::building::copy(text, &mut bytes);
+    sink.put(output, &bytes[..n])
 }
 
-fn run_piece(
-    piece: &[u8],
+// The next record, or the last part of one, until there is none.
+fn run_next(
     before: Progress,
-    incoming: &mut [u8],
-    outgoing: &mut [u8],
-    output: &mut [u8],
-) -> Progress {
-    let mut progress = before;
-    let mut at = 0;
-    while at < piece.len() {
-        progress = step(&piece[at..], progress, incoming, outgoing, output);
-        at = next(at, piece.len());
-    }
-    progress
-}
-
-// Reads a piece and runs it; a piece that is not full is the last one.
-fn run_some(
     input: &mut [u8],
-    before: Progress,
     incoming: &mut [u8],
     outgoing: &mut [u8],
     output: &mut [u8],
 ) -> Progress {
-    let got = io::read_full(STDIN_FILENO, input);
-    let after = run_piece(&input[..got], before, incoming, outgoing, output);
-    let node = after.node;
-    Progress {
-        node: node,
-        number: after.number,
-        waiting: after.waiting,
-        more: got == input.len(),
+    let mut after = before;
+    let source = before.source;
+    let next = source.next(input, Kind::Record(RECORD));
+    let part = next.part;
+    if let Part::End = part {
+        after.more = false;
+        return after;
     }
+    let node = before.node;
+    let from = next.from;
+    let to = next.to;
+    let left = step(before.number, &input[from..to], node, incoming, outgoing);
+    let sink = before.sink;
+    let text = left.text;
+    let left_node = left.node;
+    let left_source = next.source;
+    after.node = left_node;
+    after.number = std::num::wrapping_add_u64(before.number, 1);
+    after.source = left_source;
+    after.sink = say(sink, output, text);
+    after
 }
 
 // A proved loop has to end, and nothing says that the input does. So the loop counts its turns down, from a number that no run
 // uses up.
 fn run(input: &mut [u8], incoming: &mut [u8], outgoing: &mut [u8], output: &mut [u8]) {
-    let mut progress = Progress {
-        node: first_node(),
-        number: 1,
-        waiting: 0,
-        more: true,
-    };
+    let mut progress = first();
     let mut turns = u64::MAX;
     while turns > 0 && progress.more {
-        progress = run_some(input, progress, incoming, outgoing, output);
+        progress = run_next(progress, input, incoming, outgoing, output);
         turns -= 1;
     }
-    flush(output, progress.waiting);
+    let sink = progress.sink;
+    sink.flush(output);
 }
 
 fn main() {

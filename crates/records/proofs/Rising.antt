@@ -1,9 +1,9 @@
 -- A message that rises, stored byte by byte.
-use mathlib.Core.Path.{_≡_, sym, _∙_}
-use Prim.Native.Nat.{ℕ, suc, _+_, _-_, _%_, _≤_, _<_}
+use mathlib.Core.Path.{_≡_, refl, sym, ap, _∙_}
+use Prim.Native.Nat.{ℕ, zero, suc, _+_, _-_, _%_, _≤_, _<_}
 use native.Mathlib.Omega.{arith}
 use native.Mathlib.Numerals.{add-one}
-use mathlib.Core.List.{List, _++_, append-assoc, append-nil}
+use mathlib.Core.List.{List, _∷_, _++_, append-assoc, append-nil}
 use lib.ListN.{length, take, set}
 use lib.Seq.{take-suc-set, take-all}
 use Rattle.records.specs.Records.{risingFrom}
@@ -21,3 +21,10 @@ module _ (m all : List ℕ) (n i b : ℕ) (whole : length m ≡ n) (so-far : tak
   rising-whole h =
       let e : n - i ≡ 0 = omega arith in
       sym (append-nil m) ∙ rw (take-all i m (omega arith), e) at so-far
+
+-- the front of a message that rises is a shorter one
+pub rising-front : (n long first : ℕ) → n ≤ long → take n (risingFrom first long) ≡ risingFrom first n
+unfolding risingFrom
+rising-front zero long first h = refl
+rising-front (suc n) zero first h = absurd (omega arith)
+rising-front (suc n) (suc long) first h = ap (λ (l : List ℕ). first ∷ l) (rising-front n long ((first + 1) % 256) (omega arith))

@@ -2,13 +2,13 @@
 ghost use Prim.Native.Nat.{_<_};
 use crate::judged;
 use crate::output;
-use lines::Line;
 use rules::Node;
 use rules::SetUpAnswer;
+use text::building::Text;
 
-// What a record leaves beside the stores: its line and the node.
+// What a record leaves beside the stores: its text and the node.
 pub(crate) struct Outcome {
-    pub line: Line,
+    pub text: Text,
     pub node: Node,
 }
 
@@ -31,7 +31,7 @@ pub(crate) fn frame(number: u64, node: Node, record: &[u8; 16], incoming: &mut [
     let answer = came.answer;
     let after = came.node;
     Outcome {
-        line: lines::frame(number, answer),
+        text: text::answers::frame(number, answer),
         node: after,
     }
 }
@@ -41,7 +41,7 @@ pub(crate) fn tick(number: u64, node: Node) -> Outcome {
     let answer = came.answer;
     let after = came.node;
     Outcome {
-        line: lines::tick(number, answer),
+        text: text::answers::tick(number, answer),
         node: after,
     }
 }
@@ -55,19 +55,19 @@ pub(crate) fn send(number: u64, node: Node, record: &[u8; 16], outgoing: &mut [u
     let answer = came.answer;
     let after = came.node;
     Outcome {
-        line: lines::send(number, answer),
+        text: text::answers::send(number, answer),
         node: after,
     }
 }
 
-// The line goes on with the whole buffer, also after `none` and a refusal.
+// The text goes on with the whole buffer, also after `none` and a refusal.
 fn turned(number: u64, node: Node, outgoing: &[u8], buffer: &mut [u8]) -> Outcome {
     let came = carumpek::local::turn(node, outgoing, buffer);
     let answer = came.answer;
     let after = came.node;
-    let line = output::open(lines::turn(number, answer, buffer));
+    let text = output::open(text::answers::turn(number, answer, buffer));
     Outcome {
-        line: output::with_bytes(line.text(b" buffer"), buffer),
+        text: output::with_bytes(text.put_all(b" buffer"), buffer),
         node: after,
     }
 }
@@ -78,10 +78,10 @@ pub(crate) fn turn(number: u64, node: Node, record: &[u8; 16], outgoing: &[u8]) 
     turned(number, node, outgoing, &mut buffer[..n])
 }
 
-fn set_up_line(number: u64, answer: SetUpAnswer) -> Line {
+fn set_up_line(number: u64, answer: SetUpAnswer) -> Text {
     match answer {
-        SetUpAnswer::Refused(n) => lines::refused(number, n),
-        SetUpAnswer::Ready => lines::numbered(number).text(b"setup\n"),
+        SetUpAnswer::Refused(n) => text::answers::refused(number, n),
+        SetUpAnswer::Ready => text::answers::numbered(number).put_all(b"setup\n"),
     }
 }
 
@@ -96,7 +96,7 @@ pub(crate) fn set_up(number: u64, node: Node, record: &[u8; 16], at: usize) -> O
     let answer = came.answer;
     let after = came.node;
     Outcome {
-        line: set_up_line(number, answer),
+        text: set_up_line(number, answer),
         node: after,
     }
 }

@@ -7,7 +7,7 @@ use rules::Settings;
 
 fn loaded(number: u64, node: Node) -> Outcome {
     Outcome {
-        line: lines::numbered(number).text(b"loaded\n"),
+        text: text::answers::numbered(number).put_all(b"loaded\n"),
         node: node,
     }
 }

@@ -3,9 +3,10 @@ use crate::judged;
 use crate::output;
 use crate::scene::Scene;
 use crate::words;
-use lines::Line;
+use reading::output::Sink;
 use rules::Choice;
 use rules::Node;
+use text::building::Text;
 
 fn chosen(b: u8) -> Choice {
     if b == 1 {
@@ -14,21 +15,13 @@ fn chosen(b: u8) -> Choice {
     Choice::Arrived
 }
 
-fn show<'a>(
-    before: Scene,
-    record: &[u8; 16],
-    incoming: &'a [u8],
-    outgoing: &'a [u8],
-    out: &mut [u8],
-) -> usize {
+fn shown<'a>(before: Scene, record: &[u8; 16], incoming: &'a [u8], outgoing: &'a [u8]) -> &'a [u8] {
     let store = output::lent(incoming, before.incoming);
     let other = output::lent(outgoing, before.outgoing);
     let node = before.node;
     let k = judged::two(0, record[1]);
     let choice = chosen(record[2]);
-    let part = carumpek::local::show(node, &incoming[..store], &outgoing[..other], k, choice);
-    let line = lines::numbered(before.number).text(b"show");
-    output::put_bytes(out, before.waiting, line, part)
+    carumpek::local::show(node, &incoming[..store], &outgoing[..other], k, choice)
 }
 
 fn start(berth: u8, area: u32) -> usize {
@@ -36,33 +29,49 @@ fn start(berth: u8, area: u32) -> usize {
 }
 
 // All bytes of an area by the header's area size, whatever length is lent at the time.
-fn area(before: Scene, berth: u8, store: &[u8], out: &mut [u8]) -> usize {
-    let from = output::lent(store, start(berth, before.area));
+fn area(size: u32, berth: u8, store: &[u8]) -> &[u8] {
+    let from = output::lent(store, start(berth, size));
     let rest = &store[from..];
-    let n = output::lent(rest, before.area as usize);
-    let line = lines::numbered(before.number).text(b"area");
-    output::put_bytes(out, before.waiting, line, &rest[..n])
+    let n = output::lent(rest, size as usize);
+    &rest[..n]
 }
 
-// The bytes of a message or an area, which no line has room for.
+// A good record that looks at the bytes of a message or an area.
+pub(crate) fn at_bytes(number: u64, record: &[u8; 16]) -> bool {
+    if number == 0 {
+        return false;
+    }
+    if record[0] == 5 || record[0] == 6 {
+        return judged::is_good(record);
+    }
+    false
+}
+
+// Those bytes, any number of them.
 pub(crate) fn bytes<'a>(
+    number: u64,
     before: Scene,
     record: &[u8; 16],
     incoming: &'a [u8],
     outgoing: &'a [u8],
+    sink: Sink,
     out: &mut [u8],
-) -> usize {
+) -> Sink {
+    let text = text::answers::numbered(number);
     if record[0] == 5 {
-        return show(before, record, incoming, outgoing, out);
+        let part = shown(before, record, incoming, outgoing);
+        return output::say_bytes(sink, out, text.put_all(b"show"), part);
     }
     if record[2] == 0 {
-        return area(before, record[1], incoming, out);
+        let part = area(before.area, record[1], incoming);
+        return output::say_bytes(sink, out, text.put_all(b"area"), part);
     }
-    area(before, record[1], outgoing, out)
+    let part = area(before.area, record[1], outgoing);
+    output::say_bytes(sink, out, text.put_all(b"area"), part)
 }
 
-// What has room in a line: a berth's state, the node's own, or the frames needed.
-pub(crate) fn line(number: u64, node: Node, record: &[u8; 16]) -> Line {
+// What has room in a text: a berth's state, the node's own, or the frames needed.
+pub(crate) fn text(number: u64, node: Node, record: &[u8; 16]) -> Text {
     match record[0] {
         10 => {
             let k = (record[1] % 10) as usize;

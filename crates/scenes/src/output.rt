@@ -1,12 +1,12 @@
-// The output, collected so that few calls write it. A function that puts something takes how many bytes wait to be written and
-// answers how many do then.
+// What the scenes print: texts, and texts that end with any number of bytes in hex.
+ghost use Prim.Native.Nat.{_≤_};
 ghost use Rattle.io.specs.Counts.{Counts};
-use libc::STDOUT_FILENO;
-use lines::Line;
+use reading::output::Sink;
+use text::building::Text;
 
 // How many bytes of a part there are: all that are asked for, or those of the whole.
 pub(crate) fn lent(whole: &[u8], asked: usize) -> usize
-    ensures { λ r. ⌜ Counts r (now (whole .entry)) ⌝ }
+    ensures { λ r. ⌜ Counts r (now (whole .entry)) × (r ≤ asked) ⌝ }
 {
     if asked < whole.len() {
         asked
@@ -15,54 +15,44 @@ pub(crate) fn lent(whole: &[u8], asked: usize) -> usize
     }
 }
 
-pub(crate) fn flush(output: &[u8], waiting: usize) {
-    let n = lent(output, waiting);
-    io::write_all(STDOUT_FILENO, &output[..n]);
+pub(crate) fn say(sink: Sink, out: &mut [u8], text: Text) -> Sink {
+    let mut bytes = [0u8; 128];
+    let n = text::building::copy(text, &mut bytes);
+    sink.put(out, &bytes[..n])
 }
 
-pub(crate) fn put(output: &mut [u8], waiting: usize, line: Line) -> usize {
-    if waiting < output.len() {
-        if line.length < output.len() - waiting {
-            return lines::copy(line, output, waiting);
-        }
-    }
-    flush(output, waiting);
-    lines::copy(line, output, 0)
-}
-
-// A line that goes on: without its LF.
-pub(crate) fn open(line: Line) -> Line {
-    let mut open = line;
+// A text that goes on: without its LF.
+pub(crate) fn open(text: Text) -> Text {
+    let mut open = text;
     if 0 < open.length {
         open.length = open.length - 1;
     }
     open
 }
 
-fn hex(output: &mut [u8], waiting: usize, bytes: &[u8]) -> usize {
-    let mut at = waiting;
+fn say_hex(sink: Sink, out: &mut [u8], bytes: &[u8]) -> Sink {
+    let mut after = sink;
     let mut i = 0;
     while i < bytes.len() {
-        at = put(output, at, Line::empty().hex_byte(bytes[i]));
+        after = say(after, out, Text::empty().hex_byte(bytes[i]));
         i += 1;
     }
-    at
+    after
 }
 
-// A line that ends with bytes, few enough for it; without a space where there are none.
-pub(crate) fn with_bytes(line: Line, bytes: &[u8]) -> Line {
+// A text that ends with bytes, few enough for it; without a space where there are none.
+pub(crate) fn with_bytes(text: Text, bytes: &[u8]) -> Text {
     if bytes.len() == 0 {
-        return line.put(b'\n');
+        return text.put(b'\n');
     }
-    line.put(b' ').hex(bytes).put(b'\n')
+    text.put(b' ').hex(bytes).put(b'\n')
 }
 
-// A line that ends with any number of bytes.
-pub(crate) fn put_bytes(output: &mut [u8], waiting: usize, line: Line, bytes: &[u8]) -> usize {
+// A text that ends with any number of bytes.
+pub(crate) fn say_bytes(sink: Sink, out: &mut [u8], text: Text, bytes: &[u8]) -> Sink {
     if bytes.len() <= 32 {
-        return put(output, waiting, with_bytes(line, bytes));
+        return say(sink, out, with_bytes(text, bytes));
     }
-    let at = put(output, waiting, line.put(b' '));
-    let end = hex(output, at, bytes);
-    put(output, end, Line::empty().put(b'\n'))
+    let begun = say(sink, out, text.put(b' '));
+    say(say_hex(begun, out, bytes), out, Text::empty().put(b'\n'))
 }

@@ -1,11 +1,6 @@
-// A scene: the node, how much of the stores is lent to it, and how far the records have come.
-use crate::output;
-use lines::Line;
-use rules::Berth;
+// A scene: the node, and how much of the stores is lent to it. A record changes it and has a text.
 use rules::Node;
-use rules::Rx;
-use rules::Settings;
-use rules::Tx;
+use text::building::Text;
 
 // The header's area size is 0 where the header was refused or bad.
 pub struct Scene {
@@ -13,49 +8,25 @@ pub struct Scene {
     pub area: u32,
     pub incoming: usize,
     pub outgoing: usize,
-    pub number: u64,
-    pub waiting: usize,
-    pub more: bool,
+}
+
+pub struct Shown {
+    pub text: Text,
+    pub scene: Scene,
 }
 
 pub(crate) fn first() -> Scene {
-    let idle = Berth {
-        rx: Rx::Idle,
-        last: 0,
-        tx: Tx::Idle,
-    };
-    let berths = [idle; 10];
-    let settings = Settings {
-        area: 0,
-        block: 0,
-        stmin: 0,
-    };
-    let node = Node {
-        settings: settings,
-        served: 0,
-        berths: berths,
-    };
     Scene {
-        node: node,
+        node: Node::blank(),
         area: 0,
         incoming: 0,
         outgoing: 0,
-        number: 0,
-        waiting: 0,
-        more: true,
     }
 }
 
-pub(crate) fn say(before: Scene, line: Line, out: &mut [u8]) -> Scene {
-    let mut after = before;
-    after.waiting = output::put(out, before.waiting, line);
-    after
-}
-
-// A record that did something to the node: its line, and the node after it.
-pub(crate) fn say_after(before: Scene, node: Node, line: Line, out: &mut [u8]) -> Scene {
-    let mut after = before;
-    after.node = node;
-    after.waiting = output::put(out, before.waiting, line);
-    after
+pub(crate) fn same(text: Text, scene: Scene) -> Shown {
+    Shown {
+        text: text,
+        scene: scene,
+    }
 }

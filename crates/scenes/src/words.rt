@@ -1,15 +1,15 @@
 // The scenes' own lines: a berth's state, the node's own, and the frames needed.
-use lines::Line;
 use rules::Berth;
 use rules::Rx;
 use rules::Sending;
 use rules::Settings;
 use rules::Taking;
 use rules::Tx;
+use text::building::Text;
 
 // Each with a space before it.
-fn numbers(line: Line, list: &[u64]) -> Line {
-    let mut all = line;
+fn numbers(text: Text, list: &[u64]) -> Text {
+    let mut all = text;
     let mut i = 0;
     while i < list.len() {
         all = all.put(b' ').decimal(list[i], 20);
@@ -18,7 +18,7 @@ fn numbers(line: Line, list: &[u64]) -> Line {
     all
 }
 
-fn taking_numbers(line: Line, p: Taking, timer: u16) -> Line {
+fn taking_numbers(text: Text, p: Taking, timer: u16) -> Text {
     let sn = p.sn.0;
     let list = [
         p.total as u64,
@@ -27,10 +27,10 @@ fn taking_numbers(line: Line, p: Taking, timer: u16) -> Line {
         p.taken as u64,
         timer as u64,
     ];
-    numbers(line, &list)
+    numbers(text, &list)
 }
 
-fn sending_numbers(line: Line, o: Sending, timer: u16) -> Line {
+fn sending_numbers(text: Text, o: Sending, timer: u16) -> Text {
     let sn = o.sn.0;
     let list = [
         o.length as u64,
@@ -42,46 +42,46 @@ fn sending_numbers(line: Line, o: Sending, timer: u16) -> Line {
         o.left as u64,
         timer as u64,
     ];
-    numbers(line, &list)
+    numbers(text, &list)
 }
 
-fn receive_side(line: Line, rx: Rx) -> Line {
+fn receive_side(text: Text, rx: Rx) -> Text {
     match rx {
-        Rx::Idle => line.text(b" rx 0"),
-        Rx::OwesOverflow(timer) => numbers(line.text(b" rx 1"), &[timer as u64]),
-        Rx::OwesGo(p, timer) => taking_numbers(line.text(b" rx 2"), p, timer),
-        Rx::Awaits(p, timer) => taking_numbers(line.text(b" rx 3"), p, timer),
+        Rx::Idle => text.put_all(b" rx 0"),
+        Rx::OwesOverflow(timer) => numbers(text.put_all(b" rx 1"), &[timer as u64]),
+        Rx::OwesGo(p, timer) => taking_numbers(text.put_all(b" rx 2"), p, timer),
+        Rx::Awaits(p, timer) => taking_numbers(text.put_all(b" rx 3"), p, timer),
     }
 }
 
-fn send_side(line: Line, tx: Tx) -> Line {
+fn send_side(text: Text, tx: Tx) -> Text {
     match tx {
-        Tx::Idle => line.text(b" tx 0"),
-        Tx::SingleDue(n, timer) => numbers(line.text(b" tx 1"), &[n as u64, timer as u64]),
-        Tx::FirstDue(n, timer) => numbers(line.text(b" tx 2"), &[n as u64, timer as u64]),
-        Tx::AwaitsFlow(o, timer) => sending_numbers(line.text(b" tx 3"), o, timer),
-        Tx::Consecutive(o, timer) => sending_numbers(line.text(b" tx 4"), o, timer),
+        Tx::Idle => text.put_all(b" tx 0"),
+        Tx::SingleDue(n, timer) => numbers(text.put_all(b" tx 1"), &[n as u64, timer as u64]),
+        Tx::FirstDue(n, timer) => numbers(text.put_all(b" tx 2"), &[n as u64, timer as u64]),
+        Tx::AwaitsFlow(o, timer) => sending_numbers(text.put_all(b" tx 3"), o, timer),
+        Tx::Consecutive(o, timer) => sending_numbers(text.put_all(b" tx 4"), o, timer),
     }
 }
 
 // The number of each side's state and the fields that it carries, and between them the length of the last message arrived.
-pub(crate) fn state(number: u64, berth: Berth) -> Line {
+pub(crate) fn state(number: u64, berth: Berth) -> Text {
     let rx = berth.rx;
     let tx = berth.tx;
-    let line = receive_side(lines::numbered(number).text(b"state"), rx);
-    send_side(numbers(line.text(b" last"), &[berth.last as u64]), tx).put(b'\n')
+    let text = receive_side(text::answers::numbered(number).put_all(b"state"), rx);
+    send_side(numbers(text.put_all(b" last"), &[berth.last as u64]), tx).put(b'\n')
 }
 
-pub(crate) fn own(number: u64, settings: Settings, served: u8) -> Line {
+pub(crate) fn own(number: u64, settings: Settings, served: u8) -> Text {
     let list = [
         settings.area as u64,
         settings.block as u64,
         settings.stmin as u64,
         served as u64,
     ];
-    numbers(lines::numbered(number).text(b"node"), &list).put(b'\n')
+    numbers(text::answers::numbered(number).put_all(b"node"), &list).put(b'\n')
 }
 
-pub(crate) fn needed(number: u64, n: u64) -> Line {
-    numbers(lines::numbered(number).text(b"needs"), &[n]).put(b'\n')
+pub(crate) fn needed(number: u64, n: u64) -> Text {
+    numbers(text::answers::numbered(number).put_all(b"needs"), &[n]).put(b'\n')
 }

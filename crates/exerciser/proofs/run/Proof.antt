@@ -1,4 +1,5 @@
 -- The invariant: what is lent keeps its length. The measure is the number of turns that are left.
+use Prim.Native.Nat.{_<_}
 use mathlib.Core.Path.{_≡_, refl, _∙_}
 use native.Mathlib.Omega.{arith}
 use lib.ListN.{length}
@@ -12,41 +13,46 @@ Inv-loop input₀ incoming₀ outgoing₀ output₀ progress₀ turns₀ input i
 abbrev μ-loop : tie.MeasureT-loop
 μ-loop input₀ incoming₀ outgoing₀ output₀ progress₀ turns₀ input incoming outgoing output progress turns = turns
 
-first-node-requires : tie.Need-first-node-requires Inv-loop μ-loop
-first-node-requires c κs = tt
+first-requires : tie.Need-first-requires Inv-loop μ-loop
+first-requires c κs = tt
 
 loop-holds : tie.Need-loop-holds Inv-loop μ-loop
 loop-holds c = (refl, refl, refl, refl)
 
-run-some-requires : tie.Need-run-some-requires Inv-loop μ-loop
-run-some-requires c κs = tt
+run-next-requires : tie.Need-run-next-requires Inv-loop μ-loop
+run-next-requires c κs = tt
+
+-- after a record: a turn was left, and each length is as it was
+turn-left : (c : tie.After-run-next Inv-loop μ-loop) → 0 < c .before .before .before .before .before .before .before .loop .turns
+turn-left c = c .before .before .before .before .before .before .loop-test .taken
 
 sub-turns : tie.Need-sub-turns Inv-loop μ-loop
-sub-turns c = omega (arith, c .before .before .before .before .before .before .before .before .before .before .before .before .before .before .loop-test .taken)
+sub-turns c = omega (arith, turn-left (c .before .before .before .before .before .before .before .before))
 
 loop-less : tie.Need-loop-less Inv-loop μ-loop
-loop-less c = omega (arith, c .before .before .before .before .before .before .before .before .before .before .before .before .before .before .loop-test .taken)
+loop-less c = omega (arith, turn-left (c .before .before .before .before .before .before .before .before))
 
 loop-again : tie.Need-loop-again Inv-loop μ-loop
 loop-again c =
-    let k = c .before .before .before .before .before .before .before .before .run-some .kept in
-    let inv = c .before .before .before .before .before .before .before .before .before .before .before .before .before .before .before .loop .inv in
-    (k .0 ∙ inv .0, k .1 .1 .0 ∙ inv .1, k .1 .1 .1 .0 ∙ inv .2, k .1 .1 .1 .1 .0 ∙ inv .3)
+    let r = c .before .before .before .before .before .before .before .before in
+    let k = r .run-next .kept in
+    let inv = r .before .before .before .before .before .before .before .loop .inv in
+    (k .1 .0 ∙ inv .0, k .1 .1 .0 ∙ inv .1, k .1 .1 .1 .0 ∙ inv .2, k .1 .1 .1 .1 .0 ∙ inv .3)
 
 flush-requires : tie.Need-flush-requires Inv-loop μ-loop
 flush-requires c κs = tt
 
 same-length : tie.Need-same-length Inv-loop μ-loop
-same-length c = c .before .before .before .loop .inv .0
+same-length c = c .before .before .before .before .loop .inv .0
 
 same-length-2 : tie.Need-same-length-2 Inv-loop μ-loop
-same-length-2 c = c .before .before .before .loop .inv .1
+same-length-2 c = c .before .before .before .before .loop .inv .1
 
 same-length-3 : tie.Need-same-length-3 Inv-loop μ-loop
-same-length-3 c = c .before .before .before .loop .inv .2
+same-length-3 c = c .before .before .before .before .loop .inv .2
 
 same-length-4 : tie.Need-same-length-4 Inv-loop μ-loop
-same-length-4 c = c .before .before .before .loop .inv .3
+same-length-4 c = c .before .before .before .before .loop .inv .3
 
 returns : tie.Need-returns Inv-loop μ-loop
 returns c = tt
@@ -57,9 +63,9 @@ run-spec =
     (tie.spec
     Inv-loop
     μ-loop
-    first-node-requires
+    first-requires
     loop-holds
-    run-some-requires
+    run-next-requires
     sub-turns
     loop-less
     loop-again

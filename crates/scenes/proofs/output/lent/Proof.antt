@@ -10,10 +10,10 @@ use Rattle.scenes.proofs.output.lent.Tie as tie
 returns : tie.Need-returns
 returns c =
     let h : c .before .args .asked ≤ length (c .before .args .whole .now) = omega arith in
-    (h, sym (length-take-le (c .before .args .asked) (c .before .args .whole .now) h))
+    ((h, sym (length-take-le (c .before .args .asked) (c .before .args .whole .now) h)), omega arith)
 
 returns-2 : tie.Need-returns-2
-returns-2 c = (omega arith, sym (ap length (take-length (c .before .args .whole .now))))
+returns-2 c = ((omega arith, sym (ap length (take-length (c .before .args .whole .now)))), omega arith)
 
 pub lent-spec : {M : Type 1} → statement M
 lent-spec = tie.close (tie.spec returns returns-2)

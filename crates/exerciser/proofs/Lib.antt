@@ -1,0 +1,2 @@
+-- Facts that proofs of this crate cite.
+pub mod Promised

@@ -1,0 +1,2 @@
+-- What the exerciser does.
+pub mod Steps

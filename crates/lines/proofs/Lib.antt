@@ -1,5 +1,0 @@
--- Facts that proofs of this crate cite, and what decimal digits say.
-pub mod Clip
-pub mod Copied
-pub mod Decimal
-pub mod Lengths

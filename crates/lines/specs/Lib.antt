@@ -1,2 +1,0 @@
--- The lines of the exerciser.
-pub mod Lines

@@ -1,0 +1,90 @@
+-- No text of the exerciser is longer than the room for one: each number has at most the places of its type, a frame has eight bytes
+-- and a tick ten berths. So nothing is ever clipped.
+use mathlib.Core.Path.{_≡_, refl}
+use Prim.Native.Nat.{ℕ, suc, _+_, _*_, _≤_, _<_}
+use native.Mathlib.Omega.{arith}
+use mathlib.Core.Bool.{Bool, true, false, _&&_}
+use mathlib.Core.List.{List, [], _∷_, _++_}
+use lib.ListN.{length, length-append}
+use lib.Dec.{eqb}
+use Rattle.rules.specs.Tests.{pick}
+use Rattle.rules.specs.Answers.{Answer, refused, ready, heard, codes, sent, handed, none, shown}
+use Rattle.rules.specs.declared.Word.{Word}
+use Rattle.rules.specs.declared.Word.the-variants.{Delivered, Begun, Failed, Ignored, TooLong, Took, Going, Waiting}
+use Rattle.rules.specs.declared.Codes.{Codes}
+use Rattle.text.specs.Building.{clipped, decimal, hexText}
+use Rattle.text.specs.Answers.{idText, wordText, codeText, codesText, wordsOf, numberedText, answerText, badText, shortText}
+use Rattle.text.proofs.Clip.{clip-short}
+use Rattle.text.proofs.Decimal.{decimal-length, decimal-one}
+
+hex-length : (bs : List ℕ) → length (hexText bs) ≡ 2 * length bs
+unfolding hexText
+hex-length [] = refl
+hex-length (b ∷ bs) = omega (arith, hex-length bs)
+
+word-length : (w : Word) → length (wordText w) ≤ 21
+unfolding wordText
+word-length (Delivered n) = omega (arith, decimal-length 10 n)
+word-length (Begun n) = omega (arith, decimal-length 10 n)
+word-length (Failed c) = omega (arith, decimal-length 3 c)
+word-length (Ignored i) = omega (arith, decimal-length 3 i)
+word-length TooLong = omega arith
+word-length Took = omega arith
+word-length Going = omega arith
+word-length Waiting = omega arith
+
+-- a berth below ten has one digit
+code-length : (k : ℕ) (c : Codes) → k < 10 → length (codeText k c) ≤ 10
+unfolding codeText
+code-length k c h = by (eqb (c .receive) 0 && eqb (c .send) 0)
+  where
+    by : (t : Bool) → length (pick t [] (32 ∷ (decimal 3 k ++ (58 ∷ (decimal 3 (c .receive) ++ (58 ∷ decimal 3 (c .send))))))) ≤ 10
+    by true = omega arith
+    by false =
+        simp (decimal-one 2 k h, length-append)
+        (omega (arith, decimal-length 3 (c .receive), decimal-length 3 (c .send)))
+
+codes-length : (k : ℕ) (cs : List Codes) → k + length cs ≤ 10 → length (codesText k cs) ≤ 10 * length cs
+unfolding codesText
+codes-length k [] h = omega arith
+codes-length k (c ∷ cs) h = rw length-append (omega (arith, code-length k c (omega arith), codes-length (suc k) cs (omega arith)))
+
+-- what a text has room for
+abbrev pub Short : Answer → Type 0
+Short (refused n) = Unit {0}
+Short ready = Unit {0}
+Short (heard k old w) = Unit {0}
+Short (codes cs) = length cs ≤ 10
+Short (sent k) = Unit {0}
+Short (handed id frame code passed) = length frame ≤ 8
+Short (none passed) = Unit {0}
+Short (shown part) = ⊥
+
+words-length : (a : Answer) → Short a → length (wordsOf a) ≤ 106
+unfolding wordsOf idText hexText
+words-length (refused n) s = omega (arith, decimal-length 3 n)
+words-length ready s = omega arith
+words-length (heard k old w) s =
+    simp length-append (omega (arith, decimal-length 3 k, decimal-length 3 old, word-length w))
+words-length (codes cs) s = omega (arith, codes-length 0 cs (omega arith))
+words-length (sent k) s = omega (arith, decimal-length 3 k)
+words-length (handed id frame code passed) s =
+    simp (length-append, hex-length) (omega (arith, decimal-length 3 code, decimal-length 3 passed))
+words-length (none passed) s = omega arith
+words-length (shown part) s = absurd s
+
+pub text-whole : (n : ℕ) (words : List ℕ) → length words ≤ 106 → clipped (numberedText n words) ≡ numberedText n words
+unfolding numberedText
+text-whole n words h = clip-short _ (simp length-append (omega (arith, decimal-length 20 n)))
+
+pub answer-whole : (n : ℕ) (a : Answer) → Short a → clipped (answerText n a) ≡ answerText n a
+unfolding answerText
+answer-whole n a s = text-whole n (wordsOf a) (words-length a s)
+
+pub bad-whole : (n : ℕ) → clipped (badText n) ≡ badText n
+unfolding badText
+bad-whole n = text-whole n _ (omega arith)
+
+pub short-whole : (n : ℕ) → clipped (shortText n) ≡ shortText n
+unfolding shortText
+short-whole n = text-whole n _ (omega arith)

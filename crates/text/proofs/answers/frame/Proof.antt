@@ -1,0 +1,83 @@
+-- A refusal is its text; else the parts in order, and the whole has room.
+use mathlib.Core.Path.{_≡_, _∙_}
+use mathlib.Core.List.{append-assoc}
+use Rattle.rules.specs.Answers.{frameSays}
+use Rattle.text.specs.Building.{textOf, clipped}
+use Rattle.text.specs.Answers.{numberedText, wordsOf, answerText}
+use Rattle.text.proofs.Clip.{clip-more}
+use Rattle.text.proofs.Lengths.{answer-whole}
+use borrow.Author.Needs.{needs}
+use Rattle.text.proofs.answers.frame.Statement.{statement}
+use Rattle.text.proofs.answers.frame.Tie as tie
+
+enum-known-answer : tie.Need-enum-known-answer
+enum-known-answer c = search needs
+
+refused-requires : tie.Need-refused-requires
+refused-requires c κs = search needs
+
+enum-known-answer-2 : tie.Need-enum-known-answer-2
+enum-known-answer-2 c = search needs
+
+numbered-requires : tie.Need-numbered-requires
+numbered-requires c κs = search needs
+
+slice-aggregate-put-all : tie.Need-slice-aggregate-put-all
+slice-aggregate-put-all c = search needs
+
+put-all-requires : tie.Need-put-all-requires
+put-all-requires c κs = search needs
+
+small-requires : tie.Need-small-requires
+small-requires c κs = search needs
+
+slice-aggregate-put-all-2 : tie.Need-slice-aggregate-put-all-2
+slice-aggregate-put-all-2 c = search needs
+
+put-all-requires-2 : tie.Need-put-all-requires-2
+put-all-requires-2 c κs = search needs
+
+small-requires-2 : tie.Need-small-requires-2
+small-requires-2 c κs = search needs
+
+word-requires : tie.Need-word-requires
+word-requires c κs = search needs
+
+put-requires : tie.Need-put-requires
+put-requires c κs = search needs
+
+returns : tie.Need-returns
+unfolding frameSays
+returns c =
+    rw (c .before .before .answer .given .1) (c .refused .ensures)
+
+returns-2 : tie.Need-returns-2
+unfolding frameSays answerText numberedText wordsOf
+returns-2 c =
+    let s = c .before .before .before .before .before .before .before .before in
+    let a = s .before .before .before .before .args in
+    let h = s .before .before .answer2 .given .1 in
+    let e : textOf (c .put .result) ≡ clipped (answerText (a .number) (frameSays (a .answer))) =
+    rw h
+    (simp
+    (c .put .ensures, c .before .word .ensures, c .before .before .small2 .ensures, c .before .before .before .put-all2 .ensures, c .before .before .before .before .before .small .ensures, c .before .before .before .before .before .before .put-all .ensures, s .numbered .ensures, clip-more, append-assoc)) in
+    e ∙ answer-whole (a .number) (frameSays (a .answer)) (rw h tt)
+
+pub frame-spec : {M : Type 1} → statement M
+frame-spec =
+    tie.close
+    (tie.spec
+    enum-known-answer
+    refused-requires
+    enum-known-answer-2
+    numbered-requires
+    slice-aggregate-put-all
+    put-all-requires
+    small-requires
+    slice-aggregate-put-all-2
+    put-all-requires-2
+    small-requires-2
+    word-requires
+    put-requires
+    returns
+    returns-2)
