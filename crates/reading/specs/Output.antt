@@ -1,8 +1,7 @@
 -- Output that is collected in a buffer: what waits after some bytes are put, and the buffer then.
 use Prim.Native.Nat.{ℕ, _+_, _-_, min}
-use mathlib.Core.Bool.{Bool}
-use mathlib.Core.List.{List}
-use lib.ListN.{length}
+use mathlib.Core.List.{List, [], _++_}
+use lib.ListN.{length, take}
 use lib.IntN.{ℤ}
 use lib.Dec.{leb}
 use lib.Seq.{paste}
@@ -29,3 +28,13 @@ unfoldable pub bufferAfter : Sink → List ℕ → List ℕ → List ℕ
 bufferAfter s buffer some =
     pick (leb (length some) (length buffer - waitingIn s buffer)) (paste buffer (waitingIn s buffer) some (length some))
     (pick (leb (length some) (length buffer)) (paste buffer 0 some (length some)) buffer)
+
+-- ---- what goes to the file meanwhile. No contract can say what is written; by this definition no byte is lost (`put-keeps`)
+
+unfoldable pub waitingBytes : Sink → List ℕ → List ℕ
+waitingBytes s buffer = take (waitingIn s buffer) buffer
+
+unfoldable pub written : Sink → List ℕ → List ℕ → List ℕ
+written s buffer some =
+    pick (leb (length some) (length buffer - waitingIn s buffer)) []
+    (pick (leb (length some) (length buffer)) (waitingBytes s buffer) (waitingBytes s buffer ++ some))

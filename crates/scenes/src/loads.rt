@@ -2,6 +2,7 @@
 use crate::calls::Outcome;
 use crate::judged;
 use crate::sides;
+use rules::Berth;
 use rules::Node;
 use rules::Settings;
 
@@ -12,22 +13,20 @@ fn loaded(number: u64, node: Node) -> Outcome {
     }
 }
 
-pub(crate) fn receive(number: u64, node: Node, record: &[u8; 16]) -> Outcome {
-    let k = (record[1] % 10) as usize;
-    let old = node.berths[k];
-    let mut after = node;
-    after.berths[k] = old.with_rx(
-        sides::receive_side(record),
-        judged::two(record[11], record[12]),
-    );
-    loaded(number, after)
+fn changed(old: Berth, record: &[u8; 16]) -> Berth {
+    if record[0] == 7 {
+        let last = judged::two(record[11], record[12]);
+        return old.with_rx(sides::receive_side(record), last);
+    }
+    old.with_tx(sides::send_side(record))
 }
 
-pub(crate) fn send(number: u64, node: Node, record: &[u8; 16]) -> Outcome {
+// A berth's receive side, or its send side.
+pub(crate) fn side(number: u64, node: Node, record: &[u8; 16]) -> Outcome {
     let k = (record[1] % 10) as usize;
     let old = node.berths[k];
     let mut after = node;
-    after.berths[k] = old.with_tx(sides::send_side(record));
+    after.berths[k] = changed(old, record);
     loaded(number, after)
 }
 

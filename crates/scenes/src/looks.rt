@@ -15,10 +15,11 @@ fn chosen(b: u8) -> Choice {
     Choice::Arrived
 }
 
-fn shown<'a>(before: Scene, record: &[u8; 16], incoming: &'a [u8], outgoing: &'a [u8]) -> &'a [u8] {
-    let store = output::lent(incoming, before.incoming);
-    let other = output::lent(outgoing, before.outgoing);
-    let node = before.node;
+fn shown<'a>(scene: Scene, record: &[u8; 16], incoming: &'a [u8], outgoing: &'a [u8]) -> &'a [u8] {
+    let lent = scene.lent;
+    let store = output::lent(incoming, lent.incoming);
+    let other = output::lent(outgoing, lent.outgoing);
+    let node = scene.node;
     let k = judged::two(0, record[1]);
     let choice = chosen(record[2]);
     carumpek::local::show(node, &incoming[..store], &outgoing[..other], k, choice)
@@ -36,7 +37,7 @@ fn area(size: u32, berth: u8, store: &[u8]) -> &[u8] {
     &rest[..n]
 }
 
-// A good record that looks at the bytes of a message or an area.
+// A good record that looks at the bytes of a message or an area, which no text has room for.
 pub(crate) fn at_bytes(number: u64, record: &[u8; 16]) -> bool {
     if number == 0 {
         return false;
@@ -47,27 +48,35 @@ pub(crate) fn at_bytes(number: u64, record: &[u8; 16]) -> bool {
     false
 }
 
-// Those bytes, any number of them.
+fn looked<'a>(scene: Scene, record: &[u8; 16], incoming: &'a [u8], outgoing: &'a [u8]) -> &'a [u8] {
+    if record[0] == 5 {
+        return shown(scene, record, incoming, outgoing);
+    }
+    if record[2] == 0 {
+        return area(scene.area, record[1], incoming);
+    }
+    area(scene.area, record[1], outgoing)
+}
+
+fn word(number: u64, kind: u8) -> Text {
+    let text = text::answers::numbered(number);
+    if kind == 5 {
+        return text.put_all(b"show");
+    }
+    text.put_all(b"area")
+}
+
 pub(crate) fn bytes<'a>(
     number: u64,
-    before: Scene,
+    scene: Scene,
     record: &[u8; 16],
     incoming: &'a [u8],
     outgoing: &'a [u8],
     sink: Sink,
     out: &mut [u8],
 ) -> Sink {
-    let text = text::answers::numbered(number);
-    if record[0] == 5 {
-        let part = shown(before, record, incoming, outgoing);
-        return output::say_bytes(sink, out, text.put_all(b"show"), part);
-    }
-    if record[2] == 0 {
-        let part = area(before.area, record[1], incoming);
-        return output::say_bytes(sink, out, text.put_all(b"area"), part);
-    }
-    let part = area(before.area, record[1], outgoing);
-    output::say_bytes(sink, out, text.put_all(b"area"), part)
+    let part = looked(scene, record, incoming, outgoing);
+    output::say_bytes(sink, out, word(number, record[0]), part)
 }
 
 // What has room in a text: a berth's state, the node's own, or the frames needed.

@@ -24,21 +24,15 @@ const RECORD: usize = 16;
 
 // The header's areas are lent whole. A header that is refused or bad leaves the stores empty.
 fn header(before: Scene, record: &[u8; 16]) -> Shown {
-    if !records::record::unused(record, 8, 16) {
-        return scene::same(text::answers::bad(0), before);
-    }
     let node = before.node;
+    if !records::record::unused(record, 8, 16) {
+        return scene::left(text::answers::bad(0), node, 0, scene::lent_whole(0));
+    }
     let came = calls::set_up(0, node, record, 0);
     let fresh = came.node;
     let text = came.text;
     let settings = fresh.settings;
-    let after = Scene {
-        node: fresh,
-        area: settings.area,
-        incoming: 10 * settings.area as usize,
-        outgoing: 10 * settings.area as usize,
-    };
-    scene::same(text, after)
+    scene::left(text, fresh, settings.area, scene::lent_whole(settings.area))
 }
 
 // A good record, with the stores as they are lent.
@@ -54,8 +48,7 @@ fn answered(
         2 => calls::tick(number, node),
         3 => calls::send(number, node, record, outgoing),
         4 => calls::turn(number, node, record, outgoing),
-        7 => loads::receive(number, node, record),
-        8 => loads::send(number, node, record),
+        7 | 8 => loads::side(number, node, record),
         9 => loads::own(number, node, record),
         12 => calls::set_up(number, node, record, 1),
         _ => Outcome {
@@ -72,21 +65,18 @@ fn run_good(
     incoming: &mut [u8],
     outgoing: &mut [u8],
 ) -> Shown {
-    let a = output::lent(incoming, before.incoming);
-    let b = output::lent(outgoing, before.outgoing);
+    let lent = before.lent;
+    let a = output::lent(incoming, lent.incoming);
+    let b = output::lent(outgoing, lent.outgoing);
     let node = before.node;
     let came = answered(number, node, record, &mut incoming[..a], &mut outgoing[..b]);
     let text = came.text;
-    let next = came.node;
-    let mut after = before;
-    after.node = next;
-    if record[0] == 9 {
-        after.incoming = sides::store_length(before.area, record[6]);
-        after.outgoing = sides::store_length(before.area, record[7]);
-    }
-    scene::same(text, after)
+    let after = came.node;
+    let next = sides::lent_after(record, before.area, lent);
+    scene::left(text, after, before.area, next)
 }
 
+// What is no look at bytes has a text. The first record is the header.
 fn run_record(
     number: u64,
     before: Scene,
@@ -97,10 +87,13 @@ fn run_record(
     if number == 0 {
         return header(before, record);
     }
-    if !judged::is_good(record) {
-        return scene::same(text::answers::bad(number), before);
+    if judged::is_good(record) {
+        return run_good(number, before, record, incoming, outgoing);
     }
-    run_good(number, before, record, incoming, outgoing)
+    Shown {
+        text: text::answers::bad(number),
+        scene: before,
+    }
 }
 
 // What goes from one record to the next.
@@ -122,6 +115,7 @@ fn first() -> Progress {
     }
 }
 
+// A part as a record; a short one has zeros behind it.
 fn record_of(part: &[u8]) -> [u8; 16] {
     let mut record = [0u8; 16];
     let n = output::lent(part, RECORD);
@@ -129,46 +123,58 @@ fn record_of(part: &[u8]) -> [u8; 16] {
     record
 }
 
-// A whole record. Bytes of a message or an area go to the output at once, since no text has room for them.
-fn run_whole(
+fn run_shown(
     before: Progress,
+    number: u64,
     record: &[u8; 16],
     incoming: &mut [u8],
     outgoing: &mut [u8],
     out: &mut [u8],
 ) -> Progress {
-    let mut after = before;
     let scene = before.scene;
-    let sink = before.sink;
-    if looks::at_bytes(before.number, record) {
-        after.sink = looks::bytes(before.number, scene, record, incoming, outgoing, sink, out);
-        return after;
-    }
-    let shown = run_record(before.number, scene, record, incoming, outgoing);
+    let shown = run_record(number, scene, record, incoming, outgoing);
     let text = shown.text;
     let next = shown.scene;
+    let sink = before.sink;
+    let mut after = before;
     after.scene = next;
     after.sink = output::say(sink, out, text);
     after
 }
 
-// A record, or the last part of one.
+// What changes nothing: the last part of a record, or a look at bytes.
+fn written<'a>(
+    number: u64,
+    scene: Scene,
+    part: &[u8],
+    incoming: &'a [u8],
+    outgoing: &'a [u8],
+    sink: Sink,
+    out: &mut [u8],
+) -> Sink {
+    if part.len() < RECORD {
+        return output::say(sink, out, text::answers::short(number));
+    }
+    let record = record_of(part);
+    looks::bytes(number, scene, &record, incoming, outgoing, sink, out)
+}
+
 fn run_part(
     before: Progress,
+    number: u64,
     part: &[u8],
     incoming: &mut [u8],
     outgoing: &mut [u8],
     out: &mut [u8],
 ) -> Progress {
-    if part.len() < RECORD {
-        let mut after = before;
-        let sink = before.sink;
-        after.sink = output::say(sink, out, text::answers::short(before.number));
-        return after;
-    }
     let record = record_of(part);
-    let mut after = run_whole(before, &record, incoming, outgoing, out);
-    after.number = std::num::wrapping_add_u64(before.number, 1);
+    if RECORD <= part.len() && !looks::at_bytes(number, &record) {
+        return run_shown(before, number, &record, incoming, outgoing, out);
+    }
+    let scene = before.scene;
+    let sink = before.sink;
+    let mut after = before;
+    after.sink = written(number, scene, part, incoming, outgoing, sink, out);
     after
 }
 
@@ -190,9 +196,17 @@ fn run_next(
     }
     let behind = next.source;
     after.source = behind;
+    after.number = std::num::wrapping_add_u64(before.number, 1);
     let from = next.from;
     let to = next.to;
-    run_part(after, &input[from..to], incoming, outgoing, out)
+    run_part(
+        after,
+        before.number,
+        &input[from..to],
+        incoming,
+        outgoing,
+        out,
+    )
 }
 
 // A proved loop has to end, and nothing says that the input does. So the loop counts its turns down, from a number that no run

@@ -1,5 +1,6 @@
-// A berth's sides as a record loads them, and how much of a store it lends.
+// A berth's sides as a record loads them, and how much of the stores it lends.
 use crate::judged;
+use crate::scene::Lent;
 use rules::Rx;
 use rules::Sending;
 use rules::Sn;
@@ -44,7 +45,7 @@ pub(crate) fn send_side(record: &[u8; 16]) -> Tx {
 }
 
 // How much of a store is lent: ten areas and a signed byte more; 0 where that is below 0.
-pub(crate) fn store_length(area: u32, more: u8) -> usize {
+fn store_length(area: u32, more: u8) -> usize {
     let whole = 10 * area as usize;
     let n = more as usize;
     if n < 128 {
@@ -54,4 +55,15 @@ pub(crate) fn store_length(area: u32, more: u8) -> usize {
         return 0;
     }
     whole + n - 256
+}
+
+// A record that loads the node's own says anew how much is lent.
+pub(crate) fn lent_after(record: &[u8; 16], area: u32, lent: Lent) -> Lent {
+    if record[0] != 9 {
+        return lent;
+    }
+    Lent {
+        incoming: store_length(area, record[6]),
+        outgoing: store_length(area, record[7]),
+    }
 }
