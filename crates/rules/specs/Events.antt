@@ -13,7 +13,7 @@ pub data Call : Type 0 where
   turn : List ℕ → Call
   show : ℕ → Choice → Call
 
--- the berth that sends on an identifier
+-- the berth that sends on an identifier of the ten; any other is refused
 abbrev pub senderOf : ℕ → ℕ
 senderOf id = id - fromBerth
 

@@ -20,7 +20,7 @@ pub record Fit (f : List ℕ) : Type 0 where
   pub eight : length f ≡ frameSize
   pub no-wait : byteAt f 0 ≡ 0x31 → ⊥
 
--- the data frames that a berth hands over at an event: a frame that is no flow control
+-- the data frames that a berth hands over at an event: a frame that is no flow control. Where nothing is due no byte is handed over
 abbrev pub dataFrames : Says → ℕ
 dataFrames (hears old w) = 0
 dataFrames (expires r s) = 0

@@ -3,7 +3,7 @@ use mathlib.Core.Path.{_≡_}
 use Prim.Native.Nat.{ℕ, zero, suc, _+_, _%_}
 use mathlib.Core.List.{List, [], _∷_}
 use lib.ListN.{length, replicate}
-use Rattle.rules.specs.Nodes.{fresh, Held}
+use Rattle.rules.specs.Nodes.{fresh, Held, withRx, withTx}
 use Rattle.rules.specs.Frames.{framesNeeded}
 use Rattle.rules.specs.Turns.{sent as sentBerth}
 use Rattle.rules.specs.Answers.{Answer, heard, codes, sent, handed}
@@ -25,10 +25,11 @@ use Rattle.rules.specs.Handing.{dataTotal}
 -- a run of calls from a start gives these answers; a run of one berth's events hands over so many data frames, the last of them
 -- this one; a length needs so many frames
 pub data Row : Type 0 where
-  run : Held → List Call → List Answer → Row
-  alone : Settings → Part → List Event → ℕ → List ℕ → Row
+  nodeRun : Held → List Call → List Answer → Row
+  berthRun : Settings → Part → List Event → ℕ → List ℕ → Row
   needs-frames : ℕ → ℕ → Row
 
+-- the frame of what a berth says last
 unfoldable pub lastFrame : List Says → List ℕ
 lastFrame [] = []
 lastFrame (x ∷ y ∷ xs) = lastFrame (y ∷ xs)
@@ -40,9 +41,10 @@ lastFrame (x ∷ []) = frameIn x
     frameIn Says.accepts = []
     frameIn (hands f c) = f
 
+-- what a row claims, and that all rows hold
 abbrev pub Shown : Row → Type 0
-Shown (run h cs rs) = answers h cs ≡ rs
-Shown (alone s p es n f) = (dataTotal (saysAll s p es) ≡ n) × (lastFrame (saysAll s p es) ≡ f)
+Shown (nodeRun h cs rs) = answers h cs ≡ rs
+Shown (berthRun s p es n f) = (dataTotal (saysAll s p es) ≡ n) × (lastFrame (saysAll s p es) ≡ f)
 Shown (needs-frames n k) = framesNeeded n ≡ k
 
 abbrev pub AllShown : List Row → Type 0
@@ -51,9 +53,11 @@ AllShown (r ∷ rs) = Shown r × AllShown rs
 
 -- ---- starts
 
+-- A 40, BS 2, STmin 05
 abbrev pub paper : Settings
 paper = record { area = 40; block = 2; stmin = 5 }
 
+-- these berths, 9 served last, and stores of zeros; with all berths fresh; a turn's buffer
 abbrev pub heldBy : List Berth → Held
 heldBy bs = record { node = record { settings = paper; served = 9; berths = bs }; incoming = replicate 400 0; outgoing = replicate 400 0 }
 
@@ -68,11 +72,12 @@ unfoldable pub rising : ℕ → ℕ → List ℕ
 rising zero x = []
 rising (suc n) x = x ∷ rising n ((x + 1) % 256)
 
+-- a berth with this side, the other idle
 abbrev pub receiving : Rx → Berth
-receiving rx = record { rx = rx; last = 0; tx = Tx.Idle }
+receiving rx = withRx fresh rx 0
 
 abbrev pub sending : Tx → Berth
-sending tx = record { rx = Rx.Idle; last = 0; tx = tx }
+sending tx = withTx fresh tx
 
 -- a reception and a sending under way
 abbrev pub halfway : Taking
@@ -95,6 +100,7 @@ timed t =
     ∷ replicate 3 fresh
     )
 
+-- the codes of a berth's two sides
 abbrev pub pair : ℕ → ℕ → Codes
 pair r s = record { receive = r; send = s }
 
@@ -106,10 +112,11 @@ expired = pair 2 0 ∷ pair 2 0 ∷ pair 4 0 ∷ pair 0 2 ∷ pair 0 2 ∷ pair 
 abbrev pub longest : Part
 longest = record { berth = sentBerth fresh 4095; incoming = []; outgoing = rising 4095 0 }
 
+-- the starred cases, in the paper's order
 abbrev pub table : List Row
 table =
     -- 8 bytes 00 to 07
-    run start
+    nodeRun start
     (send 3 (0 ∷ 1 ∷ 2 ∷ 3 ∷ 4 ∷ 5 ∷ 6 ∷ 7 ∷ []) ∷ turn buffer ∷ frame 0x643 (0x30 ∷ 0 ∷ 0 ∷ []) ∷ turn buffer ∷ [])
     (sent 3
     ∷ handed 0x663 (0x10 ∷ 0x08 ∷ 0x00 ∷ 0x01 ∷ 0x02 ∷ 0x03 ∷ 0x04 ∷ 0x05 ∷ []) 0 3
@@ -122,19 +129,19 @@ table =
     ∷ needs-frames 20 3
     ∷ needs-frames 21 4
     ∷ needs-frames 4095 586
-    ∷ alone (record { area = 4095; block = 2; stmin = 5 }) longest (turns ∷ arrives (0x30 ∷ 0 ∷ 0 ∷ []) ∷ replicate 585 turns) 586 (0x29 ∷ 0xFE ∷ 0xCC ∷ 0xCC ∷ 0xCC ∷ 0xCC ∷ 0xCC ∷ 0xCC ∷ [])
+    ∷ berthRun (record { area = 4095; block = 2; stmin = 5 }) longest (turns ∷ arrives (0x30 ∷ 0 ∷ 0 ∷ []) ∷ replicate 585 turns) 586 (0x29 ∷ 0xFE ∷ 0xCC ∷ 0xCC ∷ 0xCC ∷ 0xCC ∷ 0xCC ∷ 0xCC ∷ [])
     -- first frame of 20
-    ∷ run start (frame 0x640 (0x10 ∷ 20 ∷ 0 ∷ 1 ∷ 2 ∷ 3 ∷ 4 ∷ 5 ∷ []) ∷ turn buffer ∷ [])
+    ∷ nodeRun start (frame 0x640 (0x10 ∷ 20 ∷ 0 ∷ 1 ∷ 2 ∷ 3 ∷ 4 ∷ 5 ∷ []) ∷ turn buffer ∷ [])
     (heard 0 0 (Begun 20) ∷ handed 0x660 (0x30 ∷ 0x02 ∷ 0x05 ∷ 0xCC ∷ 0xCC ∷ 0xCC ∷ 0xCC ∷ 0xCC ∷ []) 0 0 ∷ [])
     -- of 41
-    ∷ run start (frame 0x640 (0x10 ∷ 41 ∷ 0 ∷ 1 ∷ 2 ∷ 3 ∷ 4 ∷ 5 ∷ []) ∷ turn buffer ∷ [])
+    ∷ nodeRun start (frame 0x640 (0x10 ∷ 41 ∷ 0 ∷ 1 ∷ 2 ∷ 3 ∷ 4 ∷ 5 ∷ []) ∷ turn buffer ∷ [])
     (heard 0 0 TooLong ∷ handed 0x660 (0x32 ∷ 0x00 ∷ 0x00 ∷ 0xCC ∷ 0xCC ∷ 0xCC ∷ 0xCC ∷ 0xCC ∷ []) 0 0 ∷ [])
     -- of 7
-    ∷ run start (frame 0x640 (0x10 ∷ 7 ∷ 0 ∷ 1 ∷ 2 ∷ 3 ∷ 4 ∷ 5 ∷ []) ∷ []) (heard 0 0 (Ignored 3) ∷ [])
+    ∷ nodeRun start (frame 0x640 (0x10 ∷ 7 ∷ 0 ∷ 1 ∷ 2 ∷ 3 ∷ 4 ∷ 5 ∷ []) ∷ []) (heard 0 0 (Ignored 3) ∷ [])
     -- single 00 with 8 data bytes
-    ∷ run start (frame 0x640 (0x00 ∷ 1 ∷ 2 ∷ 3 ∷ 4 ∷ 5 ∷ 6 ∷ 7 ∷ []) ∷ []) (heard 0 0 (Ignored 3) ∷ [])
+    ∷ nodeRun start (frame 0x640 (0x00 ∷ 1 ∷ 2 ∷ 3 ∷ 4 ∷ 5 ∷ 6 ∷ 7 ∷ []) ∷ []) (heard 0 0 (Ignored 3) ∷ [])
     -- 23 and 7 bytes where SN 2 is next
-    ∷ run start
+    ∷ nodeRun start
     (frame 0x640 (0x10 ∷ 20 ∷ 0 ∷ 1 ∷ 2 ∷ 3 ∷ 4 ∷ 5 ∷ [])
     ∷ turn buffer
     ∷ frame 0x640 (0x21 ∷ 6 ∷ 7 ∷ 8 ∷ 9 ∷ 10 ∷ 11 ∷ 12 ∷ [])
@@ -146,6 +153,6 @@ table =
     ∷ heard 0 0 (Failed 5)
     ∷ [])
     -- timer 998, tick: 999, no code; timer 999, tick: the code
-    ∷ run (timed 998) (tick ∷ tick ∷ []) (codes (replicate 10 (pair 0 0)) ∷ codes expired ∷ [])
-    ∷ run (timed 999) (tick ∷ tick ∷ []) (codes expired ∷ codes (replicate 10 (pair 0 0)) ∷ [])
+    ∷ nodeRun (timed 998) (tick ∷ tick ∷ []) (codes (replicate 10 (pair 0 0)) ∷ codes expired ∷ [])
+    ∷ nodeRun (timed 999) (tick ∷ tick ∷ []) (codes expired ∷ codes (replicate 10 (pair 0 0)) ∷ [])
     ∷ []
