@@ -17,10 +17,6 @@ use Rattle.text.specs.Building.{decimal, smallPlaces, sizePlaces, number
 abbrev pub refusedWord : List ℕ
 refusedWord = 114 ∷ 101 ∷ 102 ∷ 117 ∷ 115 ∷ 101 ∷ 100 ∷ 32 ∷ []
 
--- "setup"
-abbrev pub setupWord : List ℕ
-setupWord = 115 ∷ 101 ∷ 116 ∷ 117 ∷ 112 ∷ []
-
 -- "berth "
 abbrev pub berthWord : List ℕ
 berthWord = 98 ∷ 101 ∷ 114 ∷ 116 ∷ 104 ∷ 32 ∷ []
@@ -52,10 +48,6 @@ codeWord = 32 ∷ 99 ∷ 111 ∷ 100 ∷ 101 ∷ 32 ∷ []
 -- "none"
 abbrev pub noneWord : List ℕ
 noneWord = 110 ∷ 111 ∷ 110 ∷ 101 ∷ []
-
--- "show"
-abbrev pub showWord : List ℕ
-showWord = 115 ∷ 104 ∷ 111 ∷ 119 ∷ []
 
 -- " delivered "
 abbrev pub deliveredWord : List ℕ
@@ -96,6 +88,13 @@ badWord = 98 ∷ 97 ∷ 100 ∷ []
 -- "short"
 abbrev pub shortWord : List ℕ
 shortWord = 115 ∷ 104 ∷ 111 ∷ 114 ∷ 116 ∷ []
+
+-- set-up and show have no line in the paper; these are the words of the scenes: "setup", "show"
+abbrev pub setupWord : List ℕ
+setupWord = 115 ∷ 101 ∷ 116 ∷ 117 ∷ 112 ∷ []
+
+abbrev pub showWord : List ℕ
+showWord = 115 ∷ 104 ∷ 111 ∷ 119 ∷ []
 
 abbrev pub space : ℕ
 space = 32
