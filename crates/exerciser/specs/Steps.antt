@@ -1,7 +1,6 @@
 -- Paper 01, "The exerciser": its settings, the call that a record asks for, and what a record prints and leaves.
-use Prim.Native.Nat.{ℕ, _+_, _-_, _%_, _^_}
+use Prim.Native.Nat.{ℕ}
 use mathlib.Core.Path.{_≡_}
-use mathlib.Core.Bool.{Bool, true, false}
 use mathlib.Core.List.{List, [], _∷_}
 use lib.ListN.{length, take, drop, replicate}
 use lib.Dec.{ltb}
@@ -14,20 +13,11 @@ use Rattle.rules.specs.Events.{Call, frame, tick, send, turn}
 use Rattle.rules.specs.Calls.{outcome, answers, final}
 use Rattle.rules.specs.declared.Node.{Node}
 use Rattle.rules.specs.declared.Settings.{Settings}
-use Rattle.node.specs.Promises.{lent}
-use Rattle.reading.specs.Input.{NextPromise}
-use Rattle.reading.specs.Output.{sinkAfter, bufferAfter}
-use Rattle.reading.specs.declared.input.Kind.{Kind}
-use Rattle.reading.specs.declared.input.Next.{Next}
-use Rattle.reading.specs.declared.input.Source.{Source}
-use Rattle.reading.specs.declared.input.Part.{Part}
-use Rattle.reading.specs.declared.input.Part.the-variants.{Whole, Cut, Long, End}
 use Rattle.records.specs.Records.{recordOf, risingFrom}
 use Rattle.records.specs.declared.record.Record.{Record}
 use Rattle.text.specs.Building.{textOf}
 use Rattle.text.specs.Answers.{answerText, badText, shortText}
 use Rattle.text.specs.declared.building.Text.{Text}
-use Rattle.exerciser.specs.declared.Progress.{Progress}
 
 -- A 1,000, BS 8, STmin 00
 abbrev pub settings : Settings
@@ -56,7 +46,7 @@ unfoldable pub says : ℕ → List ℕ → List Answer → List ℕ
 says number d (answer ∷ _) = answerText number answer
 says number d [] = pick (ltb (length d) recordLength) (shortText number) (badText number)
 
--- ---- a step: the text that record prints, and the node and the stores after it
+-- ---- a step: the text that a record prints, and the node and the stores after it
 
 unfoldable pub stepText : ℕ → List ℕ → Held → List ℕ
 stepText number d h = says number d (answers h (asks d (recordOf d)))
@@ -76,51 +66,3 @@ pub record Does (number : ℕ) (h : Held) (call : Call) (text : Text) (h′ : He
 -- a call that is not given a store leaves any such store as it is
 abbrev pub Whatever : (List ℕ → Type 0) → Type 0
 Whatever P = (store : List ℕ) → P store
-
--- ---- a turn of the loop. What is read is free, and it tells all else: the step of the record that stands next, its text put to the
--- output, and the next number; or the end, where nothing stands next
-
-pub record Running : Type 0 where
-  pub progress : Progress
-  pub incoming : List ℕ
-  pub outgoing : List ℕ
-  pub output : List ℕ
-
-abbrev pub running : Progress → List ℕ → List ℕ → List ℕ → Running
-running p incoming outgoing output = record { progress = p; incoming = incoming; outgoing = outgoing; output = output }
-
-abbrev pub stores : Running → Held
-stores r = lent (r .progress .node) (r .incoming) (r .outgoing)
-
-abbrev pub nextText : Running → List ℕ → List ℕ
-nextText r d = stepText (r .progress .number) d (stores r)
-
-pub record Stepped (r : Running) (d : List ℕ) (r′ : Running) : Type 0 where
-  pub leaves : stores r′ ≡ stepHeld d (stores r)
-  pub counts : r′ .progress .number ≡ (r .progress .number + 1) % 2 ^ 64
-  pub reads : r′ .progress .source ≡ r .progress .source
-  pub collects : r′ .progress .sink ≡ sinkAfter (r .progress .sink) (r .output) (nextText r d)
-  pub puts : r′ .output ≡ bufferAfter (r .progress .sink) (r .output) (nextText r d)
-
--- the same with another source, and whether to go on
-abbrev pub withSource : Running → Source → Bool → Running
-withSource r source more =
-    record {
-      progress = record { node = r .progress .node; number = r .progress .number; source = source; sink = r .progress .sink; more = more };
-      incoming = r .incoming;
-      outgoing = r .outgoing;
-      output = r .output;
-    }
-
-unfoldable pub ends : Part → Bool
-ends Whole = false
-ends Cut = false
-ends Long = false
-ends End = true
-
-pub record Turns (input : List ℕ) (r : Running) (input′ : List ℕ) (r′ : Running) : Type 0 where
-  pub next : Next
-  pub came : NextPromise (r .progress .source) input (Kind.Record recordLength) next input′
-  pub goes :
-      pick (ends (next .part)) (r′ ≡ withSource r (r .progress .source) false)
-      (Stepped (withSource r (next .source) (r .progress .more)) (take (next .to - next .from) (drop (next .from) input′)) r′)

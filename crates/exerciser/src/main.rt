@@ -5,9 +5,9 @@ ghost use mathlib.Core.List.{[]};
 ghost use Rattle.rules.specs.Events.{frame, tick, send, turn};
 ghost use Rattle.node.specs.Promises.{lent};
 ghost use Rattle.records.specs.Records.{risingFrom};
-ghost use Rattle.reading.specs.Output.{sinkAfter, bufferAfter};
 ghost use Rattle.text.specs.Building.{textOf};
-ghost use Rattle.exerciser.specs.Steps.{firstNode, zeros, says, Whatever, Does, Steps, running, Stepped, Turns};
+ghost use Rattle.exerciser.specs.Steps.{firstNode, zeros, says, Whatever, Does, Steps};
+ghost use Rattle.exerciser.specs.Turns.{running, Stepped, Turns};
 use libc::STDIN_FILENO;
 use libc::STDOUT_FILENO;
 use reading::input::Kind;
@@ -146,15 +146,6 @@ fn first() -> Progress
     }
 }
 
-fn say(sink: Sink, output: &mut [u8], text: Text) -> Sink
-    ensures { λ r. ⌜ r ≡ sinkAfter sink (now (output .entry)) (textOf text) ⌝ }
-    ensures { λ _. ⌜ now (output .exit) ≡ bufferAfter sink (now (output .entry)) (textOf text) ⌝ }
-{
-    let mut bytes = [0u8; 128];
-    let n = text::building::copy(text, &mut bytes);
-    sink.put(output, &bytes[..n])
-}
-
 // A record, or the last part of one.
 fn run_part(
     before: Progress,
@@ -173,7 +164,7 @@ fn run_part(
     let mut after = before;
     after.node = next;
     after.number = std::num::wrapping_add_u64(before.number, 1);
-    after.sink = say(sink, output, text);
+    after.sink = sink.say(output, text);
     after
 }
 

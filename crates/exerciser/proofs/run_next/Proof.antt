@@ -7,7 +7,7 @@ use types.Run.{OneOf, miss}
 use Rattle.reading.proofs.input.Part.{the-type}
 use Rattle.reading.specs.declared.input.Part.{Part}
 use Rattle.reading.specs.declared.input.Part.the-variants.{Whole, Cut, Long, End}
-use Rattle.exerciser.specs.Steps.{ends}
+use Rattle.exerciser.specs.Turns.{ends}
 use borrow.Author.Needs.{needs}
 use Rattle.exerciser.proofs.run_next.Statement.{statement}
 use Rattle.exerciser.proofs.run_next.Tie as tie

@@ -30,6 +30,7 @@ returns c =
     record {
       leaves = p .leaves;
       counts = c .before .before .before .before .wrapping-add-u64 .ensures;
+      goes-on = refl;
       reads = refl;
       collects = rw (p .prints) at (s .0);
       puts = rw (p .prints) at (s .1);

@@ -9,8 +9,8 @@ use Rattle.text.specs.Building.{textOf}
 use Rattle.text.specs.declared.building.Text.{Text}
 use Rattle.text.proofs.Clip.{array-length}
 use borrow.Author.Needs.{needs}
-use Rattle.exerciser.proofs.say.Statement.{statement}
-use Rattle.exerciser.proofs.say.Tie as tie
+use Rattle.reading.proofs.output.Sink.say.Statement.{statement}
+use Rattle.reading.proofs.output.Sink.say.Tie as tie
 
 slice-aggregate-copy : tie.Need-slice-aggregate-copy
 slice-aggregate-copy c = search needs
