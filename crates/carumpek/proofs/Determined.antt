@@ -10,7 +10,7 @@ use Rattle.rules.specs.declared.FrameAnswer.{FrameAnswer}
 use Rattle.rules.specs.declared.TickAnswer.{TickAnswer}
 use Rattle.rules.specs.declared.SendAnswer.{SendAnswer}
 use Rattle.rules.specs.declared.TurnAnswer.{TurnAnswer}
-use Rattle.node.specs.Promises.{SetUpPromise, FramePromise, TickPromise, SendPromise, TurnPromise, ShowPromise}
+use Rattle.node.specs.Promises.{SetUpPromise, FramePromise, TickPromise, SendPromise, TurnPromise, ShowPromise, NeededPromise}
 use Rattle.node.proofs.Determined as by-value
 
 module _ (entry exit₁ exit₂ : Node) where
@@ -37,3 +37,6 @@ pub show-determined : (n : Node) (incoming outgoing : List ℕ) (k : ℕ) (choic
     → ShowPromise n incoming outgoing k choice p₁ in-at out-at at₁ → ShowPromise n incoming outgoing k choice p₂ in-at out-at at₂
     → (p₁ ≡ p₂) × (at₁ ≡ at₂)
 show-determined = by-value.show-determined
+
+pub needed-determined : (n r₁ r₂ : ℕ) → NeededPromise n r₁ → NeededPromise n r₂ → r₁ ≡ r₂
+needed-determined = by-value.needed-determined

@@ -1,7 +1,6 @@
 -- Runs, computed, that meet the premises of the laws: so the laws are about something.
 use mathlib.Core.Path.{_≡_, refl}
-use Prim.Native.Nat.{ℕ, _*_}
-use mathlib.Core.Bool.{false}
+use Prim.Native.Nat.{ℕ, _*_, _<_}
 use mathlib.Core.List.{List, [], _∷_}
 use lib.ListN.{set, replicate}
 use lib.Dec.{lit<, lit≤}
@@ -16,8 +15,8 @@ use Rattle.rules.specs.Turns.{due, moved, afterConsecutive, handOver, beginsWit
 use Rattle.rules.specs.Stores.{rightStore, areaOf, stored, inside, tickedNode, servedNode, setUpNode, distance, leastDistance, passedOver, reached, cameAt, handedAt}
 use Rattle.rules.specs.Answers.{refused, heard, codes, sent, handed, shown, receive, reported, failedSide, wordReports, codesReports, reports}
 use Rattle.rules.specs.Events.{Call, frame, tick, send, turn, show, arrives, ticks, sends, turns}
-use Rattle.rules.specs.Refusals.{needs, refusal}
-use Rattle.rules.specs.Calls.{showable, shownLength, showing, afterFrame, done, reply, written, refusedOutcome, outcome, answers, final}
+use Rattle.rules.specs.Refusals.{needs, refusal, setUpRefusal}
+use Rattle.rules.specs.Calls.{showable, shownLength, showing, afterFrame, done, reply, written, refusedOutcome, outcome, setUpOutcome, answers, final}
 use Rattle.rules.specs.Alone.{partOf}
 use Rattle.rules.specs.declared.Choice.{Choice}
 use Rattle.rules.specs.declared.Rx.{Rx}
@@ -26,11 +25,11 @@ use Rattle.rules.specs.declared.Berth.{Berth}
 use Rattle.rules.specs.declared.Codes.{Codes}
 use Rattle.rules.specs.declared.Word.the-variants.{Delivered, Ignored}
 use Rattle.rules.proofs.Ranges.{in-order-range}
-use Rattle.laws.specs.Own.{over, only, ownDone, own, owns, heardOf, ofBerth, Sound, Alone}
+use Rattle.laws.specs.Own.{over, only, ownDone, own, owns, saysOf, ofBerth, Sound, setUp, freshPart, Alone}
 use Rattle.laws.specs.Rounds.{served, turnOf, StaysDue, Fair}
 use Rattle.laws.specs.Sides.{frameSide, ofSide, handedSide, framesBy}
-use Rattle.laws.specs.Line.{there, back, deliveredIn, callA, callB, carriedA, carriedB, Deed, atA, atB, carryA, carryB, acts, living, spares, AllApart, gapLeft, AtRest, begin, MayBegin, Arrived, blank}
-use Rattle.laws.proofs.SetUp.{each-alone}
+use Rattle.laws.specs.Line.{there, back, deliveredIn, leftA, leftB, carriedA, carriedB, Deed, atA, atB, setUpB, carryA, carryB, acts, living, spares, AllApart, gapLeft, AtRest, begin, MayBegin, Arrived, blank}
+use Rattle.laws.proofs.SetUp.{each-alone, each-alone-after-set-up}
 use Rattle.laws.proofs.Fairness.{fair}
 use Rattle.laws.proofs.World.{line-law}
 
@@ -43,7 +42,7 @@ abbrev waitingBerth : Berth
 waitingBerth =
     record { rx = Rx.Awaits (record { total = 8; got = 6; sn = firstSn; taken = 0 }) 998; last = 0; tx = Tx.Idle }
 
-abbrev two : Held
+abbrev pub two : Held
 two =
     record {
       node = record { settings = record { area = 8; block = 2; stmin = 0 }; served = 9; berths = set (replicate berthCount fresh) 3 waitingBerth };
@@ -52,7 +51,7 @@ two =
     }
 
 -- a send, an ignored frame of kind 7, a turn with a buffer too short, a tick, a turn, a frame, the tick that ends berth 3's reception
-abbrev twoRun : List Call
+abbrev pub twoRun : List Call
 twoRun =
     send 5 (1 ∷ 2 ∷ 3 ∷ []) ∷ frame 0x643 (0x70 ∷ []) ∷ turn (0 ∷ []) ∷ tick ∷ turn blank ∷ frame 0x645 (0x02 ∷ 0xAA ∷ 0xBB ∷ []) ∷ tick
     ∷ show 5 Choice.Arrived ∷ []
@@ -72,12 +71,29 @@ unfolding owns own ownDone answers final done reply written outcome refusedOutco
 two-computed = (refl, refl, refl)
 
 -- so each is as it would be alone
-pub two-alone : Alone (two .node .settings) (partOf 3 two) 3 two twoRun × Alone (two .node .settings) (partOf 5 two) 5 two twoRun
+pub two-alone : Alone (two .node .settings) (partOf 3 two) 3 two (owns 3 two twoRun) (answers two twoRun) (final two twoRun)
+    × Alone (two .node .settings) (partOf 5 two) 5 two (owns 5 two twoRun) (answers two twoRun) (final two twoRun)
 two-alone = (each-alone two twoRun 3 (lit< tt), each-alone two twoRun 5 (lit< tt))
+
+-- the same calls after a set-up of the same node, A 8, BS 2, STmin 0: berth 3 awaits nothing, and no reception of it ends
+abbrev afresh : Held
+afresh = setUp two (two .node .settings)
+
+pub afresh-computed : (setUpRefusal 8 2 0 ≡ 0)
+    × (answers afresh twoRun
+    ≡ sent 5 ∷ heard 3 0 (Ignored 2) ∷ refused 9 ∷ codes (replicate 10 (pairOf 0 0))
+    ∷ handed 0x665 (0x03 ∷ 1 ∷ 2 ∷ 3 ∷ 0xCC ∷ 0xCC ∷ 0xCC ∷ 0xCC ∷ []) 1 5 ∷ heard 5 0 (Delivered 2)
+    ∷ codes (replicate 10 (pairOf 0 0)) ∷ shown (0xAA ∷ 0xBB ∷ []) ∷ [])
+unfolding setUpRefusal setUpOutcome setUpNode answers final done reply written outcome refusedOutcome refusal needs firstUnmet rightStore inside berthAt inOrder all each settingsAllowed berthInOrder takingInRange sendingInRange inBlock afterFrame cameAt frameCame byKind kind low heardBy toldBy ignored singleCame singleFits withBerth stored tickedNode ticked ran codesOf sentBerth beginsWith passedOver leastDistance distance due reached servedNode handedAt handOver areaOf singleFrame padded showing showable shownLength
+afresh-computed = (refl, refl)
+
+-- so each is as it would be alone from fresh
+pub afresh-alone : (k : ℕ) → k < berthCount → Alone (two .node .settings) (freshPart two (two .node .settings) k) k afresh (owns k afresh twoRun) (answers afresh twoRun) (final afresh twoRun)
+afresh-alone k l = each-alone-after-set-up two (two .node .settings) twoRun k l (afresh-computed .0)
 
 -- ---- fairness: all ten are due, berth 4 was served last, and nine others are served before it
 
-abbrev crowd : Held
+abbrev pub crowd : Held
 crowd =
     record {
       node = record {
@@ -89,7 +105,7 @@ crowd =
       outgoing = replicate 80 7;
     }
 
-abbrev crowdRun : List Call
+abbrev pub crowdRun : List Call
 crowdRun = replicate 10 (turn blank)
 
 pub crowd-computed : (over turnOf (answers crowd crowdRun)
@@ -102,7 +118,7 @@ pub crowd-fair : Fair 4 (over turnOf (answers crowd crowdRun))
 crowd-fair = fair 4 (lit< tt) crowd crowdRun (crowd-computed .1)
 
 -- ---- the line's law: A 36 and 40, BS 8 and 2, STmin 0 and 2. 36 bytes in five consecutive frames, three blocks, a gap of two ticks; berth
--- 6 of A and the send side of B's berth 7 have traffic of their own, and a frame of kind 5 comes to the taker
+-- 6 of A and the send side of B's berth 7 have traffic of their own, a set-up of B is refused, and a frame of kind 5 comes to the taker
 
 abbrev nodeOf : ℕ → ℕ → ℕ → Held
 nodeOf a bs stmin =
@@ -121,7 +137,7 @@ programme =
 
 abbrev deeds : List Deed
 deeds =
-    atA (send 6 (9 ∷ [])) ∷ atA (turn blank) ∷ carryB ∷ atB (frame 0x647 (0x50 ∷ 1 ∷ [])) ∷ atB (send 7 (5 ∷ [])) ∷
+    setUpB 7 0 0 ∷ atA (send 6 (9 ∷ [])) ∷ atA (turn blank) ∷ carryB ∷ atB (frame 0x647 (0x50 ∷ 1 ∷ [])) ∷ atB (send 7 (5 ∷ [])) ∷
     atB (turn blank) ∷ atB (turn blank) ∷ carryA ∷ atA (turn blank) ∷ atA (turn blank) ∷ carryB ∷ atA tick ∷
     atB tick ∷ atA tick ∷ atB tick ∷ atA (turn blank) ∷ carryB ∷ atB (turn blank) ∷ carryA ∷ atA (turn blank) ∷
     carryB ∷ atA tick ∷ atB tick ∷ atA tick ∷ atB tick ∷ atA (turn blank) ∷ carryB ∷ atB (turn blank) ∷ carryA ∷
@@ -156,9 +172,9 @@ pub deeds-computed : AllApart 2 7 (begin 2 programme scheduler mast) deeds
     ∷ back (0x30 ∷ 2 ∷ 2 ∷ 0xCC ∷ 0xCC ∷ 0xCC ∷ 0xCC ∷ 0xCC ∷ [])
     ∷ there (0x25 ∷ 35 ∷ 36 ∷ 0xCC ∷ 0xCC ∷ 0xCC ∷ 0xCC ∷ 0xCC ∷ [])
     ∷ [])
-unfolding gapLeft AllApart spares frameSide living acts callA callB carriedA carriedB framesBy handedSide ofSide ofBerth only reports reported wordReports codesReports failedSide heardOf deliveredIn over answers final done reply written outcome refusedOutcome refusal needs firstUnmet rightStore inside berthAt inOrder all each settingsAllowed berthInOrder takingInRange sendingInRange inBlock afterFrame cameAt frameCame byKind kind low heardBy toldBy ignored singleCame singleFits withBerth stored tickedNode ticked ran codesOf sentBerth beginsWith passedOver leastDistance distance due reached servedNode handedAt handOver areaOf singleFrame padded showing showable shownLength setUpNode firstCame shortLength escapeLength announced firstFits begun awaitedCame consecutiveFits piece grown completed afterTook took wrongSn counted fillsBlock nextSn share flowFits byStatus granted gapOf goFrame firstFrame consecutiveFrame moved afterConsecutive
+unfolding gapLeft AllApart spares frameSide living acts leftA leftB carriedA carriedB framesBy handedSide ofSide ofBerth only reports reported wordReports codesReports failedSide saysOf deliveredIn over answers final done reply written outcome refusedOutcome refusal needs firstUnmet rightStore inside berthAt inOrder all each settingsAllowed berthInOrder takingInRange sendingInRange inBlock afterFrame cameAt frameCame byKind kind low heardBy toldBy ignored singleCame singleFits withBerth stored tickedNode ticked ran codesOf sentBerth beginsWith passedOver leastDistance distance due reached servedNode handedAt handOver areaOf singleFrame padded showing showable shownLength setUpNode firstCame shortLength escapeLength announced firstFits begun awaitedCame consecutiveFits piece grown completed afterTook took wrongSn counted fillsBlock nextSn share flowFits byStatus granted gapOf goFrame firstFrame consecutiveFrame moved afterConsecutive setUpOutcome setUpRefusal
 deeds-computed = (
-  ((λ e. tt), ((λ e. tt), (tt, ((λ e. tt), ((λ e. tt), ((λ e. tt), ((λ e. tt), (tt, ((λ e. tt), ((λ e. tt), (tt, ((λ e. tt), ((λ e. tt), ((λ e. tt), ((λ e. tt), ((λ e. tt), (tt, ((λ e. tt), (tt, ((λ e. tt), (tt, ((λ e. tt), ((λ e. tt), ((λ e. tt), ((λ e. tt), ((λ e. tt), (tt, ((λ e. tt), (tt, ((λ e. tt), (tt, tt))))))))))))))))))))))))))))))),
+  (lit< tt, ((λ e. tt), ((λ e. tt), (tt, ((λ e. tt), ((λ e. tt), ((λ e. tt), ((λ e. tt), (tt, ((λ e. tt), ((λ e. tt), (tt, ((λ e. tt), ((λ e. tt), ((λ e. tt), ((λ e. tt), ((λ e. tt), (tt, ((λ e. tt), (tt, ((λ e. tt), (tt, ((λ e. tt), ((λ e. tt), ((λ e. tt), ((λ e. tt), ((λ e. tt), (tt, ((λ e. tt), (tt, ((λ e. tt), (tt, tt)))))))))))))))))))))))))))))))),
   record { none-there = refl; none-back = refl; none-due = refl; no-gap = refl; no-flow = refl },
   refl,
 )

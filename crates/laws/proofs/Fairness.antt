@@ -14,14 +14,16 @@ use Rattle.rules.specs.Ranges.{InOrder}
 use Rattle.rules.specs.Turns.{due}
 use Rattle.rules.specs.Stores.{tickedNode, servedNode, distance, passedOver, reached}
 use Rattle.rules.specs.Events.{Call, frame, tick, send, turn, show}
+use Rattle.rules.specs.Answers.{forTaker}
 use Rattle.rules.specs.Refusals.{refusal}
 use Rattle.rules.specs.Calls.{afterFrame, done, reply, written, bufferOf, Outcome, refusedOutcome, outcome, answers}
 use Rattle.rules.proofs.Cases.{Tested, holds, fails, eqb-cases, eqb-is, eqb-not, ltb-is}
 use Rattle.rules.proofs.Ranges.{in-order-range}
 use Rattle.rules.proofs.Round.{near}
 use Rattle.rules.proofs.Answered.{turn-answered}
-use Rattle.laws.specs.Own.{over, takerOf}
+use Rattle.laws.specs.Own.{over}
 use Rattle.laws.specs.Rounds.{Turn, served, nobody, turnOf, DueAt, StaysDue, before, NoTwice, Fair}
+use Rattle.laws.proofs.Isolation.{said-to}
 use Rattle.laws.proofs.Round.{some-reached, nearer}
 
 module _ (k : ℕ) (small : k < berthCount) where
@@ -36,13 +38,13 @@ module _ (k : ℕ) (small : k < berthCount) where
   unfolding done reply servedNode turnOf
   served-turn h buffer o t = rw (ltb-is (passedOver (h .node)) berthCount (some-reached (h .node) o k small t)) (go (eqb-cases (reached (h .node)) k))
     where
-      to : takerOf (toBerth + reached (h .node)) ≡ reached (h .node)
-      to = omega arith
+      to : forTaker (toBerth + reached (h .node)) served nobody ≡ served (reached (h .node))
+      to = said-to served nobody (reached (h .node))
 
       go : Tested (eqb (reached (h .node)) k) (reached (h .node) ≡ k) (reached (h .node) ≡ k → ⊥)
-          → Served (h .node .served) (reached (h .node)) (served (takerOf (toBerth + reached (h .node))) ∷ [])
-      go (holds q e) = its-own (ap (λ (j : ℕ). served j ∷ []) (to ∙ e))
-      go (fails q ne) = another (reached (h .node)) ne refl (ap (λ (j : ℕ). served j ∷ []) to) (nearer (h .node) o k small t ne)
+          → Served (h .node .served) (reached (h .node)) (forTaker (toBerth + reached (h .node)) served nobody ∷ [])
+      go (holds q e) = its-own (ap (λ (t : Turn). t ∷ []) (to ∙ ap served e))
+      go (fails q ne) = another (reached (h .node)) ne refl (ap (λ (t : Turn). t ∷ []) to) (nearer (h .node) o k small t ne)
 
   served-done : (h : Held) (c : Call) → refusal h c ≡ 0 → DueAt k h c
       → Served (h .node .served) (done h c .node .served) (turnOf (reply h c))

@@ -1,20 +1,22 @@
 -- Demand 3, first half. A call that is answered changes berth k's part by k's own event and no other part; refused calls change
 -- nothing; so by induction a run leaves and says of each berth what its own events do on that berth alone.
 use mathlib.Core.Path.{_≡_, refl, sym, ap, ap₂, _∙_}
-use Prim.Native.Nat.{ℕ, zero, suc, _+_, _≤_, _<_}
+use Prim.Native.Nat.{ℕ, zero, suc, _+_, _-_, _≤_, _<_}
 use native.Mathlib.Omega.{arith}
+use mathlib.Core.Bool.{false}
 use mathlib.Core.List.{List, [], _∷_, _++_, map}
 use lib.ListN.{length, getD, set, List·getD-map}
 use lib.Seq.{getD-set-same, getD-set-other}
-use lib.Dec.{T, eqb, ltb}
+use lib.Dec.{T, eqb, ltb, leb}
+use mir.Facts.{eqb-yes, yes-eqb}
 use Rattle.rules.specs.Tests.{unless}
 use Rattle.rules.specs.Numbers.{berthCount, toBerth}
 use Rattle.rules.specs.Nodes.{fresh, berthAt, Held, withBerth}
 use Rattle.rules.specs.Ranges.{inOrder}
-use Rattle.rules.specs.Ticks.{ticked, rxTicked, txTicked, codesOf}
+use Rattle.rules.specs.Ticks.{codesOf}
 use Rattle.rules.specs.Turns.{sent as sentBerth}
 use Rattle.rules.specs.Stores.{tickedNode, servedNode, passedOver, reached, cameAt, handedAt}
-use Rattle.rules.specs.Answers.{receive}
+use Rattle.rules.specs.Answers.{receive, forTaker}
 use Rattle.rules.specs.Events.{Call, frame, tick, send, turn, show, senderOf, Event}
 use Rattle.rules.specs.Refusals.{refusal}
 use Rattle.rules.specs.Calls.{afterFrame, done, reply, written, bufferOf, refusedOutcome, outcome, answers, final}
@@ -23,12 +25,24 @@ use Rattle.rules.specs.declared.Settings.{Settings}
 use Rattle.rules.specs.declared.Berth.{Berth}
 use Rattle.rules.specs.declared.Node.{Node}
 use Rattle.rules.specs.declared.Codes.{Codes}
-use Rattle.rules.proofs.Cases.{Tested, holds, fails, eqb-cases, ltb-cases}
+use Rattle.rules.proofs.Cases.{Tested, holds, fails, eqb-cases, ltb-cases, leb-cases, leb-is}
 use Rattle.rules.proofs.Areas.{area-same, area-other}
 use Rattle.rules.proofs.Ranges.{in-order-range}
 use Rattle.rules.proofs.Order.{reached-small, berth-ticked}
 use Rattle.rules.proofs.Answered.{FrameAnswered, frame-answered, SendAnswered, send-answered, turn-answered}
-use Rattle.laws.specs.Own.{over, ownDone, own, owns, takerOf, noCodes, heardOf}
+use Rattle.laws.specs.Own.{over, ownDone, own, owns, noCodes, saysOf}
+
+-- berth k's identifier is 660 hex + k
+pub said-to : {X : Type 0} (its : ℕ → X) (nobodys : X) (k : ℕ) → forTaker (toBerth + k) its nobodys ≡ its k
+said-to its nobodys k = rw (leb-is toBerth (toBerth + k) (omega arith)) (ap its (omega arith))
+
+-- AN IDENTIFIER IS BERTH k's exactly if it is 660 hex + k
+pub taker-exactly : (id k : ℕ) → (T (forTaker id (λ j. eqb j k) false) → id ≡ toBerth + k) × (id ≡ toBerth + k → T (forTaker id (λ j. eqb j k) false))
+taker-exactly id k = (to (leb-cases toBerth id), λ e. rw (e, said-to (λ j. eqb j k) false k) (yes-eqb {a = k} refl))
+  where
+    to : Tested (leb toBerth id) (toBerth ≤ id) (id < toBerth) → T (forTaker id (λ j. eqb j k) false) → id ≡ toBerth + k
+    to (holds l u) t = let e : id - toBerth ≡ k = eqb-yes (rw l at t) in omega arith
+    to (fails l u) t = absurd (rw l at t)
 
 -- ---- one berth is written
 
@@ -123,46 +137,43 @@ module _ (k : ℕ) where
 
   -- ---- what is said
 
-  says-tick : (h : Held) → heardOf k (reply h tick) ≡ saysAll (h .node .settings) (partOf k h) (ownDone k h tick)
-  unfolding heardOf reply saysAll ownDone says partOf berthAt codesOf
+  says-tick : (h : Held) → saysOf k (reply h tick) ≡ saysAll (h .node .settings) (partOf k h) (ownDone k h tick)
+  unfolding saysOf reply saysAll ownDone says partOf berthAt codesOf
   says-tick h =
       ap {A = Codes} (λ p. expires (p .receive) (p .send) ∷ [])
       (ap (getD (map codesOf (h .node .berths)) k) (sym codes-fresh) ∙ List·getD-map codesOf (h .node .berths) k fresh)
 
-  said-to : (n : Node) → takerOf (toBerth + reached n) ≡ reached n
-  said-to n = omega arith
-
-  pub says-done : (h : Held) (c : Call) → heardOf k (reply h c) ≡ saysAll (h .node .settings) (partOf k h) (ownDone k h c)
-  unfolding heardOf reply saysAll ownDone says partOf cameAt handedAt
+  pub says-done : (h : Held) (c : Call) → saysOf k (reply h c) ≡ saysAll (h .node .settings) (partOf k h) (ownDone k h c)
+  unfolding saysOf reply saysAll ownDone says partOf cameAt handedAt
   says-done h (frame id d) = go (eqb-cases (senderOf id) k)
     where
       go : Tested (eqb (senderOf id) k) (senderOf id ≡ k) (senderOf id ≡ k → ⊥)
-          → heardOf k (reply h (frame id d)) ≡ saysAll (h .node .settings) (partOf k h) (ownDone k h (frame id d))
+          → saysOf k (reply h (frame id d)) ≡ saysAll (h .node .settings) (partOf k h) (ownDone k h (frame id d))
       go (holds t e) = rw (t, e)
       go (fails t ne) = rw t
   says-done h tick = says-tick h
   says-done h (send j m) = go (eqb-cases j k)
     where
       go : Tested (eqb j k) (j ≡ k) (j ≡ k → ⊥)
-          → heardOf k (reply h (send j m)) ≡ saysAll (h .node .settings) (partOf k h) (ownDone k h (send j m))
+          → saysOf k (reply h (send j m)) ≡ saysAll (h .node .settings) (partOf k h) (ownDone k h (send j m))
       go (holds t e) = rw t
       go (fails t ne) = rw t
   says-done h (turn buffer) = go (ltb-cases (passedOver (h .node)) berthCount) (eqb-cases (reached (h .node)) k)
     where
       go : Tested (ltb (passedOver (h .node)) berthCount) (passedOver (h .node) < berthCount) (berthCount ≤ passedOver (h .node))
           → Tested (eqb (reached (h .node)) k) (reached (h .node) ≡ k) (reached (h .node) ≡ k → ⊥)
-          → heardOf k (reply h (turn buffer)) ≡ saysAll (h .node .settings) (partOf k h) (ownDone k h (turn buffer))
+          → saysOf k (reply h (turn buffer)) ≡ saysAll (h .node .settings) (partOf k h) (ownDone k h (turn buffer))
       go (fails u l) t = rw u
-      go (holds u l) (holds t e) = rw (u, said-to (h .node), t, e)
-      go (holds u l) (fails t ne) = rw (u, said-to (h .node), t)
+      go (holds u l) (holds t e) = rw (u, said-to _ _ (reached (h .node)), t, e)
+      go (holds u l) (fails t ne) = rw (u, said-to _ _ (reached (h .node)), t)
   says-done h (show j choice) = refl
 
-  pub says-step : (h : Held) (c : Call) → heardOf k (outcome h c .answer) ≡ saysAll (h .node .settings) (partOf k h) (own k h c)
-  unfolding outcome refusedOutcome own saysAll heardOf
+  pub says-step : (h : Held) (c : Call) → saysOf k (outcome h c .answer) ≡ saysAll (h .node .settings) (partOf k h) (own k h c)
+  unfolding outcome refusedOutcome own saysAll saysOf
   says-step h c = go (refusal h c)
     where
       go : (n : ℕ)
-          → heardOf k (unless n (refusedOutcome h (bufferOf c)) (record { answer = reply h c; held = done h c; buffer = written h c }) .answer)
+          → saysOf k (unless n (refusedOutcome h (bufferOf c)) (record { answer = reply h c; held = done h c; buffer = written h c }) .answer)
           ≡ saysAll (h .node .settings) (partOf k h) (unless n (λ m. []) (ownDone k h c))
       go zero = says-done h c
       go (suc n) = refl
@@ -218,7 +229,7 @@ berth-alone k h (c ∷ cs) =
 
 -- EACH BERTH'S WORDS, CODES AND FRAMES. What the answers of any run say of berth k is what its own events say on that berth alone.
 pub berth-says : (k : ℕ) (h : Held) (cs : List Call)
-    → over (heardOf k) (answers h cs) ≡ saysAll (h .node .settings) (partOf k h) (owns k h cs)
+    → over (saysOf k) (answers h cs) ≡ saysAll (h .node .settings) (partOf k h) (owns k h cs)
 unfolding answers over owns saysAll
 berth-says k h [] = refl
 berth-says k h (c ∷ cs) =

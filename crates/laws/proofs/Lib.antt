@@ -6,6 +6,7 @@ pub mod Round
 pub mod Fairness
 pub mod Sides
 pub mod Touch
+pub mod SideRuns
 pub mod Frames
 pub mod Exchanged
 pub mod Line

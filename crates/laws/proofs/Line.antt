@@ -4,13 +4,13 @@ use mathlib.Core.Path.{_≡_, refl, sym, ap, ap₂, _∙_}
 use Prim.Native.Nat.{ℕ, zero, suc, _+_, _-_, _*_, _/_, _≤_, _<_}
 use native.Mathlib.Omega.{arith}
 use native.Mathlib.Nat.{zero-add}
-use mathlib.Core.Bool.{Bool, true, false, _&&_}
+use mathlib.Core.Bool.{Bool, true, false}
 use mathlib.Core.List.{List, [], _∷_, _++_, nil≢cons, head-eq-of-cons-eq, tail-eq-of-cons-eq}
 use lib.ListN.{length, take, drop}
 use lib.Seq.{sets, length-sets, length-take-le, append-snoc}
 use lib.Dec.{T, eqb, ltb, leb}
 use Rattle.rules.specs.Tests.{pick}
-use Rattle.rules.specs.Numbers.{timeout, flowKind, frameSize, singleMost, firstBytes, consecutiveMost, leastLong, shortMost, longestGap, mostMillis, leastFraction, mostFraction, N-OK}
+use Rattle.rules.specs.Numbers.{timeout, flowKind, frameSize, singleMost, firstBytes, consecutiveMost, leastLong, shortMost, longestGap, N-OK}
 use Rattle.rules.specs.Frames.{kind, low, consecutiveFits, flowFits, padded, goFrame, nextSn, counted, fillsBlock, gapOf, share, framesOf}
 use Rattle.rules.specs.Arrivals.{Came, singleCame, firstCame, taking, begun, missing, piece, grown, completed, afterTook, took, awaitedCame, granted, byStatus, heardBy, toldBy, byKind, frameCame}
 use Rattle.rules.specs.Ticks.{ran, rxTicked, rxCode, closer, txTicked, txCode}
@@ -25,7 +25,7 @@ use Rattle.rules.specs.declared.Rx.{Rx}
 use Rattle.rules.specs.declared.Tx.{Tx}
 use Rattle.rules.specs.declared.Berth.{Berth}
 use Rattle.rules.specs.declared.Word.the-variants.{Delivered, Begun, Going}
-use Rattle.rules.proofs.Cases.{Tested, holds, fails, eqb-cases, ltb-cases, leb-cases, eqb-is, leb-is, leb-not, ltb-not, pick-either, tests}
+use Rattle.rules.proofs.Cases.{Tested, holds, fails, eqb-cases, ltb-cases, leb-cases, eqb-is, leb-is, leb-not, ltb-not}
 use Rattle.rules.proofs.Order.{fills-cases, gap-small}
 use Rattle.laws.specs.Line.{Handed, there, back, deliveredIn, gapLeft, inBlocks, exchanged}
 use Rattle.laws.proofs.Frames.{extended, fills-no, fills-yes, counted-on, snAt, posAt, sn-next, partAt, frameAt, span, span-snoc, singleOf, firstOf, frame-length, frame-kind, frame-low, frame-data, grows, single-length, single-low, single-kind, single-data, single-fits, first-length, first-kind, first-data, first-announced, first-fits, frames-single, frames-long}
@@ -42,6 +42,16 @@ pub record Line : Type 0 where
   pub ina : List ℕ
   pub heard : List Report
   pub delivered : List ℕ
+
+-- the line with the sender's end anew, and with the taker's: its side, the frames on the way there and back, what was handed over, its
+-- reports. A line is built by these two, under way and of a world, and nowhere else
+abbrev pub atSender : Line → Tx → (toR toS : List (List ℕ)) → List Handed → List Report → Line
+atSender l tx toR toS log said =
+    record { tx = tx; toR = toR; toS = toS; log = log; said = said; rx = l .rx; last = l .last; ina = l .ina; heard = l .heard; delivered = l .delivered }
+
+abbrev pub atTaker : Line → Rx → ℕ → List ℕ → (toR toS : List (List ℕ)) → List Handed → List Report → List ℕ → Line
+atTaker l rx last ina toR toS log heard delivered =
+    record { tx = l .tx; toR = toR; toS = toS; log = log; said = l .said; rx = rx; last = last; ina = ina; heard = heard; delivered = delivered }
 
 -- the send side stands before its frame k: the bytes before it have gone, and there are more
 pub record SendAt (n : ℕ) (o : Sending) (k : ℕ) : Type 0 where
@@ -75,34 +85,10 @@ module _ (i j : ℕ) (set : Settings) (n : ℕ) (out : List ℕ) (E : List Hande
       record { tx = tx; toR = toR; toS = toS; log = log; said = []; rx = rx; last = last; ina = ina; heard = []; delivered = [] }
 
   abbrev pub all-sent : List (List ℕ) → List Handed → Rx → ℕ → List ℕ → Line
-  all-sent toR log rx last ina =
-      record {
-        tx = Tx.Idle;
-        toR = toR;
-        toS = [];
-        log = log;
-        said = reported i send N-OK;
-        rx = rx;
-        last = last;
-        ina = ina;
-        heard = [];
-        delivered = [];
-      }
+  all-sent toR log rx last ina = atSender (under-way Tx.Idle toR [] log rx last ina) Tx.Idle toR [] log (reported i send N-OK)
 
   abbrev pub all-there : List Handed → List ℕ → Line
-  all-there log ina =
-      record {
-        tx = Tx.Idle;
-        toR = [];
-        toS = [];
-        log = log;
-        said = reported i send N-OK;
-        rx = Rx.Idle;
-        last = n;
-        ina = ina;
-        heard = reported j receive N-OK;
-        delivered = n ∷ [];
-      }
+  all-there log ina = atTaker (all-sent [] log Rx.Idle n ina) Rx.Idle n ina [] [] log (reported j receive N-OK) (n ∷ [])
 
   -- what is still to be handed over from frame k on, with so many frames of the block gone
   abbrev rest : ℕ → ℕ → ℕ → List Handed
@@ -183,102 +169,37 @@ module _ (i j : ℕ) (set : Settings) (n : ℕ) (out : List ℕ) (E : List Hande
   -- a frame of the message is handed over
   abbrev pub handS : Line → Line
   handS l =
-      record {
-        tx = afterMessage (l .tx);
-        toR = l .toR ++ (messageFrame (l .tx) out ∷ []);
-        toS = l .toS;
-        log = l .log ++ (there (messageFrame (l .tx) out) ∷ []);
-        said = l .said ++ reported i send (messageCode (l .tx));
-        rx = l .rx;
-        last = l .last;
-        ina = l .ina;
-        heard = l .heard;
-        delivered = l .delivered;
-      }
+      atSender l (afterMessage (l .tx)) (l .toR ++ (messageFrame (l .tx) out ∷ [])) (l .toS) (l .log ++ (there (messageFrame (l .tx) out) ∷ []))
+      (l .said ++ reported i send (messageCode (l .tx)))
 
   -- flow control is handed over
   abbrev pub handR : Line → Line
   handR l =
-      record {
-        tx = l .tx;
-        toR = l .toR;
-        toS = l .toS ++ (flowFrame set (l .rx) ∷ []);
-        log = l .log ++ (back (flowFrame set (l .rx)) ∷ []);
-        said = l .said;
-        rx = afterFlow (l .rx);
-        last = l .last;
-        ina = l .ina;
-        heard = l .heard;
-        delivered = l .delivered;
-      }
+      atTaker l (afterFlow (l .rx)) (l .last) (l .ina) (l .toR) (l .toS ++ (flowFrame set (l .rx) ∷ []))
+      (l .log ++ (back (flowFrame set (l .rx)) ∷ [])) (l .heard) (l .delivered)
 
   -- ticks that end no timer
   abbrev pub tickS : Line → Line
-  tickS l =
-      record {
-        tx = txTicked (l .tx);
-        toR = l .toR;
-        toS = l .toS;
-        log = l .log;
-        said = l .said;
-        rx = l .rx;
-        last = l .last;
-        ina = l .ina;
-        heard = l .heard;
-        delivered = l .delivered;
-      }
+  tickS l = atSender l (txTicked (l .tx)) (l .toR) (l .toS) (l .log) (l .said)
 
   abbrev pub tickR : Line → Line
-  tickR l =
-      record {
-        tx = l .tx;
-        toR = l .toR;
-        toS = l .toS;
-        log = l .log;
-        said = l .said;
-        rx = rxTicked (l .rx);
-        last = l .last;
-        ina = l .ina;
-        heard = l .heard;
-        delivered = l .delivered;
-      }
+  tickR l = atTaker l (rxTicked (l .rx)) (l .last) (l .ina) (l .toR) (l .toS) (l .log) (l .heard) (l .delivered)
 
   -- a frame comes in at the receive side, or at the send side, and leaves the queue q
   unfoldable pub tookR : Line → List (List ℕ) → Came → Line
   tookR l q c =
-      record {
-        tx = l .tx;
-        toR = q;
-        toS = l .toS;
-        log = l .log;
-        said = l .said;
-        rx = c .berth .rx;
-        last = c .berth .last;
-        ina = sets (l .ina) (c .place) (c .bytes);
-        heard = l .heard ++ (reported j receive (c .old) ++ wordReports j (c .word));
-        delivered = l .delivered ++ deliveredIn (hears (c .old) (c .word));
-      }
+      atTaker l (c .berth .rx) (c .berth .last) (sets (l .ina) (c .place) (c .bytes)) q (l .toS) (l .log)
+      (l .heard ++ (reported j receive (c .old) ++ wordReports j (c .word))) (l .delivered ++ deliveredIn (hears (c .old) (c .word)))
 
-  abbrev pub receiving : Line → Berth
-  receiving l = record { rx = l .rx; last = l .last; tx = Tx.Idle }
+  abbrev pub takerBerth : Line → Berth
+  takerBerth l = record { rx = l .rx; last = l .last; tx = Tx.Idle }
 
   unfoldable pub tookS : Line → List (List ℕ) → Came → Line
   tookS l q c =
-      record {
-        tx = c .berth .tx;
-        toR = l .toR;
-        toS = q;
-        log = l .log;
-        said = l .said ++ (reported i receive (c .old) ++ wordReports i (c .word));
-        rx = l .rx;
-        last = l .last;
-        ina = l .ina;
-        heard = l .heard;
-        delivered = l .delivered;
-      }
+      atSender l (c .berth .tx) (l .toR) q (l .log) (l .said ++ (reported i receive (c .old) ++ wordReports i (c .word)))
 
-  abbrev pub sending : Line → Berth
-  sending l = record { rx = Rx.Idle; last = 0; tx = l .tx }
+  abbrev pub senderBerth : Line → Berth
+  senderBerth l = record { rx = Rx.Idle; last = 0; tx = l .tx }
 
   -- ---- ticks
 
@@ -526,7 +447,7 @@ module _ (i j : ℕ) (set : Settings) (n : ℕ) (out : List ℕ) (E : List Hande
   take-go : (setS : Settings) (o : Sending) (t : ℕ) (p : Taking) (u last : ℕ) (ina : List ℕ) (k l : ℕ) (g : List Handed) → SendAt n o k
       → TakeAt n out p k ina → p .taken ≡ 0 → Ahead n k l → g ++ rest 0 k l ≡ E
       → (line : Line) → line ≡ under-way (Tx.AwaitsFlow o t) [] (goFrame set ∷ []) g (Rx.Awaits p u) last ina
-      → Nearer (pace * suc l + 1) (tookS line [] (frameCame setS (sending line) (goFrame set)))
+      → Nearer (pace * suc l + 1) (tookS line [] (frameCame setS (senderBerth line) (goFrame set)))
   unfolding tookS reported wordReports
   take-go setS o t p u last ina k l g s r z a w line e =
       let (x, y, v, left) = granted-go o in
@@ -545,7 +466,7 @@ module _ (i j : ℕ) (set : Settings) (n : ℕ) (out : List ℕ) (E : List Hande
       })) (omega arith))
 
   pub carries-S : (setS : Settings) (l : Line) (m : ℕ) (d : List ℕ) (q : List (List ℕ)) → l .toS ≡ d ∷ q → Phase l m
-      → Nearer m (tookS l q (frameCame setS (sending l) d))
+      → Nearer m (tookS l q (frameCame setS (senderBerth l) d))
   carries-S setS l m d q z (single-ready t last ina a b e) = absurd (nil≢cons z)
   carries-S setS l m d q z (single-sent last ina g a b e) = absurd (nil≢cons z)
   carries-S setS l m d q z (first-ready t last ina h a b c e) = absurd (nil≢cons z)
@@ -599,38 +520,16 @@ module _ (i j : ℕ) (set : Settings) (n : ℕ) (out : List ℕ) (E : List Hande
 
     -- the line after a frame that was not the last, and after the last
     pub took-more : (l : Line) (q : List (List ℕ)) (p : Taking) (u k : ℕ) → l .rx ≡ Rx.Awaits p u → TakeAt n out p k (l .ina) → posAt (suc k) < n
-        → tookR l q (frameCame set (receiving l) (frameAt n out k))
-        ≡ record {
-          tx = l .tx;
-          toR = q;
-          toS = l .toS;
-          log = l .log;
-          said = l .said;
-          rx = pick (fillsBlock (set .block) (p .taken)) (Rx.OwesGo (grown p 0) 0) (Rx.Awaits (grown p (counted (set .block) (p .taken))) 0);
-          last = l .last;
-          ina = sets (l .ina) (posAt k) (partAt n out k);
-          heard = l .heard ++ [];
-          delivered = l .delivered ++ [];
-        }
+        → tookR l q (frameCame set (takerBerth l) (frameAt n out k))
+        ≡ atTaker l (pick (fillsBlock (set .block) (p .taken)) (Rx.OwesGo (grown p 0) 0) (Rx.Awaits (grown p (counted (set .block) (p .taken))) 0)) (l .last) (sets (l .ina) (posAt k) (partAt n out k)) q (l .toS) (l .log) (l .heard ++ []) (l .delivered ++ [])
     unfolding tookR heardBy took afterTook wordReports reported deliveredIn
     took-more l q p u k e r m =
         let g : leb (missing p) consecutiveMost ≡ false = leb-not (missing p) consecutiveMost (unfold posAt in (omega (arith, m, missing-at p k (l .ina) r))) in
         rw (e, heard-right p u (l .last) (l .ina) k r, g, piece-at p k (l .ina) r, r .got)
 
     pub took-last : (l : Line) (q : List (List ℕ)) (p : Taking) (u k : ℕ) → l .rx ≡ Rx.Awaits p u → TakeAt n out p k (l .ina) → n ≤ posAt (suc k)
-        → tookR l q (frameCame set (receiving l) (frameAt n out k))
-        ≡ record {
-          tx = l .tx;
-          toR = q;
-          toS = l .toS;
-          log = l .log;
-          said = l .said;
-          rx = Rx.Idle;
-          last = n;
-          ina = sets (l .ina) (posAt k) (partAt n out k);
-          heard = l .heard ++ reported j receive N-OK;
-          delivered = l .delivered ++ (n ∷ []);
-        }
+        → tookR l q (frameCame set (takerBerth l) (frameAt n out k))
+        ≡ atTaker l Rx.Idle n (sets (l .ina) (posAt k) (partAt n out k)) q (l .toS) (l .log) (l .heard ++ reported j receive N-OK) (l .delivered ++ (n ∷ []))
     unfolding tookR heardBy completed wordReports deliveredIn
     took-last l q p u k e r m =
         let g : leb (missing p) consecutiveMost ≡ true = leb-is (missing p) consecutiveMost (unfold posAt in (omega (arith, m, missing-at p k (l .ina) r))) in
@@ -639,7 +538,7 @@ module _ (i j : ℕ) (set : Settings) (n : ℕ) (out : List ℕ) (E : List Hande
     take-in-block : (o : Sending) (t : ℕ) (q : List (List ℕ)) (p : Taking) (u last : ℕ) (ina : List ℕ) (k c l : ℕ) (g : List Handed)
         → InBlock q o p ina k (suc c) l g
         → (line : Line) → line ≡ under-way (Tx.Consecutive o t) q [] g (Rx.Awaits p u) last ina
-        → Nearer (pace * suc l + (o .left + suc c)) (tookR line (span n out c (suc k)) (frameCame set (receiving line) (frameAt n out k)))
+        → Nearer (pace * suc l + (o .left + suc c)) (tookR line (span n out c (suc k)) (frameCame set (takerBerth line) (frameAt n out k)))
     take-in-block o t q p u last ina k c l g r line e =
         let m : posAt (suc k) < n = unfold posAt in (omega (arith, r .sender .more)) in
         let room : fillsBlock (set .block) (p .taken) ≡ false = fills-no (set .block) (p .taken) (λ h. let (x, y) = r .counts h in omega arith) in
@@ -660,7 +559,7 @@ module _ (i j : ℕ) (set : Settings) (n : ℕ) (out : List ℕ) (E : List Hande
     take-block-full : (o : Sending) (t : ℕ) (q : List (List ℕ)) (p : Taking) (u last : ℕ) (ina : List ℕ) (k c l : ℕ) (g : List Handed)
         → BlockFull q o p ina k c l g
         → (line : Line) → line ≡ under-way (Tx.AwaitsFlow o t) q [] g (Rx.Awaits p u) last ina
-        → Nearer (pace * suc l + (3 + c)) (tookR line (span n out c (suc k)) (frameCame set (receiving line) (frameAt n out k)))
+        → Nearer (pace * suc l + (3 + c)) (tookR line (span n out c (suc k)) (frameCame set (takerBerth line) (frameAt n out k)))
     unfolding span
     take-block-full o t q p u last ina k zero l g r line e =
         let m : posAt (suc k) < n = unfold posAt in (omega (arith, r .sender .more)) in
@@ -687,7 +586,7 @@ module _ (i j : ℕ) (set : Settings) (n : ℕ) (out : List ℕ) (E : List Hande
 
     take-last : (q : List (List ℕ)) (p : Taking) (u last : ℕ) (ina : List ℕ) (k c : ℕ) (g : List Handed) → LastSent q p ina k c g
         → (line : Line) → line ≡ all-sent q g (Rx.Awaits p u) last ina
-        → Nearer (suc c) (tookR line (span n out c (suc k)) (frameCame set (receiving line) (frameAt n out k)))
+        → Nearer (suc c) (tookR line (span n out c (suc k)) (frameCame set (takerBerth line) (frameAt n out k)))
     unfolding span
     take-last q p u last ina k zero g r line e =
         let m : n ≤ posAt (suc k) = unfold posAt in (omega (arith, r .ahead .last)) in
@@ -732,7 +631,7 @@ module _ (i j : ℕ) (set : Settings) (n : ℕ) (out : List ℕ) (E : List Hande
           rw (first-length n out fit, first-kind n out fit c, first-fits n out fit a c, first-announced n out fit a c, ltb-not (set .area) n in-area, first-data n out fit a)
 
       pub carries-R : (l : Line) (m : ℕ) (d : List ℕ) (q : List (List ℕ)) → l .toR ≡ d ∷ q → Phase l m
-          → Nearer m (tookR l q (frameCame set (receiving l) d))
+          → Nearer m (tookR l q (frameCame set (takerBerth l) d))
       unfolding span
       carries-R l m d q z (single-ready t last ina a b e) = absurd (nil≢cons z)
       carries-R l m d q z (single-sent last ina g a b e) =

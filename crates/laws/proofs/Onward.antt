@@ -20,7 +20,7 @@ use Rattle.rules.specs.declared.Tx.{Tx}
 use Rattle.rules.proofs.Cases.{Tested, holds, fails, eqb-cases, ltb-is, pick-either}
 use Rattle.laws.specs.Line.{Handed, gapLeft}
 use Rattle.laws.proofs.Frames.{posAt, span, frameAt}
-use Rattle.laws.proofs.Line.{Line, TakeAt, pace, Phase, single-ready, single-sent, first-ready, first-sent, go-owed, go-sent, in-block, block-full, last-sent, arrived, under-way, all-sent, Nearer, handS, handR, tickS, tickR, tookR, tookS, receiving, sending, gap-falls, gap-closes, went, granted-go, took-more, took-last, heard-single, heard-first}
+use Rattle.laws.proofs.Line.{Line, TakeAt, pace, Phase, single-ready, single-sent, first-ready, first-sent, go-owed, go-sent, in-block, block-full, last-sent, arrived, under-way, all-sent, Nearer, handS, handR, tickS, tickR, tookR, tookS, takerBerth, senderBerth, gap-falls, gap-closes, went, granted-go, took-more, took-last, heard-single, heard-first}
 
 -- the timer of a side that awaits, and the gap left of one that sends
 unfoldable pub timer : Rx → ℕ
@@ -78,13 +78,13 @@ module _ (i j : ℕ) (set : Settings) (n : ℕ) (out : List ℕ) (E : List Hande
   module _ (fit : n ≤ length out) (some : 1 ≤ n) (in-area : n ≤ set .area) (small : set .area ≤ shortMost) where
     -- a frame of the message that comes in sets the taker's timer to 0
     timer-more : (l : Line) (q : List (List ℕ)) (p : Taking) (u k : ℕ) → l .rx ≡ Rx.Awaits p u → TakeAt n out p k (l .ina) → posAt (suc k) < n
-        → timer (tookR i j set n out E l q (frameCame set (receiving i j set n out E l) (frameAt n out k)) .rx) ≡ 0
+        → timer (tookR i j set n out E l q (frameCame set (takerBerth i j set n out E l) (frameAt n out k)) .rx) ≡ 0
     timer-more l q p u k e r m =
         ap (λ (x : Line). timer (x .rx)) (took-more i j set n out E fit l q p u k e r m)
         ∙ pick-either (λ (x : Rx). timer x ≡ 0) (fillsBlock (set .block) (p .taken)) _ _ (λ t. unfold timer in refl) (λ t. unfold timer in refl)
 
     timer-there : (l : Line) (m : ℕ) (d : List ℕ) (q : List (List ℕ)) → l .toR ≡ d ∷ q → Phase i j set n out E l m
-        → timer (tookR i j set n out E l q (frameCame set (receiving i j set n out E l) d) .rx) ≡ 0
+        → timer (tookR i j set n out E l q (frameCame set (takerBerth i j set n out E l) d) .rx) ≡ 0
     unfolding span
     timer-there l m d q z (single-ready t last ina a b e) = absurd (nil≢cons z)
     timer-there l m d q z (single-sent last ina g a b e) =
@@ -111,14 +111,14 @@ module _ (i j : ℕ) (set : Settings) (n : ℕ) (out : List ℕ) (E : List Hande
     timer-there l m d q z (arrived ina g a e) = absurd (nil≢cons z)
 
     pub young-there : (l : Line) (m : ℕ) (d : List ℕ) (q : List (List ℕ)) → l .toR ≡ d ∷ q → Phase i j set n out E l m
-        → Young (tookR i j set n out E l q (frameCame set (receiving i j set n out E l) d))
+        → Young (tookR i j set n out E l q (frameCame set (takerBerth i j set n out E l) d))
     young-there l m d q e ph z =
         let t = timer-there l m d q e ph in
-        let same : tookR i j set n out E l q (frameCame set (receiving i j set n out E l) d) .tx ≡ l .tx = unfold tookR in refl in
+        let same : tookR i j set n out E l q (frameCame set (takerBerth i j set n out E l) d) .tx ≡ l .tx = unfold tookR in refl in
         omega (arith, gap-most l m ph, ap gapNow same)
 
     pub young-back : (setS : Settings) (l : Line) (m : ℕ) (d : List ℕ) (q : List (List ℕ)) → l .toS ≡ d ∷ q → Phase i j set n out E l m → Young l
-        → Young (tookS i j set n out E l q (frameCame setS (sending i j set n out E l) d))
+        → Young (tookS i j set n out E l q (frameCame setS (senderBerth i j set n out E l) d))
     young-back setS l m d q z (single-ready t last ina a b e) y = absurd (nil≢cons z)
     young-back setS l m d q z (single-sent last ina g a b e) y = absurd (nil≢cons z)
     young-back setS l m d q z (first-ready t last ina h a b c e) y = absurd (nil≢cons z)

@@ -1,15 +1,15 @@
 -- The reports of berth k in an answer are those in what the answer says of k; so the reports of a run, too, are those of the berth's
 -- own events. And a show returns what the berth's own part holds.
 use mathlib.Core.Path.{_≡_, refl, sym, ap, ap₂, _∙_}
-use Prim.Native.Nat.{ℕ, zero, suc, _+_, _*_, _<_}
+use Prim.Native.Nat.{ℕ, zero, suc, _+_, _-_, _*_, _≤_, _<_}
 use native.Mathlib.Omega.{arith}
 use mathlib.Core.Bool.{Bool, true, false, _&&_}
 use mathlib.Core.List.{List, [], _∷_, _++_, append-assoc, append-nil}
 use lib.ListN.{length, getD, take}
-use lib.Dec.{T, eqb, ltb}
+use lib.Dec.{T, eqb, ltb, leb}
 use mir.Facts.{yes-eqb, yes-ltb, yes-and}
 use Rattle.rules.specs.Tests.{pick}
-use Rattle.rules.specs.Numbers.{berthCount, N-OK}
+use Rattle.rules.specs.Numbers.{berthCount, toBerth, N-OK}
 use Rattle.rules.specs.Nodes.{berthAt, Held}
 use Rattle.rules.specs.Ranges.{inOrder}
 use Rattle.rules.specs.Turns.{lengthSending}
@@ -17,13 +17,13 @@ use Rattle.rules.specs.Stores.{rightStore, areaOf}
 use Rattle.rules.specs.Answers.{Answer, refused, ready, heard, codes, sent, handed, none, shown, Side, receive, send, Report, reported, failedSide, wordReports, codesReports, reports}
 use Rattle.rules.specs.Events.{Call}
 use Rattle.rules.specs.Calls.{answers, showable, chosen, shownLength, showing}
-use Rattle.rules.specs.Alone.{Says, partOf, accepts, saysAll}
+use Rattle.rules.specs.Alone.{Says, partOf, saysAll}
 use Rattle.rules.specs.declared.Choice.{Choice}
 use Rattle.rules.specs.declared.Codes.{Codes}
 use Rattle.rules.specs.declared.Word.{Word}
 use Rattle.rules.specs.declared.Word.the-variants.{Delivered, Begun, Failed, Ignored, TooLong, Took, Going, Waiting}
-use Rattle.rules.proofs.Cases.{Tested, holds, fails, eqb-cases, eqb-is, eqb-not, is-true, pick-either}
-use Rattle.laws.specs.Own.{over, only, owns, takerOf, noCodes, heardOf, ofBerth, saidReports, partShown}
+use Rattle.rules.proofs.Cases.{Tested, holds, fails, leb-cases, eqb-cases, eqb-is, eqb-not, is-true, pick-either}
+use Rattle.laws.specs.Own.{over, only, owns, noCodes, saysOf, ofBerth, saidReports, partShown}
 use Rattle.laws.proofs.Isolation.{berth-says}
 
 -- ---- lists of reports
@@ -93,33 +93,34 @@ module _ (k : ℕ) where
 
   -- ---- one answer
 
-  pub reports-of : (a : Answer) → ofBerth k (reports a) ≡ over (saidReports k) (heardOf k a)
-  unfolding reports heardOf over saidReports ofBerth only
+  pub reports-of : (a : Answer) → ofBerth k (reports a) ≡ over (saidReports k) (saysOf k a)
+  unfolding reports saysOf over saidReports ofBerth only
   reports-of (refused n) = refl
   reports-of ready = refl
   reports-of (heard j old w) = go (eqb-cases j k)
     where
-      go : Tested (eqb j k) (j ≡ k) (j ≡ k → ⊥) → ofBerth k (reports (heard j old w)) ≡ over (saidReports k) (heardOf k (heard j old w))
+      go : Tested (eqb j k) (j ≡ k) (j ≡ k → ⊥) → ofBerth k (reports (heard j old w)) ≡ over (saidReports k) (saysOf k (heard j old w))
       go (holds t e) = rw (of-append, reported-of k j receive old, word-of k j w, t, append-nil, e)
       go (fails t e) = rw (of-append, reported-of k j receive old, word-of k j w, t)
   reports-of (codes cs) = codes-at cs k 0 (omega arith) ∙ sym (append-nil _)
   reports-of (sent j) = pick-either (λ (xs : List Says). [] ≡ over (saidReports k) xs) (eqb j k) _ _ (λ t. refl) (λ t. refl)
-  reports-of (handed id f c passed) = go (eqb-cases (takerOf id) k)
+  reports-of (handed id f c passed) = go (leb-cases toBerth id) (eqb-cases (id - toBerth) k)
     where
-      go : Tested (eqb (takerOf id) k) (takerOf id ≡ k) (takerOf id ≡ k → ⊥)
-          → ofBerth k (reports (handed id f c passed)) ≡ over (saidReports k) (heardOf k (handed id f c passed))
-      go (holds t e) = rw (reported-of k (takerOf id) send c, t, append-nil, e)
-      go (fails t e) = rw (reported-of k (takerOf id) send c, t)
+      go : Tested (leb toBerth id) (toBerth ≤ id) (id < toBerth) → Tested (eqb (id - toBerth) k) (id - toBerth ≡ k) (id - toBerth ≡ k → ⊥)
+          → ofBerth k (reports (handed id f c passed)) ≡ over (saidReports k) (saysOf k (handed id f c passed))
+      go (holds l u) (holds t e) = rw (l, reported-of k (id - toBerth) send c, t, append-nil, e)
+      go (holds l u) (fails t e) = rw (l, reported-of k (id - toBerth) send c, t)
+      go (fails l u) t = rw l
   reports-of (none passed) = refl
   reports-of (shown part) = refl
 
-  reports-all : (rs : List Answer) → ofBerth k (over reports rs) ≡ over (saidReports k) (over (heardOf k) rs)
+  reports-all : (rs : List Answer) → ofBerth k (over reports rs) ≡ over (saidReports k) (over (saysOf k) rs)
   unfolding over
   reports-all [] = unfold ofBerth only in refl
   reports-all (a ∷ rs) =
       of-append k (reports a) (over reports rs)
       ∙ ap₂ (λ (q r : List Report). q ++ r) (reports-of a) (reports-all rs)
-      ∙ sym (over-append (saidReports k) (heardOf k a) (over (heardOf k) rs))
+      ∙ sym (over-append (saidReports k) (saysOf k a) (over (saysOf k) rs))
 
 -- EACH BERTH'S REPORTS. The reports of berth k in the answers of any run are those in what its own events say on that berth alone.
 pub berth-reports : (k : ℕ) (h : Held) (cs : List Call)

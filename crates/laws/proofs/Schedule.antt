@@ -27,13 +27,13 @@ use Rattle.rules.proofs.Ranges.{range-in-order}
 use Rattle.rules.proofs.Round.{near}
 use Rattle.laws.specs.Own.{over, ownDone, own, Sound}
 use Rattle.laws.specs.Sides.{sameSide, sideOf, turnSide}
-use Rattle.laws.specs.Line.{Handed, World, callA, callB, carriedA, carriedB, Deed, atA, atB, carryA, carryB, acts, living, spares, Spares, Apart, AllApart, AtRest, MayBegin, Arrived, begin, Act, turnA, turnB, bringA, bringB, tickBoth, blank, deedsOf, Finishes}
+use Rattle.laws.specs.Line.{Handed, World, leftA, leftB, callA, callB, carriedA, carriedB, Deed, atA, atB, carryA, carryB, acts, living, spares, Spares, Apart, AllApart, AtRest, MayBegin, Arrived, begin, Act, turnA, turnB, bringA, bringB, tickBoth, blank, deedsOf, Finishes}
 use Rattle.laws.proofs.Isolation.{settings-step, part-step}
 use Rattle.laws.proofs.SetUp.{sound-step}
 use Rattle.laws.proofs.Round.{some-reached, nearer}
 use Rattle.laws.proofs.Touch.{SparedBy, TurnOf, own-is, held-is, own-k, turn-of-side, turn-of-other, other-berth, touch-tick, none-delivered, all-met}
 use Rattle.laws.proofs.Line.{Line, Phase, Nearer, tickS, tickR, hands-S, hands-R, there-whole, back-whole}
-use Rattle.laws.proofs.World.{lineOf, Alive, after-A, after-B, alive-carriedA, alive-carriedB, spared-A, tick-A, turn-A, spared-B, tick-B, turn-B, took-A, took-B, outA, setB, expected, fit-a, small-b, begun-alive, line-law}
+use Rattle.laws.proofs.World.{lineIn, Alive, after-A, after-B, alive-carriedA, alive-carriedB, spared-A, tick-A, turn-A, spared-B, tick-B, turn-B, took-A, took-B, outA, setB, expected, fit-a, small-b, begun-alive, line-law}
 use Rattle.laws.proofs.Onward.{Young, young-start, young-handed, young-flow, young-there, young-back, Next, bring-there, bring-back, hand-message, hand-flow, wait, at-end, next}
 
 -- ---- a call for a frame is answered by a sound node
@@ -148,7 +148,7 @@ module _ (i j : ℕ) (small-i : i < berthCount) (small-j : j < berthCount) (set 
 
   record Onto (w : World) (m : ℕ) (w′ : World) : Type 0 where
     alive : Lives w′
-    young : Young (lineOf i j w′)
+    young : Young (lineIn i j w′)
     less : far w′ (alive .steps) < far w m
 
   -- fewer steps to come is less far, whatever the waits are
@@ -158,36 +158,36 @@ module _ (i j : ℕ) (small-i : i < berthCount) (small-j : j < berthCount) (set 
 
   -- ---- what to do next, done
 
-  onto-there : (w : World) (s : Lives w) (d : List ℕ) (q : List (List ℕ)) → lineOf i j w .toR ≡ d ∷ q → Onto w (s .steps) (acts i j w carryB)
+  onto-there : (w : World) (s : Lives w) (d : List ℕ) (q : List (List ℕ)) → lineIn i j w .toR ≡ d ∷ q → Onto w (s .steps) (acts i j w carryB)
   unfolding acts
   onto-there w s d q e =
-      let z : w .toB ≡ d ∷ q = unfold lineOf in e in
+      let z : w .toB ≡ d ∷ q = unfold lineIn in e in
       let g = alive-carriedB i j small-i small-j set n out E fit some-bytes in-area small w d q z s in
-      let (l, k) = there-whole i j set n out E fit some-bytes in-area small (lineOf i j w) (s .steps) d q e (s .phase) in
+      let (l, k) = there-whole i j set n out E fit some-bytes in-area small (lineIn i j w) (s .steps) d q e (s .phase) in
       let line = took-B i j small-i small-j set n out E w d q (s .sound-b) (s .settings-b) (omega arith) k in
-      let y : Young (lineOf i j (carriedB j w (d ∷ q))) =
-      subst (λ (x : Line). Young x) (sym line) (young-there i j set n out E fit some-bytes in-area small (lineOf i j w) (s .steps) d q e (s .phase)) in
+      let y : Young (lineIn i j (carriedB j w (d ∷ q))) =
+      subst (λ (x : Line). Young x) (sym line) (young-there i j set n out E fit some-bytes in-area small (lineIn i j w) (s .steps) d q e (s .phase)) in
       subst (λ (x : List (List ℕ)). Onto w (s .steps) (carriedB j w x)) (sym z)
       (record { alive = g .alive; young = y; less = fewer-steps w (carriedB j w (d ∷ q)) (s .steps) (g .alive .steps) (g .fewer) })
 
-  onto-back : (w : World) (s : Lives w) → Young (lineOf i j w) → (d : List ℕ) (q : List (List ℕ)) → lineOf i j w .toS ≡ d ∷ q → Onto w (s .steps) (acts i j w carryA)
+  onto-back : (w : World) (s : Lives w) → Young (lineIn i j w) → (d : List ℕ) (q : List (List ℕ)) → lineIn i j w .toS ≡ d ∷ q → Onto w (s .steps) (acts i j w carryA)
   unfolding acts
   onto-back w s young d q e =
-      let z : w .toA ≡ d ∷ q = unfold lineOf in e in
+      let z : w .toA ≡ d ∷ q = unfold lineIn in e in
       let g = alive-carriedA i j small-i small-j set n out E fit some-bytes in-area small w d q z s in
-      let (l, k) = back-whole i j set n out E fit some-bytes in-area small (lineOf i j w) (s .steps) d q e (s .phase) in
+      let (l, k) = back-whole i j set n out E fit some-bytes in-area small (lineIn i j w) (s .steps) d q e (s .phase) in
       let (line, o) = took-A i j small-i small-j set n out E w d q (s .sound-a) (omega arith) k in
-      let y : Young (lineOf i j (carriedA i w (d ∷ q))) =
-      subst (λ (x : Line). Young x) (sym line) (young-back i j set n out E fit some-bytes in-area small (w .a .node .settings) (lineOf i j w) (s .steps) d q e (s .phase) young) in
+      let y : Young (lineIn i j (carriedA i w (d ∷ q))) =
+      subst (λ (x : Line). Young x) (sym line) (young-back i j set n out E fit some-bytes in-area small (w .a .node .settings) (lineIn i j w) (s .steps) d q e (s .phase) young) in
       subst (λ (x : List (List ℕ)). Onto w (s .steps) (carriedA i w x)) (sym z)
       (record { alive = g .alive; young = y; less = fewer-steps w (carriedA i w (d ∷ q)) (s .steps) (g .alive .steps) (g .fewer) })
 
   shorter-A : (w : World) (c : Call) (m : ℕ) → waiting sendSide i (outcome (w .a) c .held) < waiting sendSide i (w .a) → far (callA i w c) m < far w m
-  unfolding far callA
+  unfolding far leftA
   shorter-A w c m h = omega arith
 
   shorter-B : (w : World) (c : Call) (m : ℕ) → waiting receive j (outcome (w .b) c .held) < waiting receive j (w .b) → far (callB j w c) m < far w m
-  unfolding far callB
+  unfolding far leftB
   shorter-B w c m h = omega arith
 
   message-due : (h : Held) → T (messageDue (berthAt (h .node) i .tx)) → T (due (sideOf sendSide (partOf i h) .berth))
@@ -198,16 +198,16 @@ module _ (i j : ℕ) (small-i : i < berthCount) (small-j : j < berthCount) (set 
   unfolding due sideOf partOf
   flow-due h t = rw (is-true (flowDue (berthAt (h .node) j .rx)) t) tt
 
-  onto-message : (w : World) (s : Lives w) → Young (lineOf i j w) → T (messageDue (lineOf i j w .tx)) → Onto w (s .steps) (acts i j w (atA (turn blank)))
+  onto-message : (w : World) (s : Lives w) → Young (lineIn i j w) → T (messageDue (lineIn i j w .tx)) → Onto w (s .steps) (acts i j w (atA (turn blank)))
   unfolding acts after-A
   onto-message w s young t =
       ⊎-elim
       (λ x.
       let (d, line, o) = turn-A i j small-i small-j set n out E w (turn blank) (s .kept) x in
-      let (m, h, ph) = hands-S i j set n out E (lineOf i j w) (s .steps) t (s .phase) in
+      let (m, h, ph) = hands-S i j set n out E (lineIn i j w) (s .steps) t (s .phase) in
       record {
         alive = after-A i j small-i small-j set n out E w (turn blank) s m (subst (λ (l : Line). Phase i j set n out E l m) (sym line) ph) o;
-        young = subst (λ (l : Line). Young l) (sym line) (young-handed i j set n out E (lineOf i j w));
+        young = subst (λ (l : Line). Young l) (sym line) (young-handed i j set n out E (lineIn i j w));
         less = fewer-steps w (callA i w (turn blank)) (s .steps) m h;
       })
       (λ x.
@@ -217,23 +217,23 @@ module _ (i j : ℕ) (small-i : i < berthCount) (small-j : j < berthCount) (set 
         young = subst (λ (l : Line). Young l) (sym line) young;
         less = shorter-A w (turn blank) (s .steps) (x .1);
       })
-      (turn-or-shorter sendSide i (w .a) (s .sound-a) small-i (message-due (w .a) (unfold lineOf in t)))
+      (turn-or-shorter sendSide i (w .a) (s .sound-a) small-i (message-due (w .a) (unfold lineIn in t)))
 
   free-turn : (k : ℕ) (s : Side) (h : Held) → Spares s k h (turn blank)
   unfolding spares
   free-turn k s h e = tt
 
-  onto-flow : (w : World) (s : Lives w) → Young (lineOf i j w) → T (flowDue (lineOf i j w .rx)) → Onto w (s .steps) (acts i j w (atB (turn blank)))
+  onto-flow : (w : World) (s : Lives w) → Young (lineIn i j w) → T (flowDue (lineIn i j w .rx)) → Onto w (s .steps) (acts i j w (atB (turn blank)))
   unfolding acts after-B
   onto-flow w s young t =
       let none = none-delivered j (w .b) (s .sound-b) small-j (turn blank) (free-turn j receive (w .b)) in
       ⊎-elim
       (λ x.
       let (d, line) = turn-B i j small-i small-j set n out E w (turn blank) (s .settings-b) none x in
-      let (m, h, ph) = hands-R i j set n out E (lineOf i j w) (s .steps) t (s .phase) in
+      let (m, h, ph) = hands-R i j set n out E (lineIn i j w) (s .steps) t (s .phase) in
       record {
         alive = after-B i j small-i small-j set n out E w (turn blank) s m (subst (λ (l : Line). Phase i j set n out E l m) (sym line) ph);
-        young = subst (λ (l : Line). Young l) (sym line) (young-flow i j set n out E (lineOf i j w) (s .steps) (s .phase) t);
+        young = subst (λ (l : Line). Young l) (sym line) (young-flow i j set n out E (lineIn i j w) (s .steps) (s .phase) t);
         less = fewer-steps w (callB j w (turn blank)) (s .steps) m h;
       })
       (λ x.
@@ -243,30 +243,30 @@ module _ (i j : ℕ) (small-i : i < berthCount) (small-j : j < berthCount) (set 
         young = subst (λ (l : Line). Young l) (sym line) young;
         less = shorter-B w (turn blank) (s .steps) (x .1);
       })
-      (turn-or-shorter receive j (w .b) (s .sound-b) small-j (flow-due (w .b) (unfold lineOf in t)))
+      (turn-or-shorter receive j (w .b) (s .sound-b) small-j (flow-due (w .b) (unfold lineIn in t)))
 
   -- a tick on both nodes
   abbrev ticked-both : World → World
   ticked-both w = callB j (callA i w tick) tick
 
-  code-A : (w : World) → txCode (lineOf i j w .tx) ≡ 0 → T (spares sendSide i (w .a) tick)
-  unfolding spares lineOf
+  code-A : (w : World) → txCode (lineIn i j w .tx) ≡ 0 → T (spares sendSide i (w .a) tick)
+  unfolding spares lineIn
   code-A w z = yes-eqb z
 
-  code-B : (w : World) → rxCode (lineOf i j w .rx) ≡ 0 → T (spares receive j (callA i w tick .b) tick)
-  unfolding spares lineOf callA
+  code-B : (w : World) → rxCode (lineIn i j w .rx) ≡ 0 → T (spares receive j (callA i w tick .b) tick)
+  unfolding spares lineIn leftA
   code-B w z = yes-eqb z
 
-  onto-tick : (w : World) (s : Lives w) → txCode (lineOf i j w .tx) ≡ 0 → rxCode (lineOf i j w .rx) ≡ 0
-      → Nearer i j set n out E (s .steps) (tickR i j set n out E (tickS i j set n out E (lineOf i j w)))
-      → Young (tickR i j set n out E (tickS i j set n out E (lineOf i j w))) → Onto w (s .steps) (ticked-both w)
-  unfolding callA callB
+  onto-tick : (w : World) (s : Lives w) → txCode (lineIn i j w .tx) ≡ 0 → rxCode (lineIn i j w .rx) ≡ 0
+      → Nearer i j set n out E (s .steps) (tickR i j set n out E (tickS i j set n out E (lineIn i j w)))
+      → Young (tickR i j set n out E (tickS i j set n out E (lineIn i j w))) → Onto w (s .steps) (ticked-both w)
+  unfolding leftA leftB
   onto-tick w s za zb near young =
       let v : World = callA i w tick in
       let (x, line-a, o) = tick-A i j small-i small-j set n out E w tick (s .kept) (touch-tick i (w .a) sendSide (tick-met (w .a) (s .sound-a)) (code-A w za)) in
       let none = none-delivered j (w .b) (s .sound-b) small-j tick (λ e. code-B w zb) in
       let (y, line-b) = tick-B i j small-i small-j set n out E (callA i w tick) tick none (touch-tick j (w .b) receive (tick-met (w .b) (s .sound-b)) (code-B w zb)) in
-      let line : lineOf i j (ticked-both w) ≡ tickR i j set n out E (tickS i j set n out E (lineOf i j w)) = line-b ∙ ap (tickR i j set n out E) line-a in
+      let line : lineIn i j (ticked-both w) ≡ tickR i j set n out E (tickS i j set n out E (lineIn i j w)) = line-b ∙ ap (tickR i j set n out E) line-a in
       let (m, h, ph) = near in
       record {
         alive = record {
@@ -300,12 +300,12 @@ module _ (i j : ℕ) (small-i : i < berthCount) (small-j : j < berthCount) (set 
   abbrev Ends : World → Type 0
   Ends w = (schedule : List Act) × Finishes i j w schedule
 
-  finish : (fuel : ℕ) (w : World) (s : Lives w) → Young (lineOf i j w) → far w (s .steps) < fuel → Ends w
+  finish : (fuel : ℕ) (w : World) (s : Lives w) → Young (lineIn i j w) → far w (s .steps) < fuel → Ends w
   finish zero w s young h = absurd (omega arith)
-  finish (suc fuel) w s young h = go (next i j set n out E fit some-bytes in-area small (lineOf i j w) (s .steps) (s .phase) young)
+  finish (suc fuel) w s young h = go (next i j set n out E fit some-bytes in-area small (lineIn i j w) (s .steps) (s .phase) young)
       (λ w′ o. finish fuel w′ (o .alive) (o .young) (omega (arith, o .less)))
     where
-      go : Next i j set n out E fit some-bytes in-area small (lineOf i j w) (s .steps) → ((w′ : World) → Onto w (s .steps) w′ → Ends w′) → Ends w
+      go : Next i j set n out E fit some-bytes in-area small (lineIn i j w) (s .steps) → ((w′ : World) → Onto w (s .steps) w′ → Ends w′) → Ends w
       go (bring-there d q e) on = let (r, f) = on (acts i j w carryB) (onto-there w s d q e) in (bringB ∷ r, before w bringB carryB r (unfold deedsOf in refl) tt f)
       go (bring-back d q e) on = let (r, f) = on (acts i j w carryA) (onto-back w s young d q e) in (bringA ∷ r, before w bringA carryA r (unfold deedsOf in refl) tt f)
       go (hand-message t) on =
@@ -317,7 +317,7 @@ module _ (i j : ℕ) (small-i : i < berthCount) (small-j : j < berthCount) (set 
       go (wait a b near y) on =
           let (r, f) = on (ticked-both w) (onto-tick w s a b near y) in
           (tickBoth ∷ r, before-tick w r (λ e. code-A w a) (λ e. code-B w b) f)
-      go (at-end a b c d e) on = ([], record { apart = unfold over AllApart in tt; rest = unfold over living lineOf in (record { none-there = a; none-back = b; none-due = c; no-gap = d; no-flow = e }) })
+      go (at-end a b c d e) on = ([], record { apart = unfold over AllApart in tt; rest = unfold over living lineIn in (record { none-there = a; none-back = b; none-due = c; no-gap = d; no-flow = e }) })
 
 -- THE LINE'S LAW IS NOT EMPTY. For every message, both areas, block sizes and STmin, from every start that the law allows (other berths
 -- due included), there is a schedule in which every tick falls on both nodes, nothing touches the two sides, no timer of theirs
@@ -326,13 +326,13 @@ pub schedule-exists : (i j : ℕ) (m : List ℕ) (a b : Held) → MayBegin i j m
     → (schedule : List Act) × Finishes i j (begin i m a b) schedule × Arrived i j m (living i j (begin i m a b) (over deedsOf schedule))
 schedule-exists i j m a b may =
     let s = begun-alive i j m a b may in
-    let idle : lineOf i j (begin i m a b) .rx ≡ Rx.Idle = unfold lineOf in (may .idle-b) in
+    let idle : lineIn i j (begin i m a b) .rx ≡ Rx.Idle = unfold lineIn in (may .idle-b) in
     let (schedule, f) =
     finish i j (may .small-i) (may .small-j) (setB i j m a b may) (length m) (outA i j m a b may) (expected i j m a b may)
     (fit-a i j m a b may) (may .some) (may .fits-b) (small-b i j m a b may)
     (suc (far i j (may .small-i) (may .small-j) (setB i j m a b may) (length m) (outA i j m a b may) (expected i j m a b may)
     (fit-a i j m a b may) (may .some) (may .fits-b) (small-b i j m a b may) (begin i m a b) (s .steps)))
     (begin i m a b) s
-    (young-start i j (setB i j m a b may) (length m) (outA i j m a b may) (expected i j m a b may) (lineOf i j (begin i m a b)) (s .steps) (s .phase) idle)
+    (young-start i j (setB i j m a b may) (length m) (outA i j m a b may) (expected i j m a b may) (lineIn i j (begin i m a b)) (s .steps) (s .phase) idle)
     (omega arith) in
     (schedule, f, line-law i j m a b may (over deedsOf schedule) (f .apart) (f .rest))

@@ -14,13 +14,13 @@ use Rattle.rules.specs.Stores.{areaOf, stored, setUpNode, passedOver}
 use Rattle.rules.specs.Answers.{Answer}
 use Rattle.rules.specs.Events.{Call, frame, tick, send, turn, show}
 use Rattle.rules.specs.Refusals.{refusal, setUpRefusal}
-use Rattle.rules.specs.Calls.{afterFrame, done, reply, written, bufferOf, refusedOutcome, outcome, setUpOutcome, final}
+use Rattle.rules.specs.Calls.{afterFrame, done, reply, written, bufferOf, refusedOutcome, outcome, setUpOutcome, answers, final}
 use Rattle.rules.specs.Alone.{Part, partOf}
 use Rattle.rules.specs.declared.Settings.{Settings}
 use Rattle.rules.proofs.Cases.{pick-either}
 use Rattle.rules.proofs.Ranges.{range-in-order}
 use Rattle.rules.proofs.Order.{order-kept, set-up-in-order}
-use Rattle.laws.specs.Own.{partShown, Sound, setUp, freshPart, Alone}
+use Rattle.laws.specs.Own.{owns, partShown, Sound, setUp, freshPart, Alone}
 use Rattle.laws.proofs.Isolation.{settings-step, berth-alone, berth-says}
 use Rattle.laws.proofs.Reports.{berth-reports, berth-shown}
 
@@ -83,7 +83,7 @@ unfolding setUpNode
 set-up-settings h s e = ap (λ (g : Held). g .node .settings) (set-up-held h s e)
 
 -- EACH BERTH ALONE, in any run of the five calls from any start.
-pub each-alone : (h : Held) (cs : List Call) (k : ℕ) → k < berthCount → Alone (h .node .settings) (partOf k h) k h cs
+pub each-alone : (h : Held) (cs : List Call) (k : ℕ) → k < berthCount → Alone (h .node .settings) (partOf k h) k h (owns k h cs) (answers h cs) (final h cs)
 each-alone h cs k l =
     record {
       part = berth-alone k h cs;
@@ -99,7 +99,7 @@ each-alone h cs k l =
 -- throughout. Each berth's state, areas, words, codes, frames and reports, and what is shown of it, are those that the rules give
 -- for that berth alone, fresh at the start: its own frames and sends, all ticks, and the turns it received, refused calls left out.
 pub each-alone-after-set-up : (h : Held) (s : Settings) (cs : List Call) (k : ℕ) → k < berthCount
-    → setUpRefusal (s .area) (s .block) (s .stmin) ≡ 0 → Alone s (freshPart h s k) k (setUp h s) cs
+    → setUpRefusal (s .area) (s .block) (s .stmin) ≡ 0 → Alone s (freshPart h s k) k (setUp h s) (owns k (setUp h s) cs) (answers (setUp h s) cs) (final (setUp h s) cs)
 each-alone-after-set-up h s cs k l e = rw (set-up-settings h s e, set-up-part h s k l e) at (each-alone (setUp h s) cs k l)
 
 -- after it what is lent is sound, if the stores have their lengths

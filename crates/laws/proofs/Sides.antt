@@ -10,35 +10,34 @@ use lib.Seq.{sets}
 use lib.Dec.{eqb, leb}
 use Rattle.rules.specs.Tests.{pick}
 use Rattle.rules.specs.Numbers.{singleKind, firstKind, consecutiveKind, flowKind, goStatus, waitStatus, overflowStatus, consecutiveMost, noData, otherKind}
-use Rattle.rules.specs.Nodes.{fresh, Held}
+use Rattle.rules.specs.Nodes.{fresh}
 use Rattle.rules.specs.Frames.{kind, low, singleFits, announced, firstFits, consecutiveFits, flowFits}
 use Rattle.rules.specs.Arrivals.{Heard, Told, Came, ignored, singleCame, firstCame, aboveArea, turnedAway, begun, missing, completed, took, wrongSn, awaitedCame, consecutiveCame, byStatus, flowIgnored, flowCame, heardBy, toldBy, byKind, frameCame}
 use Rattle.rules.specs.Ticks.{ticked, rxCode, txCode}
 use Rattle.rules.specs.Turns.{flowDue, handOver, sent}
-use Rattle.rules.specs.Answers.{Side, receive, send, Report, reported, failedSide, wordReports, reports}
-use Rattle.rules.specs.Events.{Call, Event, arrives, ticks, sends, turns}
-use Rattle.rules.specs.Calls.{final, answers}
-use Rattle.rules.specs.Alone.{Part, partOf, Says, hears, hands, partAfter, says, alone, saysAll}
+use Rattle.rules.specs.Answers.{Side, receive, send, Report, reported, failedSide, wordReports}
+use Rattle.rules.specs.Events.{Event, arrives, ticks, sends, turns}
+use Rattle.rules.specs.Alone.{Part, Says, hears, hands, partAfter, says, alone, saysAll}
 use Rattle.rules.specs.declared.Settings.{Settings}
 use Rattle.rules.specs.declared.Rx.{Rx}
 use Rattle.rules.specs.declared.Tx.{Tx}
 use Rattle.rules.specs.declared.Berth.{Berth}
 use Rattle.rules.proofs.Cases.{Tested, holds, fails, eqb-cases, eqb-not, pick-either}
-use Rattle.laws.specs.Own.{over, only, owns, ofBerth, saidReports}
+use Rattle.laws.specs.Own.{over, only, saidReports}
 use Rattle.laws.specs.Sides.{sameSide, sideOf, frameSide, turnSide, forSide, sideEvents, onlySide, sideSays, ofSide}
-use Rattle.laws.proofs.Isolation.{berth-alone, alone-append, says-append}
-use Rattle.laws.proofs.Reports.{over-append, only-append, berth-reports}
+use Rattle.laws.proofs.Isolation.{alone-append, says-append}
+use Rattle.laws.proofs.Reports.{over-append, only-append}
 
 -- ---- a frame that is no flow control: the send side stays, and nothing depends on it
 
 -- the same with another send side
-unfoldable pub withTx : Tx → Came → Came
-withTx tx c =
+unfoldable pub cameWithTx : Tx → Came → Came
+cameWithTx tx c =
     record { berth = record { rx = c .berth .rx; last = c .berth .last; tx = tx }; old = c .old; word = c .word; place = c .place; bytes = c .bytes }
 
 pub came-receive : (set : Settings) (b : Berth) (d : List ℕ) → (kind d ≡ flowKind → ⊥)
-    → frameCame set b d ≡ withTx (b .tx) (frameCame set (record { rx = b .rx; last = b .last; tx = fresh .tx }) d)
-unfolding frameCame byKind heardBy withTx
+    → frameCame set b d ≡ cameWithTx (b .tx) (frameCame set (record { rx = b .rx; last = b .last; tx = fresh .tx }) d)
+unfolding frameCame byKind heardBy cameWithTx
 came-receive set b d ne =
     rw (eqb-not (kind d) flowKind ne) (go (eqb (length d) 0) (eqb (kind d) singleKind) (eqb (kind d) firstKind) (eqb (kind d) consecutiveKind))
   where
@@ -50,7 +49,7 @@ came-receive set b d ne =
         (pick w (heardBy c (consecutiveCame set (c .rx) (c .last) d))
         (heardBy c (ignored otherKind (c .rx) (c .last))))))
 
-    go : (t u v w : Bool) → by b t u v w ≡ withTx (b .tx) (by (record { rx = b .rx; last = b .last; tx = fresh .tx }) t u v w)
+    go : (t u v w : Bool) → by b t u v w ≡ cameWithTx (b .tx) (by (record { rx = b .rx; last = b .last; tx = fresh .tx }) t u v w)
     go true u v w = refl
     go false true v w = refl
     go false false true w = refl
@@ -186,9 +185,9 @@ module _ (set : Settings) where
           rw (t, came-send set (p .berth) d e, came-send set (sideOf send p .berth) d e) (unfold toldBy in refl)
       go receive (fails t ne) =
           rw (t, came-receive set (p .berth) d ne)
-          (unfold withTx in (sym (ap (λ (c : Came). record { berth = c .berth; incoming = sets (p .incoming) (c .place) (c .bytes); outgoing = [] })
+          (unfold cameWithTx in (sym (ap (λ (c : Came). record { berth = c .berth; incoming = sets (p .incoming) (c .place) (c .bytes); outgoing = [] })
           (came-receive set (sideOf receive p .berth) d ne))))
-      go send (fails t ne) = rw (t, came-receive set (p .berth) d ne) (unfold withTx in refl)
+      go send (fails t ne) = rw (t, came-receive set (p .berth) d ne) (unfold cameWithTx in refl)
   side-after receive p ticks = unfold ticked in refl
   side-after send p ticks = unfold ticked in refl
   side-after receive p (sends m) = unfold sent in refl
@@ -213,7 +212,7 @@ module _ (set : Settings) where
       go receive (holds t e) = rw t
       go send (holds t e) =
           rw (t, came-send set (p .berth) d e, came-send set (sideOf send p .berth) d e) (unfold toldBy in refl)
-      go receive (fails t ne) = rw (t, came-receive set (p .berth) d ne) (unfold withTx in refl)
+      go receive (fails t ne) = rw (t, came-receive set (p .berth) d ne) (unfold cameWithTx in refl)
       go send (fails t ne) = rw t
   side-said receive p ticks = refl
   side-said send p ticks = refl
@@ -317,17 +316,3 @@ module _ (set : Settings) where
       for ticks t = unfold forSide in refl
       for (sends m) t = unfold forSide in refl
       for turns t = unfold forSide in (ap (λ (x : Side). pick (sameSide s x) (turns ∷ []) []) (t refl))
-
--- ---- a run of the node
-
--- EACH SIDE ALONE, in any run from any start: side s of berth k, with its area, and its reports are those of its own events on that
--- side alone.
-pub side-alone-in-run : (s : Side) (k : ℕ) (h : Held) (cs : List Call)
-    → (sideOf s (partOf k (final h cs))
-    ≡ alone (h .node .settings) (sideOf s (partOf k h)) (sideEvents s (h .node .settings) (partOf k h) (owns k h cs)))
-    × (ofSide s (ofBerth k (over reports (answers h cs)))
-    ≡ over (saidReports k) (saysAll (h .node .settings) (sideOf s (partOf k h)) (sideEvents s (h .node .settings) (partOf k h) (owns k h cs))))
-side-alone-in-run s k h cs = (
-  ap (sideOf s) (berth-alone k h cs) ∙ side-alone (h .node .settings) s (partOf k h) (owns k h cs),
-  ap (ofSide s) (berth-reports k h cs) ∙ side-reports (h .node .settings) k s (partOf k h) (owns k h cs),
-)

@@ -11,7 +11,7 @@ use lib.Seq.{sets}
 use lib.Dec.{T, eqb, ltb, leb, le→leb, lt→ltb}
 use mir.Facts.{eqb-yes, yes-eqb, yes-leb, yes-and}
 use Rattle.rules.specs.Tests.{pick, Need, firstUnmet}
-use Rattle.rules.specs.Numbers.{berthCount, fromBerth, toBerth, frameSize, singleKind, firstKind, consecutiveKind, flowKind, goStatus, waitStatus, overflowStatus, consecutiveMost, shortMost}
+use Rattle.rules.specs.Numbers.{berthCount, fromBerth, frameSize, singleKind, firstKind, consecutiveKind, flowKind, goStatus, waitStatus, overflowStatus, consecutiveMost, shortMost}
 use Rattle.rules.specs.Nodes.{berthAt, Held}
 use Rattle.rules.specs.Ranges.{BerthRange, TxRange}
 use Rattle.rules.specs.Frames.{kind, low, padded, singleFits, announced, firstFits, consecutiveFits, flowFits, singleFrame, firstFrame, consecutiveFrame, goFrame, overflowFrame}
@@ -34,12 +34,12 @@ use Rattle.rules.proofs.Ranges.{range-in-order}
 use Rattle.rules.proofs.Order.{frame-inside}
 use Rattle.rules.proofs.Round.{reached-due}
 use Rattle.rules.proofs.Facts.{frame-either, ignored-leaves}
-use Rattle.laws.specs.Own.{over, only, ownDone, own, takerOf, heardOf, saidReports, Sound}
+use Rattle.laws.specs.Own.{over, only, ownDone, own, saysOf, saidReports, Sound}
 use Rattle.laws.specs.Sides.{sameSide, sideOf, frameSide, turnSide, forSide, sideEvents, ofSide, handedIn, handedSide, framesBy}
 use Rattle.laws.specs.Line.{reportsBy, deliveredIn, isIgnored, tickCode, spares, Spares}
-use Rattle.laws.proofs.Isolation.{part-step, says-step}
+use Rattle.laws.proofs.Isolation.{said-to, part-step, says-step}
 use Rattle.laws.proofs.Reports.{reports-of}
-use Rattle.laws.proofs.Sides.{withTx, came-receive, came-send, side-alone, side-reports}
+use Rattle.laws.proofs.Sides.{cameWithTx, came-receive, came-send, side-alone, side-reports}
 
 -- ---- ignored frames change nothing, timers included, and have no old code
 
@@ -153,7 +153,7 @@ message-kind set (Tx.FirstDue n u) area a r t e = omega (arith, r .1)
 message-kind set (Tx.AwaitsFlow o u) area a r t e = absurd t
 message-kind set (Tx.Consecutive o u) area a r t e = omega (arith, r .0 .sn-most)
 
-handed-side : (set : Settings) (p : Part) → set .area ≤ shortMost → BerthRange set (p .berth) → T (due (p .berth))
+pub handed-side : (set : Settings) (p : Part) → set .area ≤ shortMost → BerthRange set (p .berth) → T (due (p .berth))
     → handedSide (handOver set (p .berth) (p .outgoing) .frame) ≡ turnSide p
 unfolding handedSide turnSide handOver due
 handed-side set p a r t = go (test-cases (flowDue (p .berth .rx)))
@@ -378,10 +378,10 @@ module _ (k : ℕ) (h : Held) where
           ≡ pick (sameSide s (turnSide (partOf k h))) (handOver set (partOf k h .berth) (partOf k h .outgoing) .frame ∷ []) []
       unfolding reply framesBy handedAt partOf
       frames-turn =
-          let to : takerOf (toBerth + reached (h .node)) ≡ k = omega arith in
           rw (
             ltb-is (passedOver (h .node)) berthCount l,
-            eqb-is (takerOf (toBerth + reached (h .node))) k to,
+            said-to _ _ (reached (h .node)),
+            eqb-is (reached (h .node)) k q,
             q,
             handed-side set (partOf k h) (sound .order .settings .area-most) range due-k,
           )
@@ -431,10 +431,9 @@ module _ (k : ℕ) (h : Held) where
         → SparedBy s (turn buffer)
     unfolding ownDone reply framesBy
     other-berth s buffer e l ne =
-        let to : takerOf (toBerth + reached (h .node)) ≡ reached (h .node) = omega arith in
         let u = ltb-is (passedOver (h .node)) berthCount l in
         let t = eqb-not (reached (h .node)) k ne in
-        not-reached s buffer e (own-is (turn buffer) e ∙ rw (u, t)) (rw (u, to, t))
+        not-reached s buffer e (own-is (turn buffer) e ∙ rw (u, t)) (rw (u, said-to _ _ (reached (h .node)), t))
 
     touch-turn : (s : Side) (buffer : List ℕ) → refusal h (turn buffer) ≡ 0 → TouchedBy s (turn buffer)
     touch-turn s buffer e = go (ltb-cases (passedOver (h .node)) berthCount) (eqb-cases (reached (h .node)) k)
@@ -494,12 +493,12 @@ module _ (k : ℕ) (h : Held) where
     own-carried d l = own-is (frame (fromBerth + k) d) (carried-met d l) ∙ rw (eqb-is (senderOf (fromBerth + k)) k back-again)
 
     -- it is one event of the side it is for, and no frame is handed over
-    pub record Carried (s : Side) (d : List ℕ) : Type 0 where
+    pub record CarriedTo (s : Side) (d : List ℕ) : Type 0 where
       pub part : sideOf s (partOf k (outcome h (frame (fromBerth + k) d) .held)) ≡ partAfter set (sideOf s (partOf k h)) (arrives d)
       pub reported : reportsBy s k (outcome h (frame (fromBerth + k) d) .answer) ≡ saidReports k (says set (sideOf s (partOf k h)) (arrives d))
       pub frames : framesBy s k (outcome h (frame (fromBerth + k) d) .answer) ≡ []
 
-    pub carry : (s : Side) (d : List ℕ) → length d ≤ frameSize → frameSide d ≡ s → Carried s d
+    pub carry : (s : Side) (d : List ℕ) → length d ≤ frameSize → frameSide d ≡ s → CarriedTo s d
     carry s d l e =
         let (x, y) = touched s (frame (fromBerth + k) d) (arrives d) (own-carried d l) (its s e) in
         record { part = x; reported = y; frames = ap (framesBy s k) (answer-is (frame (fromBerth + k) d) (carried-met d l)) ∙ unfold reply framesBy in refl }
@@ -511,12 +510,12 @@ module _ (k : ℕ) (h : Held) where
     -- ---- the Delivereds of the receive side
 
     delivered-own : (c : Call) (es : List Event) → own k h c ≡ es
-        → over deliveredIn (heardOf k (outcome h c .answer)) ≡ over deliveredIn (saysAll set (partOf k h) es)
+        → over deliveredIn (saysOf k (outcome h c .answer)) ≡ over deliveredIn (saysAll set (partOf k h) es)
     delivered-own c es o = ap (over deliveredIn) (says-step k h c ∙ ap (saysAll set (partOf k h)) o)
 
     pub delivered-carried : (d : List ℕ) → length d ≤ frameSize → frameSide d ≡ receive
-        → over deliveredIn (heardOf k (outcome h (frame (fromBerth + k) d) .answer)) ≡ deliveredIn (says set (sideOf receive (partOf k h)) (arrives d))
-    unfolding saysAll over says sideOf withTx
+        → over deliveredIn (saysOf k (outcome h (frame (fromBerth + k) d) .answer)) ≡ deliveredIn (says set (sideOf receive (partOf k h)) (arrives d))
+    unfolding saysAll over says sideOf cameWithTx
     delivered-carried d l e =
         delivered-own (frame (fromBerth + k) d) (arrives d ∷ []) (own-carried d l)
         ∙ append-nil _
@@ -547,9 +546,9 @@ module _ (k : ℕ) (h : Held) where
     delivers (show j choice) t = refl
 
     -- a call that spares the receive side delivers nothing
-    pub none-delivered : (c : Call) → Spares receive k h c → over deliveredIn (heardOf k (outcome h c .answer)) ≡ []
+    pub none-delivered : (c : Call) → Spares receive k h c → over deliveredIn (saysOf k (outcome h c .answer)) ≡ []
     none-delivered c t = go (refusal h c) refl
       where
-        go : (n : ℕ) → refusal h c ≡ n → over deliveredIn (heardOf k (outcome h c .answer)) ≡ []
+        go : (n : ℕ) → refusal h c ≡ n → over deliveredIn (saysOf k (outcome h c .answer)) ≡ []
         go zero e = delivered-own c (ownDone k h c) (own-is c e) ∙ delivers c (t e)
         go (suc n) e = delivered-own c [] (unfold own in (rw e)) ∙ unfold saysAll over in refl

@@ -1,13 +1,13 @@
 -- THE LINE'S LAW over two nodes. Every deed that keeps apart is, for the two sides and the line between them, nothing, a tick, a
 -- hand-over or a frame that comes in; so a transfer goes from phase to phase, and at rest only the last is left.
 use mathlib.Core.Path.{_≡_, refl, sym, ap, _∙_, subst}
-use Prim.Native.Nat.{ℕ, suc, _+_, _-_, _*_, _≤_, _<_}
+use Prim.Native.Nat.{ℕ, _+_, _-_, _≤_, _<_}
 use native.Mathlib.Omega.{arith}
-use native.Mathlib.Nat.{mul-le-mul-right, zero-add}
+use native.Mathlib.Nat.{zero-add}
 use mathlib.Core.Bool.{true, false, not}
 use mathlib.Core.List.{List, [], _∷_, _++_, map, append-nil}
 use mathlib.Core.Logic.{⊎-elim}
-use lib.ListN.{length, take, replicate, length-take, length-drop}
+use lib.ListN.{length, take, replicate}
 use lib.Seq.{sets, length-sets}
 use lib.Dec.{T}
 use mir.Facts.{yes-eqb, yes-leb, yes-ltb}
@@ -19,32 +19,34 @@ use Rattle.rules.specs.Arrivals.{Came, frameCame}
 use Rattle.rules.specs.Ticks.{rxTicked, rxCode, txTicked, txCode, ticked}
 use Rattle.rules.specs.Turns.{flowDue, messageDue, due, flowFrame, afterFlow, messageFrame, messageCode, afterMessage, handOver, beginsWith, sent as sentBerth, busy}
 use Rattle.rules.specs.Stores.{rightStore, areaOf}
-use Rattle.rules.specs.Answers.{receive, send as sendSide, Report, reported, wordReports}
+use Rattle.rules.specs.Answers.{receive, send as sendSide, Report, reported, wordReports, reports}
 use Rattle.rules.specs.Events.{Call, frame, send, arrives, ticks, sends, turns}
-use Rattle.rules.specs.Refusals.{needs, refusal}
-use Rattle.rules.specs.Calls.{outcome}
+use Rattle.rules.specs.Refusals.{needs, refusal, setUpRefusal}
+use Rattle.rules.specs.Calls.{refusedOutcome, outcome}
 use Rattle.rules.specs.Alone.{Part, partOf, hears, partAfter, says, alone}
 use Rattle.rules.specs.declared.Settings.{Settings}
 use Rattle.rules.specs.declared.Choice.{Choice}
 use Rattle.rules.specs.declared.Rx.{Rx}
 use Rattle.rules.specs.declared.Tx.{Tx}
 use Rattle.rules.specs.declared.Berth.{Berth}
+use Rattle.rules.proofs.Areas.{area-length}
 use Rattle.rules.proofs.Cases.{is-true, eqb-is, eqb-not, or-cases}
 use Rattle.rules.proofs.Ranges.{range-in-order}
-use Rattle.laws.specs.Own.{over, ownDone, own, heardOf, saidReports, partShown, Sound}
-use Rattle.laws.specs.Sides.{sideOf, frameSide, handedIn, framesBy}
-use Rattle.laws.specs.Line.{Handed, there, back, World, reportsBy, deliveredIn, callA, callB, carriedA, carriedB, Deed, atA, atB, carryA, carryB, acts, living, tickCode, Spares, Apart, AllApart, AtRest, exchanged, thereOf, backOf, blocks, begin, MayBegin, Arrived}
+use Rattle.rules.proofs.Facts.{set-up-refusal-leaves}
+use Rattle.laws.specs.Own.{over, only, ofBerth, ownDone, own, saysOf, saidReports, partShown, Sound}
+use Rattle.laws.specs.Sides.{sideOf, frameSide, ofSide, handedIn, framesBy}
+use Rattle.laws.specs.Line.{Handed, there, back, World, endA, endB, reportsBy, deliveredIn, leftA, leftB, callA, callB, carriedA, carriedB, Deed, atA, atB, setUpA, setUpB, carryA, carryB, acts, living, tickCode, Spares, Apart, AllApart, AtRest, exchanged, thereOf, backOf, blocks, begin, MayBegin, Arrived}
 use Rattle.laws.proofs.Isolation.{settings-step, part-step}
 use Rattle.laws.proofs.Reports.{berth-shown}
 use Rattle.laws.proofs.SetUp.{sound-step}
 use Rattle.laws.proofs.Touch.{SparedBy, TickOf, TurnOf, TouchedBy, spared, clocked, turned, touch, carry, delivered-carried, none-delivered, own-is, all-met}
 use Rattle.laws.proofs.Frames.{extended}
 use Rattle.laws.proofs.Exchanged.{there-exchanged, back-exchanged}
-use Rattle.laws.proofs.Line.{Line, Phase, under-way, handS, handR, tickS, tickR, tookR, tookS, receiving, sending, ticks-S, ticks-R, hands-S, hands-R, carries-S, carries-R, there-whole, back-whole, starts, Landed, at-rest}
+use Rattle.laws.proofs.Line.{Line, atSender, atTaker, Phase, under-way, handS, handR, tickS, tickR, tookR, tookS, takerBerth, senderBerth, ticks-S, ticks-R, hands-S, hands-R, carries-S, carries-R, there-whole, back-whole, starts, Landed, at-rest}
 
 -- the two sides and the line between them
-unfoldable pub lineOf : (i j : ℕ) → World → Line
-lineOf i j w =
+unfoldable pub lineIn : (i j : ℕ) → World → Line
+lineIn i j w =
     record {
       tx = berthAt (w .a .node) i .tx;
       toR = w .toB;
@@ -60,34 +62,11 @@ lineOf i j w =
 
 -- the line with the sender's end moved on, and with the taker's
 unfoldable fromA : Line → Tx → List (List ℕ) → List Report → Line
-fromA l tx fs rs =
-    record {
-      tx = tx;
-      toR = l .toR ++ fs;
-      toS = l .toS;
-      log = l .log ++ map there fs;
-      said = l .said ++ rs;
-      rx = l .rx;
-      last = l .last;
-      ina = l .ina;
-      heard = l .heard;
-      delivered = l .delivered;
-    }
+fromA l tx fs rs = atSender l tx (l .toR ++ fs) (l .toS) (l .log ++ map there fs) (l .said ++ rs)
 
 unfoldable fromB : Line → Rx → ℕ → List ℕ → List (List ℕ) → List Report → List ℕ → Line
 fromB l rx last ina fs rs ds =
-    record {
-      tx = l .tx;
-      toR = l .toR;
-      toS = l .toS ++ fs;
-      log = l .log ++ map back fs;
-      said = l .said;
-      rx = rx;
-      last = last;
-      ina = ina;
-      heard = l .heard ++ rs;
-      delivered = l .delivered ++ ds;
-    }
+    atTaker l rx last ina (l .toR) (l .toS ++ fs) (l .log ++ map back fs) (l .heard ++ rs) (l .delivered ++ ds)
 
 path-A : (l : Line) {tx tx′ : Tx} {fs fs′ : List (List ℕ)} {rs rs′ : List Report} → tx ≡ tx′ → fs ≡ fs′ → rs ≡ rs′ → fromA l tx fs rs ≡ fromA l tx′ fs′ rs′
 path-A l p q r = λ i. fromA l (p i) (q i) (r i)
@@ -97,68 +76,22 @@ path-B : (l : Line) {rx rx′ : Rx} {last last′ : ℕ} {ina ina′ : List ℕ}
 path-B l p q r s t u = λ i. fromB l (p i) (q i) (r i) (s i) (t i) (u i)
 
 -- no frame and no report: only the side has moved
-only-A : (l : Line) (tx : Tx) → fromA l tx [] []
-    ≡ record { tx = tx; toR = l .toR; toS = l .toS; log = l .log; said = l .said; rx = l .rx; last = l .last; ina = l .ina; heard = l .heard; delivered = l .delivered }
+only-A : (l : Line) (tx : Tx) → fromA l tx [] [] ≡ atSender l tx (l .toR) (l .toS) (l .log) (l .said)
 unfolding fromA
-only-A l tx =
-    λ i. record {
-      tx = tx;
-      toR = append-nil (l .toR) i;
-      toS = l .toS;
-      log = append-nil (l .log) i;
-      said = append-nil (l .said) i;
-      rx = l .rx;
-      last = l .last;
-      ina = l .ina;
-      heard = l .heard;
-      delivered = l .delivered;
-    }
+only-A l tx = λ i. atSender l tx (append-nil (l .toR) i) (l .toS) (append-nil (l .log) i) (append-nil (l .said) i)
 
 only-B : (l : Line) (rx : Rx) (last : ℕ) (ina : List ℕ) → fromB l rx last ina [] [] []
-    ≡ record { tx = l .tx; toR = l .toR; toS = l .toS; log = l .log; said = l .said; rx = rx; last = last; ina = ina; heard = l .heard; delivered = l .delivered }
+    ≡ atTaker l rx last ina (l .toR) (l .toS) (l .log) (l .heard) (l .delivered)
 unfolding fromB
 only-B l rx last ina =
-    λ i. record {
-      tx = l .tx;
-      toR = l .toR;
-      toS = append-nil (l .toS) i;
-      log = append-nil (l .log) i;
-      said = l .said;
-      rx = rx;
-      last = last;
-      ina = ina;
-      heard = append-nil (l .heard) i;
-      delivered = append-nil (l .delivered) i;
-    }
+    λ i. atTaker l rx last ina (l .toR) (append-nil (l .toS) i) (append-nil (l .log) i) (append-nil (l .heard) i) (append-nil (l .delivered) i)
 
 -- flow control, and no report
 flow-B : (l : Line) (rx : Rx) (f : List ℕ) → fromB l rx (l .last) (l .ina) (f ∷ []) [] []
-    ≡ record {
-      tx = l .tx;
-      toR = l .toR;
-      toS = l .toS ++ (f ∷ []);
-      log = l .log ++ (back f ∷ []);
-      said = l .said;
-      rx = rx;
-      last = l .last;
-      ina = l .ina;
-      heard = l .heard;
-      delivered = l .delivered;
-    }
+    ≡ atTaker l rx (l .last) (l .ina) (l .toR) (l .toS ++ (f ∷ [])) (l .log ++ (back f ∷ [])) (l .heard) (l .delivered)
 unfolding fromB
 flow-B l rx f =
-    λ i. record {
-      tx = l .tx;
-      toR = l .toR;
-      toS = l .toS ++ (f ∷ []);
-      log = l .log ++ (back f ∷ []);
-      said = l .said;
-      rx = rx;
-      last = l .last;
-      ina = l .ina;
-      heard = append-nil (l .heard) i;
-      delivered = append-nil (l .delivered) i;
-    }
+    λ i. atTaker l rx (l .last) (l .ina) (l .toR) (l .toS ++ (f ∷ [])) (l .log ++ (back f ∷ [])) (append-nil (l .heard) i) (append-nil (l .delivered) i)
 
 module _ (i j : ℕ) (small-i : i < berthCount) (small-j : j < berthCount) (set : Settings) (n : ℕ) (out : List ℕ) (E : List Handed) where
   -- ---- what a step is for the line
@@ -180,15 +113,15 @@ module _ (i j : ℕ) (small-i : i < berthCount) (small-j : j < berthCount) (set 
   abbrev sideB : Held → Part
   sideB h = sideOf receive (partOf j h)
 
-  line-A : (w : World) (c : Call) → lineOf i j (callA i w c)
-      ≡ fromA (lineOf i j w) (berthAt (outcome (w .a) c .held .node) i .tx) (framesBy sendSide i (outcome (w .a) c .answer)) (reportsBy sendSide i (outcome (w .a) c .answer))
-  unfolding lineOf callA fromA
+  line-A : (w : World) (c : Call) → lineIn i j (callA i w c)
+      ≡ fromA (lineIn i j w) (berthAt (outcome (w .a) c .held .node) i .tx) (framesBy sendSide i (outcome (w .a) c .answer)) (reportsBy sendSide i (outcome (w .a) c .answer))
+  unfolding lineIn leftA fromA
   line-A w c = refl
 
-  line-B : (w : World) (c : Call) → lineOf i j (callB j w c)
-      ≡ fromB (lineOf i j w) (berthAt (outcome (w .b) c .held .node) j .rx) (berthAt (outcome (w .b) c .held .node) j .last) (partOf j (outcome (w .b) c .held) .incoming)
-      (framesBy receive j (outcome (w .b) c .answer)) (reportsBy receive j (outcome (w .b) c .answer)) (over deliveredIn (heardOf j (outcome (w .b) c .answer)))
-  unfolding lineOf callB fromB
+  line-B : (w : World) (c : Call) → lineIn i j (callB j w c)
+      ≡ fromB (lineIn i j w) (berthAt (outcome (w .b) c .held .node) j .rx) (berthAt (outcome (w .b) c .held .node) j .last) (partOf j (outcome (w .b) c .held) .incoming)
+      (framesBy receive j (outcome (w .b) c .answer)) (reportsBy receive j (outcome (w .b) c .answer)) (over deliveredIn (saysOf j (outcome (w .b) c .answer)))
+  unfolding lineIn leftB fromB
   line-B w c = refl
 
   -- the side's parts, by name
@@ -225,34 +158,34 @@ module _ (i j : ℕ) (small-i : i < berthCount) (small-j : j < berthCount) (set 
   KeptA w c = partOf i (outcome (w .a) c .held) .outgoing ≡ out
 
   pub spared-A : (w : World) (c : Call) → partOf i (w .a) .outgoing ≡ out → SparedBy i (w .a) sendSide c
-      → (lineOf i j (callA i w c) ≡ lineOf i j w) × KeptA w c
-  unfolding lineOf sideOf partOf
+      → (lineIn i j (callA i w c) ≡ lineIn i j w) × KeptA w c
+  unfolding lineIn sideOf partOf
   spared-A w c kept s =
       let (tx, o) = tx-of (outcome (w .a) c .held) (sideA (w .a)) (s .part) in
-      (line-A w c ∙ path-A (lineOf i j w) tx (s .frames) (s .reported) ∙ only-A (lineOf i j w) (lineOf i j w .tx), o ∙ kept)
+      (line-A w c ∙ path-A (lineIn i j w) tx (s .frames) (s .reported) ∙ only-A (lineIn i j w) (lineIn i j w .tx), o ∙ kept)
 
   pub tick-A : (w : World) (c : Call) → partOf i (w .a) .outgoing ≡ out → TickOf i (w .a) sendSide c
-      → (txCode (lineOf i j w .tx) ≡ 0) × (lineOf i j (callA i w c) ≡ tickS i j set n out E (lineOf i j w)) × KeptA w c
-  unfolding lineOf sideOf partOf
+      → (txCode (lineIn i j w .tx) ≡ 0) × (lineIn i j (callA i w c) ≡ tickS i j set n out E (lineIn i j w)) × KeptA w c
+  unfolding lineIn sideOf partOf
   tick-A w c kept s =
       let (tx, o) = tx-of (outcome (w .a) c .held) (partAfter (w .a .node .settings) (sideA (w .a)) ticks) (s .part) in
       let (a, b, r, d) = ticked-A (w .a) in
       let code : txCode (berthAt (w .a .node) i .tx) ≡ 0 = sym d ∙ s .none in
       let none : reported i sendSide (txCode (berthAt (w .a .node) i .tx)) ≡ [] = ap (reported i sendSide) code ∙ unfold reported in refl in
-      (code, line-A w c ∙ path-A (lineOf i j w) (tx ∙ a) (s .frames) (s .reported ∙ r ∙ none) ∙ only-A (lineOf i j w) (txTicked (lineOf i j w .tx)), o ∙ b ∙ kept)
+      (code, line-A w c ∙ path-A (lineIn i j w) (tx ∙ a) (s .frames) (s .reported ∙ r ∙ none) ∙ only-A (lineIn i j w) (txTicked (lineIn i j w .tx)), o ∙ b ∙ kept)
 
   pub turn-A : (w : World) (c : Call) → partOf i (w .a) .outgoing ≡ out → TurnOf i (w .a) sendSide c
-      → T (messageDue (lineOf i j w .tx)) × (lineOf i j (callA i w c) ≡ handS i j set n out E (lineOf i j w)) × KeptA w c
-  unfolding lineOf sideOf partOf
+      → T (messageDue (lineIn i j w .tx)) × (lineIn i j (callA i w c) ≡ handS i j set n out E (lineIn i j w)) × KeptA w c
+  unfolding lineIn sideOf partOf
   turn-A w c kept s =
       let (tx, o) = tx-of (outcome (w .a) c .held) (partAfter (w .a .node .settings) (sideA (w .a)) turns) (s .part) in
       let (a, b, r, d) = turned-A (w .a) in
       let f : messageFrame (berthAt (w .a .node) i .tx) (partOf i (w .a) .outgoing) ∷ [] ≡ messageFrame (berthAt (w .a .node) i .tx) out ∷ [] =
       ap (λ (area : List ℕ). messageFrame (berthAt (w .a .node) i .tx) area ∷ []) kept in
-      (due-A (w .a) (s .is-due), line-A w c ∙ path-A (lineOf i j w) (tx ∙ a) (s .frames ∙ d ∙ f) (s .reported ∙ r) ∙ unfold fromA in refl, o ∙ b ∙ kept)
+      (due-A (w .a) (s .is-due), line-A w c ∙ path-A (lineIn i j w) (tx ∙ a) (s .frames ∙ d ∙ f) (s .reported ∙ r) ∙ unfold fromA in refl, o ∙ b ∙ kept)
 
   step-A : (w : World) (c : Call) → partOf i (w .a) .outgoing ≡ out → TouchedBy i (w .a) sendSide c
-      → StepS (lineOf i j w) (lineOf i j (callA i w c)) × KeptA w c
+      → StepS (lineIn i j w) (lineIn i j (callA i w c)) × KeptA w c
   step-A w c kept (spared s) = let (e, o) = spared-A w c kept s in (idle-S e, o)
   step-A w c kept (clocked s) = let (z, e, o) = tick-A w c kept s in (tick-S z e, o)
   step-A w c kept (turned s) = let (t, e, o) = turn-A w c kept s in (hand-S t e, o)
@@ -280,30 +213,30 @@ module _ (i j : ℕ) (small-i : i < berthCount) (small-j : j < berthCount) (set 
   turned-B h e = (rw e, rw e, refl, rw e, rw e)
 
   abbrev NoneB : World → Call → Type 0
-  NoneB w c = over deliveredIn (heardOf j (outcome (w .b) c .answer)) ≡ []
+  NoneB w c = over deliveredIn (saysOf j (outcome (w .b) c .answer)) ≡ []
 
-  pub spared-B : (w : World) (c : Call) → NoneB w c → SparedBy j (w .b) receive c → lineOf i j (callB j w c) ≡ lineOf i j w
-  unfolding lineOf sideOf partOf
+  pub spared-B : (w : World) (c : Call) → NoneB w c → SparedBy j (w .b) receive c → lineIn i j (callB j w c) ≡ lineIn i j w
+  unfolding lineIn sideOf partOf
   spared-B w c ds s =
       let (rx, last, ina) = rx-of (outcome (w .b) c .held) (sideB (w .b)) (s .part) in
-      line-B w c ∙ path-B (lineOf i j w) rx last ina (s .frames) (s .reported) ds ∙ only-B (lineOf i j w) (lineOf i j w .rx) (lineOf i j w .last) (lineOf i j w .ina)
+      line-B w c ∙ path-B (lineIn i j w) rx last ina (s .frames) (s .reported) ds ∙ only-B (lineIn i j w) (lineIn i j w .rx) (lineIn i j w .last) (lineIn i j w .ina)
 
   pub tick-B : (w : World) (c : Call) → NoneB w c → TickOf j (w .b) receive c
-      → (rxCode (lineOf i j w .rx) ≡ 0) × (lineOf i j (callB j w c) ≡ tickR i j set n out E (lineOf i j w))
-  unfolding lineOf sideOf partOf
+      → (rxCode (lineIn i j w .rx) ≡ 0) × (lineIn i j (callB j w c) ≡ tickR i j set n out E (lineIn i j w))
+  unfolding lineIn sideOf partOf
   tick-B w c ds s =
       let (rx, last, ina) = rx-of (outcome (w .b) c .held) (partAfter (w .b .node .settings) (sideB (w .b)) ticks) (s .part) in
       let (a, b, v, r, d) = ticked-B (w .b) in
       let code : rxCode (berthAt (w .b .node) j .rx) ≡ 0 = sym d ∙ s .none in
       let none : reported j receive (rxCode (berthAt (w .b .node) j .rx)) ++ [] ≡ [] = ap (λ (m : ℕ). reported j receive m ++ []) code ∙ unfold reported in refl in (
         code,
-        line-B w c ∙ path-B (lineOf i j w) (rx ∙ a) (last ∙ b) (ina ∙ v) (s .frames) (s .reported ∙ r ∙ none) ds
-            ∙ only-B (lineOf i j w) (rxTicked (lineOf i j w .rx)) (lineOf i j w .last) (lineOf i j w .ina),
+        line-B w c ∙ path-B (lineIn i j w) (rx ∙ a) (last ∙ b) (ina ∙ v) (s .frames) (s .reported ∙ r ∙ none) ds
+            ∙ only-B (lineIn i j w) (rxTicked (lineIn i j w .rx)) (lineIn i j w .last) (lineIn i j w .ina),
       )
 
   pub turn-B : (w : World) (c : Call) → w .b .node .settings ≡ set → NoneB w c → TurnOf j (w .b) receive c
-      → T (flowDue (lineOf i j w .rx)) × (lineOf i j (callB j w c) ≡ handR i j set n out E (lineOf i j w))
-  unfolding lineOf sideOf partOf
+      → T (flowDue (lineIn i j w .rx)) × (lineIn i j (callB j w c) ≡ handR i j set n out E (lineIn i j w))
+  unfolding lineIn sideOf partOf
   turn-B w c same ds s =
       let (rx, last, ina) = rx-of (outcome (w .b) c .held) (partAfter (w .b .node .settings) (sideB (w .b)) turns) (s .part) in
       let e = due-B (w .b) (s .is-due) in
@@ -311,11 +244,11 @@ module _ (i j : ℕ) (small-i : i < berthCount) (small-j : j < berthCount) (set 
       let f : flowFrame (w .b .node .settings) (berthAt (w .b .node) j .rx) ∷ [] ≡ flowFrame set (berthAt (w .b .node) j .rx) ∷ [] =
       ap (λ (x : Settings). flowFrame x (berthAt (w .b .node) j .rx) ∷ []) same in (
         rw e tt,
-        line-B w c ∙ path-B (lineOf i j w) (rx ∙ a) (last ∙ b) (ina ∙ v) (s .frames ∙ d ∙ f) (s .reported ∙ r) ds
-            ∙ flow-B (lineOf i j w) (afterFlow (lineOf i j w .rx)) (flowFrame set (lineOf i j w .rx)),
+        line-B w c ∙ path-B (lineIn i j w) (rx ∙ a) (last ∙ b) (ina ∙ v) (s .frames ∙ d ∙ f) (s .reported ∙ r) ds
+            ∙ flow-B (lineIn i j w) (afterFlow (lineIn i j w .rx)) (flowFrame set (lineIn i j w .rx)),
       )
 
-  step-B : (w : World) (c : Call) → w .b .node .settings ≡ set → NoneB w c → TouchedBy j (w .b) receive c → StepR (lineOf i j w) (lineOf i j (callB j w c))
+  step-B : (w : World) (c : Call) → w .b .node .settings ≡ set → NoneB w c → TouchedBy j (w .b) receive c → StepR (lineIn i j w) (lineIn i j (callB j w c))
   step-B w c same ds (spared s) = idle-R (spared-B w c ds s)
   step-B w c same ds (clocked s) = let (z, e) = tick-B w c ds s in tick-R z e
   step-B w c same ds (turned s) = let (t, e) = turn-B w c same ds s in hand-R t e
@@ -342,25 +275,15 @@ module _ (i j : ℕ) (small-i : i < berthCount) (small-j : j < berthCount) (set 
   came-A h d = (refl, refl, refl)
 
   pub took-A : (w : World) (d : List ℕ) (q : List (List ℕ)) → Sound (w .a) → length d ≤ frameSize → kind d ≡ flowKind
-      → (lineOf i j (carriedA i w (d ∷ q)) ≡ tookS i j set n out E (lineOf i j w) q (frameCame (w .a .node .settings) (sending i j set n out E (lineOf i j w)) d))
+      → (lineIn i j (carriedA i w (d ∷ q)) ≡ tookS i j set n out E (lineIn i j w) q (frameCame (w .a .node .settings) (senderBerth i j set n out E (lineIn i j w)) d))
       × (partOf i (outcome (w .a) (frame (fromBerth + i) d) .held) .outgoing ≡ partOf i (w .a) .outgoing)
-  unfolding lineOf carriedA callA tookS
+  unfolding lineIn carriedA leftA tookS
   took-A w d q s l e =
       let r = carry i (w .a) s small-i sendSide d l (side-of-flow d e) in
       let (tx, o) = tx-of (outcome (w .a) (frame (fromBerth + i) d) .held) (partAfter (w .a .node .settings) (sideA (w .a)) (arrives d)) (r .part) in
       let (a, b, c) = came-A (w .a) d in (
-        (λ k. record {
-          tx = (tx ∙ a) k;
-          toR = (ap (λ (fs : List (List ℕ)). w .toB ++ fs) (r .frames) ∙ append-nil (w .toB)) k;
-          toS = q;
-          log = (ap (λ (fs : List (List ℕ)). w .log ++ map there fs) (r .frames) ∙ append-nil (w .log)) k;
-          said = w .said ++ (r .reported ∙ c) k;
-          rx = lineOf i j w .rx;
-          last = lineOf i j w .last;
-          ina = lineOf i j w .ina;
-          heard = w .heard;
-          delivered = w .delivered;
-        }),
+        (λ k. atSender (lineIn i j w) ((tx ∙ a) k) ((ap (λ (fs : List (List ℕ)). w .toB ++ fs) (r .frames) ∙ append-nil (w .toB)) k) q
+            ((ap (λ (fs : List (List ℕ)). w .log ++ map there fs) (r .frames) ∙ append-nil (w .log)) k) (w .said ++ (r .reported ∙ c) k)),
         o ∙ b,
       )
 
@@ -377,26 +300,18 @@ module _ (i j : ℕ) (small-i : i < berthCount) (small-j : j < berthCount) (set 
   came-B h d = (refl, refl, refl)
 
   pub took-B : (w : World) (d : List ℕ) (q : List (List ℕ)) → Sound (w .b) → w .b .node .settings ≡ set → length d ≤ frameSize → (kind d ≡ flowKind → ⊥)
-      → lineOf i j (carriedB j w (d ∷ q)) ≡ tookR i j set n out E (lineOf i j w) q (frameCame set (receiving i j set n out E (lineOf i j w)) d)
-  unfolding lineOf carriedB callB tookR saidReports
+      → lineIn i j (carriedB j w (d ∷ q)) ≡ tookR i j set n out E (lineIn i j w) q (frameCame set (takerBerth i j set n out E (lineIn i j w)) d)
+  unfolding lineIn carriedB leftB tookR saidReports
   took-B w d q s same l ne =
       let r = carry j (w .b) s small-j receive d l (side-of-other d ne) in
       let (rx, last, ina) = rx-of (outcome (w .b) (frame (fromBerth + j) d) .held) (partAfter (w .b .node .settings) (sideB (w .b)) (arrives d)) (r .part) in
       let (a, b, c) = came-B (w .b) d in
       let ds = delivered-carried j (w .b) s small-j d l (side-of-other d ne) in
-      (λ k. record {
-        tx = lineOf i j w .tx;
-        toR = q;
-        toS = (ap (λ (fs : List (List ℕ)). w .toA ++ fs) (r .frames) ∙ append-nil (w .toA)) k;
-        log = (ap (λ (fs : List (List ℕ)). w .log ++ map back fs) (r .frames) ∙ append-nil (w .log)) k;
-        said = w .said;
-        rx = (rx ∙ ap (λ (x : Berth). x .rx) a) k;
-        last = (last ∙ ap (λ (x : Berth). x .last) a) k;
-        ina = (ina ∙ b) k;
-        heard = w .heard ++ (r .reported ∙ ap (saidReports j) c) k;
-        delivered = w .delivered ++ (ds ∙ ap deliveredIn c) k;
-      })
-      ∙ ap (λ (x : Settings). tookR i j set n out E (lineOf i j w) q (frameCame x (receiving i j set n out E (lineOf i j w)) d)) same
+      (λ k. atTaker (lineIn i j w) ((rx ∙ ap (λ (x : Berth). x .rx) a) k) ((last ∙ ap (λ (x : Berth). x .last) a) k) ((ina ∙ b) k) q
+      ((ap (λ (fs : List (List ℕ)). w .toA ++ fs) (r .frames) ∙ append-nil (w .toA)) k)
+      ((ap (λ (fs : List (List ℕ)). w .log ++ map back fs) (r .frames) ∙ append-nil (w .log)) k)
+      (w .heard ++ (r .reported ∙ ap (saidReports j) c) k) (w .delivered ++ (ds ∙ ap deliveredIn c) k))
+      ∙ ap (λ (x : Settings). tookR i j set n out E (lineIn i j w) q (frameCame x (takerBerth i j set n out E (lineIn i j w)) d)) same
 
   -- ---- the two nodes stay sound, the message stays in its area, and the transfer is in one of its phases
 
@@ -406,16 +321,16 @@ module _ (i j : ℕ) (small-i : i < berthCount) (small-j : j < berthCount) (set 
     pub settings-b : w .b .node .settings ≡ set
     pub kept : partOf i (w .a) .outgoing ≡ out
     pub steps : ℕ
-    pub phase : Phase i j set n out E (lineOf i j w) steps
+    pub phase : Phase i j set n out E (lineIn i j w) steps
 
   -- so they do after a call on either node that leaves the line in a phase
-  unfoldable pub after-A : (w : World) (c : Call) (s : Alive w) (m : ℕ) → Phase i j set n out E (lineOf i j (callA i w c)) m → KeptA w c → Alive (callA i w c)
-  unfolding callA
+  unfoldable pub after-A : (w : World) (c : Call) (s : Alive w) (m : ℕ) → Phase i j set n out E (lineIn i j (callA i w c)) m → KeptA w c → Alive (callA i w c)
+  unfolding leftA
   after-A w c s m ph o =
       record { sound-a = sound-step (w .a) c (s .sound-a); sound-b = s .sound-b; settings-b = s .settings-b; kept = o; steps = m; phase = ph }
 
-  unfoldable pub after-B : (w : World) (c : Call) (s : Alive w) (m : ℕ) → Phase i j set n out E (lineOf i j (callB j w c)) m → Alive (callB j w c)
-  unfolding callB
+  unfoldable pub after-B : (w : World) (c : Call) (s : Alive w) (m : ℕ) → Phase i j set n out E (lineIn i j (callB j w c)) m → Alive (callB j w c)
+  unfolding leftB
   after-B w c s m ph =
       record {
         sound-a = s .sound-a;
@@ -444,13 +359,13 @@ module _ (i j : ℕ) (small-i : i < berthCount) (small-j : j < berthCount) (set 
     alive-A : (w : World) (c : Call) → Spares sendSide i (w .a) c → Alive w → Alive (callA i w c)
     alive-A w c t s =
         let (step, o) = step-A w c (s .kept) (touch i (w .a) (s .sound-a) small-i sendSide c t) in
-        let (m, ph) = phased-S (lineOf i j w) (lineOf i j (callA i w c)) (s .steps) step (s .phase) in
+        let (m, ph) = phased-S (lineIn i j w) (lineIn i j (callA i w c)) (s .steps) step (s .phase) in
         after-A w c s m ph o
 
     alive-B : (w : World) (c : Call) → Spares receive j (w .b) c → Alive w → Alive (callB j w c)
     alive-B w c t s =
         let step = step-B w c (s .settings-b) (none-delivered j (w .b) (s .sound-b) small-j c t) (touch j (w .b) (s .sound-b) small-j receive c t) in
-        let (m, ph) = phased-R (lineOf i j w) (lineOf i j (callB j w c)) (s .steps) step (s .phase) in
+        let (m, ph) = phased-R (lineIn i j w) (lineIn i j (callB j w c)) (s .steps) step (s .phase) in
         after-B w c s m ph
 
     -- a carried frame leads nearer
@@ -459,12 +374,12 @@ module _ (i j : ℕ) (small-i : i < berthCount) (small-j : j < berthCount) (set 
       pub fewer : alive .steps < m
 
     pub alive-carriedA : (w : World) (d : List ℕ) (q : List (List ℕ)) → w .toA ≡ d ∷ q → (s : Alive w) → NearerWorld (s .steps) (carriedA i w (d ∷ q))
-    unfolding carriedA callA
+    unfolding carriedA leftA
     alive-carriedA w d q z s =
-        let e : lineOf i j w .toS ≡ d ∷ q = unfold lineOf in z in
-        let (l, k) = back-whole i j set n out E fit some in-area small (lineOf i j w) (s .steps) d q e (s .phase) in
+        let e : lineIn i j w .toS ≡ d ∷ q = unfold lineIn in z in
+        let (l, k) = back-whole i j set n out E fit some in-area small (lineIn i j w) (s .steps) d q e (s .phase) in
         let (line, o) = took-A w d q (s .sound-a) (omega arith) k in
-        let (m, h, ph) = carries-S i j set n out E (w .a .node .settings) (lineOf i j w) (s .steps) d q e (s .phase) in
+        let (m, h, ph) = carries-S i j set n out E (w .a .node .settings) (lineIn i j w) (s .steps) d q e (s .phase) in
         record {
           alive = record {
             sound-a = sound-step (w .a) (frame (fromBerth + i) d) (s .sound-a);
@@ -478,12 +393,12 @@ module _ (i j : ℕ) (small-i : i < berthCount) (small-j : j < berthCount) (set 
         }
 
     pub alive-carriedB : (w : World) (d : List ℕ) (q : List (List ℕ)) → w .toB ≡ d ∷ q → (s : Alive w) → NearerWorld (s .steps) (carriedB j w (d ∷ q))
-    unfolding carriedB callB
+    unfolding carriedB leftB
     alive-carriedB w d q z s =
-        let e : lineOf i j w .toR ≡ d ∷ q = unfold lineOf in z in
-        let (l, k) = there-whole i j set n out E fit some in-area small (lineOf i j w) (s .steps) d q e (s .phase) in
+        let e : lineIn i j w .toR ≡ d ∷ q = unfold lineIn in z in
+        let (l, k) = there-whole i j set n out E fit some in-area small (lineIn i j w) (s .steps) d q e (s .phase) in
         let line = took-B w d q (s .sound-b) (s .settings-b) (omega arith) k in
-        let (m, h, ph) = carries-R i j set n out E fit some in-area small (lineOf i j w) (s .steps) d q e (s .phase) in
+        let (m, h, ph) = carries-R i j set n out E fit some in-area small (lineIn i j w) (s .steps) d q e (s .phase) in
         record {
           alive = record {
             sound-a = s .sound-a;
@@ -510,10 +425,24 @@ module _ (i j : ℕ) (small-i : i < berthCount) (small-j : j < berthCount) (set 
         go [] e = unfold carriedB in s
         go (d ∷ q) e = alive-carriedB w d q e s .alive
 
+    -- a set-up that is refused leaves everything as it was
+    refused-A : (w : World) (number : ℕ) → leftA i w (refusedOutcome (w .a) [] number) ≡ w
+    unfolding leftA refusedOutcome framesBy reports ofBerth ofSide only
+    refused-A w number = λ k. endA w (w .a) (append-nil (w .toB) k) (w .toA) (append-nil (w .log) k) (append-nil (w .said) k)
+
+    refused-B : (w : World) (number : ℕ) → leftB j w (refusedOutcome (w .b) [] number) ≡ w
+    unfolding leftB refusedOutcome framesBy reports ofBerth ofSide only over saysOf
+    refused-B w number =
+        λ k. endB w (w .b) (w .toB) (append-nil (w .toA) k) (append-nil (w .log) k) (append-nil (w .heard) k) (append-nil (w .delivered) k)
+
     alive-acts : (w : World) (d : Deed) → Apart i j w d → Alive w → Alive (acts i j w d)
     unfolding acts
     alive-acts w (atA c) t s = alive-A w c t s
     alive-acts w (atB c) t s = alive-B w c t s
+    alive-acts w (setUpA area block stmin) t s =
+        subst Alive (sym (ap (leftA i w) (set-up-refusal-leaves (w .a) area block stmin t) ∙ refused-A w (setUpRefusal area block stmin))) s
+    alive-acts w (setUpB area block stmin) t s =
+        subst Alive (sym (ap (leftB j w) (set-up-refusal-leaves (w .b) area block stmin t) ∙ refused-B w (setUpRefusal area block stmin))) s
     alive-acts w carryA t s = alive-carryA w s
     alive-acts w carryB t s = alive-carryB w s
 
@@ -540,12 +469,6 @@ sent-part h k m e =
     let p : partOf k (outcome h (send k m) .held) ≡ alone (h .node .settings) (partOf k h) (sends m ∷ []) =
     part-step k h (send k m) ∙ ap (alone (h .node .settings) (partOf k h)) own-k in
     (ap (λ (x : Part). x .berth .tx) p, ap (λ (x : Part). x .outgoing) p)
-
-area-length : (a k : ℕ) (store : List ℕ) → k < berthCount → length store ≡ berthCount * a → length (areaOf a k store) ≡ a
-unfolding areaOf
-area-length a k store h e =
-    let m : suc k * a ≤ berthCount * a = mul-le-mul-right a h in
-    simp (length-take, length-drop) (omega arith)
 
 sent-bytes : (l m out : List ℕ) → out ≡ sets l 0 m → length m ≤ length l → take (length m) out ≡ m
 sent-bytes l m out e h = rw e (rw (zero-add (length m)) at (extended l 0 m (length m) refl (omega arith)))
@@ -590,21 +513,10 @@ module _ (i j : ℕ) (m : List ℕ) (a b : Held) (may : MayBegin i j m a b) wher
   unfolding partOf
   room-b = omega (arith, area-length (setB .area) j (b .incoming) (may .small-j) (may .sound-b .incoming), may .fits-b)
 
-  first-line : lineOf i j (begin i m a b) ≡ under-way i j setB (length m) outA expected (beginsWith (length m)) [] [] [] Rx.Idle (berthAt (b .node) j .last) (partOf j b .incoming)
-  unfolding lineOf
+  first-line : lineIn i j (begin i m a b) ≡ under-way i j setB (length m) outA expected (beginsWith (length m)) [] [] [] Rx.Idle (berthAt (b .node) j .last) (partOf j b .incoming)
+  unfolding lineIn
   first-line =
-      λ k. record {
-        tx = sent-facts .0 k;
-        toR = [];
-        toS = [];
-        log = [];
-        said = [];
-        rx = may .idle-b k;
-        last = berthAt (b .node) j .last;
-        ina = partOf j b .incoming;
-        heard = [];
-        delivered = [];
-      }
+      λ k. under-way i j setB (length m) outA expected (sent-facts .0 k) [] [] [] (may .idle-b k) (berthAt (b .node) j .last) (partOf j b .incoming)
 
   pub begun-alive : Alive i j (may .small-i) (may .small-j) setB (length m) outA expected (begin i m a b)
   begun-alive =
@@ -619,8 +531,8 @@ module _ (i j : ℕ) (m : List ℕ) (a b : Held) (may : MayBegin i j m a b) wher
         phase = subst (λ (x : Line). Phase i j setB (length m) outA expected x k) (sym first-line) ph;
       }
 
-  landed : (w : World) → Alive i j (may .small-i) (may .small-j) setB (length m) outA expected w → Landed i j setB (length m) outA expected (lineOf i j w) → Arrived i j m w
-  unfolding lineOf partOf partShown
+  landed : (w : World) → Alive i j (may .small-i) (may .small-j) setB (length m) outA expected w → Landed i j setB (length m) outA expected (lineIn i j w) → Arrived i j m w
+  unfolding lineIn partOf partShown
   landed w s l =
       let o : T (inOrder (w .b .node)) = range-in-order (w .b .node) (s .sound-b .order) in
       let bytes : take (length m) (areaOf (w .b .node .settings .area) j (w .b .incoming)) ≡ m = l .bytes ∙ message in
@@ -643,13 +555,13 @@ module _ (i j : ℕ) (m : List ℕ) (a b : Held) (may : MayBegin i j m a b) wher
   -- THE LINE'S LAW. Node A takes a message of 1 to A bytes for berth i; berth j of node B is idle and its area holds the message; both
   -- nodes are in order and every store has its length. Then any calls on both nodes, each node's own ticks too, with each frame
   -- of A's berth i carried to B's berth j and its flow control back, under the identifiers expected, once and in order. No other
-  -- frame or send touches these two sides (one that is refused or ignored touches nothing), and no timer of theirs reaches
-  -- 1,000. When none is on the way and neither has one due or a gap left, the same bytes have arrived and the sender reports 1.
+  -- frame, send or set-up touches these two sides (one that is refused or ignored touches nothing), and no timer of theirs
+  -- reaches 1,000. When none is on the way and neither has one due or a gap left, the same bytes have arrived and the sender reports 1.
   pub line-law : (ds : List Deed) → AllApart i j (begin i m a b) ds → AtRest i j (living i j (begin i m a b) ds)
       → Arrived i j m (living i j (begin i m a b) ds)
-  unfolding lineOf
+  unfolding lineIn
   line-law ds apart rest =
       let s = alive-on i j (may .small-i) (may .small-j) setB (length m) outA expected fit-a (may .some) (may .fits-b) small-b (begin i m a b) ds apart begun-alive in
       landed (living i j (begin i m a b) ds) s
-      (at-rest i j setB (length m) outA expected (lineOf i j (living i j (begin i m a b) ds)) (s .steps) (s .phase)
+      (at-rest i j setB (length m) outA expected (lineIn i j (living i j (begin i m a b) ds)) (s .steps) (s .phase)
       (rest .none-there) (rest .none-back) (rest .none-due) (rest .no-gap) (rest .no-flow))

@@ -15,8 +15,8 @@ use Rattle.rules.specs.Turns.{flowDue, messageDue}
 use Rattle.rules.specs.Stores.{areaOf, cameAt}
 use Rattle.rules.specs.Answers.{Answer, Side, receive, send as sendSide, Report, reports}
 use Rattle.rules.specs.Events.{Call, frame, tick, send, turn, show, senderOf}
-use Rattle.rules.specs.Refusals.{refusal}
-use Rattle.rules.specs.Calls.{outcome, showing}
+use Rattle.rules.specs.Refusals.{refusal, setUpRefusal}
+use Rattle.rules.specs.Calls.{Outcome, outcome, setUpOutcome, showing}
 use Rattle.rules.specs.Alone.{Says, hears, expires, accepts, hands}
 use Rattle.rules.specs.declared.Settings.{Settings}
 use Rattle.rules.specs.declared.Choice.{Choice}
@@ -25,7 +25,7 @@ use Rattle.rules.specs.declared.Tx.{Tx}
 use Rattle.rules.specs.declared.Berth.{Berth}
 use Rattle.rules.specs.declared.Word.{Word}
 use Rattle.rules.specs.declared.Word.the-variants.{Delivered, Begun, Failed, Ignored, TooLong, Took, Going, Waiting}
-use Rattle.laws.specs.Own.{over, heardOf, ofBerth, Sound}
+use Rattle.laws.specs.Own.{over, saysOf, ofBerth, Sound}
 use Rattle.laws.specs.Sides.{sameSide, frameSide, ofSide, framesBy}
 
 -- ---- two nodes and the line
@@ -65,52 +65,61 @@ deliveredIn (expires r c) = []
 deliveredIn accepts = []
 deliveredIn (hands f c) = []
 
--- a call on A: the frames of berth i's message go on the way, and the send side's reports are noted
-unfoldable pub callA : ℕ → World → Call → World
-callA i w c =
-    record {
-      a = outcome (w .a) c .held;
-      b = w .b;
-      toB = w .toB ++ framesBy sendSide i (outcome (w .a) c .answer);
-      toA = w .toA;
-      log = w .log ++ map there (framesBy sendSide i (outcome (w .a) c .answer));
-      said = w .said ++ reportsBy sendSide i (outcome (w .a) c .answer);
-      heard = w .heard;
-      delivered = w .delivered;
-    }
+-- the world with A's end anew, and with B's: the node with its stores, the frames on the way there and back, what was handed over,
+-- what the side reported, and the Delivereds of the taker's. It is built here and at the beginning and nowhere else
+abbrev pub endA : World → Held → (toB toA : List (List ℕ)) → List Handed → List Report → World
+endA w held toB toA log said =
+    record { a = held; b = w .b; toB = toB; toA = toA; log = log; said = said; heard = w .heard; delivered = w .delivered }
 
--- a call on B: the flow control of berth j goes on the way back, and the receive side's reports and Delivereds are noted
-unfoldable pub callB : ℕ → World → Call → World
-callB j w c =
-    record {
-      a = w .a;
-      b = outcome (w .b) c .held;
-      toB = w .toB;
-      toA = w .toA ++ framesBy receive j (outcome (w .b) c .answer);
-      log = w .log ++ map back (framesBy receive j (outcome (w .b) c .answer));
-      said = w .said;
-      heard = w .heard ++ reportsBy receive j (outcome (w .b) c .answer);
-      delivered = w .delivered ++ over deliveredIn (heardOf j (outcome (w .b) c .answer));
-    }
+abbrev pub endB : World → Held → (toB toA : List (List ℕ)) → List Handed → List Report → List ℕ → World
+endB w held toB toA log heard delivered =
+    record { a = w .a; b = held; toB = toB; toA = toA; log = log; said = w .said; heard = heard; delivered = delivered }
+
+-- after a call on A: the frames of berth i's message go on the way, and the send side's reports are noted
+unfoldable pub leftA : ℕ → World → Outcome → World
+leftA i w o =
+    endA w (o .held) (w .toB ++ framesBy sendSide i (o .answer)) (w .toA) (w .log ++ map there (framesBy sendSide i (o .answer)))
+    (w .said ++ reportsBy sendSide i (o .answer))
+
+-- after a call on B: the flow control of berth j goes on the way back, and the receive side's reports and Delivereds are noted
+unfoldable pub leftB : ℕ → World → Outcome → World
+leftB j w o =
+    endB w (o .held) (w .toB) (w .toA ++ framesBy receive j (o .answer)) (w .log ++ map back (framesBy receive j (o .answer)))
+    (w .heard ++ reportsBy receive j (o .answer)) (w .delivered ++ over deliveredIn (saysOf j (o .answer)))
+
+abbrev pub callA : ℕ → World → Call → World
+callA i w c = leftA i w (outcome (w .a) c)
+
+abbrev pub callB : ℕ → World → Call → World
+callB j w c = leftB j w (outcome (w .b) c)
+
+-- the frames left on the way are these
+abbrev pub stillToA : World → List (List ℕ) → World
+stillToA w q = endA w (w .a) (w .toB) q (w .log) (w .said)
+
+abbrev pub stillToB : World → List (List ℕ) → World
+stillToB w q = endB w (w .b) q (w .toA) (w .log) (w .heard) (w .delivered)
 
 -- the first frame on the way comes in under the identifier that is expected there; with none on the way nothing happens
 unfoldable pub carriedA : ℕ → World → List (List ℕ) → World
 carriedA i w [] = w
-carriedA i w (d ∷ q) =
-    callA i (record { a = w .a; b = w .b; toB = w .toB; toA = q; log = w .log; said = w .said; heard = w .heard; delivered = w .delivered }) (frame (fromBerth + i) d)
+carriedA i w (d ∷ q) = callA i (stillToA w q) (frame (fromBerth + i) d)
 
 unfoldable pub carriedB : ℕ → World → List (List ℕ) → World
 carriedB j w [] = w
-carriedB j w (d ∷ q) =
-    callB j (record { a = w .a; b = w .b; toB = q; toA = w .toA; log = w .log; said = w .said; heard = w .heard; delivered = w .delivered }) (frame (fromBerth + j) d)
+carriedB j w (d ∷ q) = callB j (stillToB w q) (frame (fromBerth + j) d)
 
+-- a call on either node, a set-up of either with its three settings, and the carrying of a frame to either
 pub data Deed : Type 0 where
   atA atB : Call → Deed
+  setUpA setUpB : (area block stmin : ℕ) → Deed
   carryA carryB : Deed
 
 unfoldable pub acts : (i j : ℕ) → World → Deed → World
 acts i j w (atA c) = callA i w c
 acts i j w (atB c) = callB j w c
+acts i j w (setUpA area block stmin) = leftA i w (setUpOutcome (w .a) area block stmin)
+acts i j w (setUpB area block stmin) = leftB j w (setUpOutcome (w .b) area block stmin)
 acts i j w carryA = carriedA i w (w .toA)
 acts i j w carryB = carriedB j w (w .toB)
 
@@ -148,9 +157,12 @@ spares s k h (show j choice) = true
 abbrev pub Spares : Side → ℕ → Held → Call → Type 0
 Spares s k h c = refusal h c ≡ 0 → T (spares s k h c)
 
+-- a set-up that is refused touches nothing; no other is allowed
 abbrev pub Apart : (i j : ℕ) → World → Deed → Type 0
 Apart i j w (atA c) = Spares sendSide i (w .a) c
 Apart i j w (atB c) = Spares receive j (w .b) c
+Apart i j w (setUpA area block stmin) = 0 < setUpRefusal area block stmin
+Apart i j w (setUpB area block stmin) = 0 < setUpRefusal area block stmin
 Apart i j w carryA = Unit {0}
 Apart i j w carryB = Unit {0}
 
@@ -206,10 +218,13 @@ blocks size count = pick (eqb count 0) 0 (pick (eqb size 0) 1 (roundedUp count s
 
 -- ---- the law: where it begins, and where it ends
 
--- node A has taken the message for berth i; nothing is on the way and nothing was handed over or reported
+-- nothing is on the way and nothing was handed over or reported
+abbrev pub quiet : Held → Held → World
+quiet a b = record { a = a; b = b; toB = []; toA = []; log = []; said = []; heard = []; delivered = [] }
+
+-- node A has taken the message for berth i
 abbrev pub begin : ℕ → List ℕ → Held → Held → World
-begin i m a b =
-    record { a = outcome a (send i m) .held; b = b; toB = []; toA = []; log = []; said = []; heard = []; delivered = [] }
+begin i m a b = quiet (outcome a (send i m) .held) b
 
 -- what the law wants of the two nodes: berth i's send side and berth j's receive side idle, both nodes in order with stores of the
 -- right length, and a message of 1 to A bytes that the taker's area holds

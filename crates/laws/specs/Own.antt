@@ -1,20 +1,20 @@
 -- Demand 3: which events of the node's run are berth k's own, and what the answers say of that berth.
-use Prim.Native.Nat.{ℕ, _-_, _*_}
+use Prim.Native.Nat.{ℕ, _*_}
 use mathlib.Core.Path.{_≡_}
 use mathlib.Core.Bool.{Bool, _&&_}
 use mathlib.Core.List.{List, [], _∷_, _++_}
 use lib.ListN.{length, getD, take}
 use lib.Dec.{ltb, eqb}
 use Rattle.rules.specs.Tests.{pick, unless}
-use Rattle.rules.specs.Numbers.{berthCount, toBerth}
+use Rattle.rules.specs.Numbers.{berthCount}
 use Rattle.rules.specs.Turns.{lengthSending}
 use Rattle.rules.specs.Nodes.{fresh, Held}
 use Rattle.rules.specs.Ranges.{InOrder}
 use Rattle.rules.specs.Stores.{areaOf, passedOver, reached}
-use Rattle.rules.specs.Answers.{Answer, refused, ready, heard, codes, sent, handed, none, shown, receive, send as sendSide, Report, reported, wordReports, reports}
+use Rattle.rules.specs.Answers.{Answer, refused, ready, heard, codes, sent, handed, none, shown, receive, send as sendSide, Report, reported, wordReports, forTaker, reports}
 use Rattle.rules.specs.Events.{Call, frame, tick, send, turn, show, senderOf, Event, arrives, ticks, sends, turns}
 use Rattle.rules.specs.Refusals.{refusal}
-use Rattle.rules.specs.Calls.{chosen, outcome, setUpOutcome, answers, final, showing}
+use Rattle.rules.specs.Calls.{chosen, outcome, setUpOutcome, showing}
 use Rattle.rules.specs.Alone.{partOf, alone, saysAll, Part, Says, hears, expires, accepts, hands}
 use Rattle.rules.specs.declared.Settings.{Settings}
 use Rattle.rules.specs.declared.Choice.{Choice}
@@ -44,22 +44,18 @@ owns k h (c ∷ cs) = own k h c ++ owns k (outcome h c .held) cs
 
 -- ---- what an answer says of berth k
 
--- the berth that the node sends to on an identifier
-abbrev pub takerOf : ℕ → ℕ
-takerOf id = id - toBerth
-
 abbrev pub noCodes : Codes
 noCodes = record { receive = 0; send = 0 }
 
-unfoldable pub heardOf : ℕ → Answer → List Says
-heardOf k (refused n) = []
-heardOf k ready = []
-heardOf k (heard j old w) = pick (eqb j k) (hears old w ∷ []) []
-heardOf k (codes cs) = expires (getD cs k noCodes .receive) (getD cs k noCodes .send) ∷ []
-heardOf k (sent j) = pick (eqb j k) (accepts ∷ []) []
-heardOf k (handed id f c passed) = pick (eqb (takerOf id) k) (hands f c ∷ []) []
-heardOf k (none passed) = []
-heardOf k (shown part) = []
+unfoldable pub saysOf : ℕ → Answer → List Says
+saysOf k (refused n) = []
+saysOf k ready = []
+saysOf k (heard j old w) = pick (eqb j k) (hears old w ∷ []) []
+saysOf k (codes cs) = expires (getD cs k noCodes .receive) (getD cs k noCodes .send) ∷ []
+saysOf k (sent j) = pick (eqb j k) (accepts ∷ []) []
+saysOf k (handed id f c passed) = forTaker id (λ j. pick (eqb j k) (hands f c ∷ []) []) []
+saysOf k (none passed) = []
+saysOf k (shown part) = []
 
 -- ---- reports
 
@@ -104,10 +100,11 @@ freshPart h s k = record { berth = fresh; incoming = areaOf (s .area) k (h .inco
 
 -- ---- demand 3, first half
 
--- what demand 3 says of berth k in a run: its state and areas; its words, codes and frames; its reports; and, if the node is in order
--- and the stores have their lengths, what a show of it returns after the run, are those of its own events on that berth alone
-pub record Alone (s : Settings) (start : Part) (k : ℕ) (h : Held) (cs : List Call) : Type 0 where
-  pub part : partOf k (final h cs) ≡ alone s start (owns k h cs)
-  pub says : over (heardOf k) (answers h cs) ≡ saysAll s start (owns k h cs)
-  pub reported : ofBerth k (over reports (answers h cs)) ≡ over (saidReports k) (saysAll s start (owns k h cs))
-  pub shown : Sound h → (choice : Choice) → showing (final h cs) k choice ≡ partShown (alone s start (owns k h cs)) choice
+-- what demand 3 says of berth k in a run that begins with h, if its own events, the answers and what the run leaves are these: its
+-- state and areas; its words, codes and frames; its reports; and, if the node is in order and the stores have their lengths, what a
+-- show of it returns after the run, are those of its own events on that berth alone
+pub record Alone (s : Settings) (start : Part) (k : ℕ) (h : Held) (own : List Event) (said : List Answer) (end : Held) : Type 0 where
+  pub part : partOf k end ≡ alone s start own
+  pub says : over (saysOf k) said ≡ saysAll s start own
+  pub reported : ofBerth k (over reports said) ≡ over (saidReports k) (saysAll s start own)
+  pub shown : Sound h → (choice : Choice) → showing end k choice ≡ partShown (alone s start own) choice

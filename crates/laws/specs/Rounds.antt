@@ -9,11 +9,10 @@ use lib.Dec.{T, eqb}
 use Rattle.rules.specs.Tests.{pick}
 use Rattle.rules.specs.Nodes.{berthAt, Held}
 use Rattle.rules.specs.Turns.{due}
-use Rattle.rules.specs.Answers.{Answer, refused, ready, heard, codes, sent, handed, none, shown}
+use Rattle.rules.specs.Answers.{Answer, refused, ready, heard, codes, sent, handed, none, shown, forTaker}
 use Rattle.rules.specs.Events.{Call, frame, tick, send, turn, show}
 use Rattle.rules.specs.Refusals.{refusal}
 use Rattle.rules.specs.Calls.{outcome}
-use Rattle.laws.specs.Own.{takerOf}
 
 -- the answers to calls for a frame, in order: the berth served, or that there was none
 pub data Turn : Type 0 where
@@ -26,7 +25,7 @@ turnOf ready = []
 turnOf (heard j old w) = []
 turnOf (codes cs) = []
 turnOf (sent j) = []
-turnOf (handed id f c passed) = served (takerOf id) ∷ []
+turnOf (handed id f c passed) = forTaker id served nobody ∷ []
 turnOf (none passed) = nobody ∷ []
 turnOf (shown part) = []
 

@@ -1,19 +1,20 @@
 -- Receiving and sending are independent: one side of a berth by itself, which of the berth's events are that side's, and which
 -- reports and frames.
 use Prim.Native.Nat.{ℕ}
+use mathlib.Core.Path.{_≡_}
 use mathlib.Core.Bool.{Bool, true, false, _&&_}
 use mathlib.Core.List.{List, [], _∷_, _++_, map}
 use lib.Dec.{eqb}
 use Rattle.rules.specs.Tests.{pick}
 use Rattle.rules.specs.Numbers.{flowKind}
-use Rattle.rules.specs.Nodes.{fresh}
+use Rattle.rules.specs.Nodes.{fresh, Held}
 use Rattle.rules.specs.Frames.{kind}
 use Rattle.rules.specs.Turns.{flowDue}
-use Rattle.rules.specs.Answers.{Answer, refused, ready, heard, codes, sent, handed, none, shown, Side, receive, send, Report}
-use Rattle.rules.specs.Events.{Event, arrives, ticks, sends, turns}
-use Rattle.rules.specs.Alone.{Part, Says, hears, expires, accepts, hands, partAfter, says}
+use Rattle.rules.specs.Answers.{Answer, refused, ready, heard, codes, sent, handed, none, shown, Side, receive, send, Report, forTaker, reports}
+use Rattle.rules.specs.Events.{Call, frame, tick, send as sendTo, turn, show, Event, arrives, ticks, sends, turns}
+use Rattle.rules.specs.Alone.{Part, partOf, Says, hears, expires, accepts, hands, partAfter, says, alone, saysAll}
 use Rattle.rules.specs.declared.Settings.{Settings}
-use Rattle.laws.specs.Own.{takerOf, only}
+use Rattle.laws.specs.Own.{over, saysOf, only, ofBerth, saidReports}
 
 abbrev pub sameSide : Side → Side → Bool
 sameSide receive receive = true
@@ -84,6 +85,39 @@ framesBy s k ready = []
 framesBy s k (heard j old w) = []
 framesBy s k (codes cs) = []
 framesBy s k (sent j) = []
-framesBy s k (handed id f c passed) = pick (eqb (takerOf id) k && sameSide s (handedSide f)) (f ∷ []) []
+framesBy s k (handed id f c passed) = forTaker id (λ j. pick (eqb j k && sameSide s (handedSide f)) (f ∷ []) []) []
 framesBy s k (none passed) = []
 framesBy s k (shown part) = []
+
+-- ---- what the answers say of a side
+
+-- flow control that is handed over is the receive side's to say, any other frame the send side's
+unfoldable pub handsFor : Side → Says → List Says
+handsFor s (hears old w) = []
+handsFor s (expires r c) = []
+handsFor s accepts = []
+handsFor s (hands f c) = pick (sameSide s (handedSide f)) (hands f c ∷ []) []
+
+-- of what the answer to a call says of a berth, the side's part: the word for a frame of its own, its own code of a tick, that it takes a
+-- message, a frame of its own
+unfoldable pub saysFor : Side → Call → Says → List Says
+saysFor s (frame id d) x = pick (sameSide s (frameSide d)) (x ∷ []) []
+saysFor s tick x = onlySide s x ∷ []
+saysFor s (sendTo j m) x = pick (sameSide s send) (x ∷ []) []
+saysFor s (turn buffer) x = handsFor s x
+saysFor s (show j choice) x = []
+
+-- of all calls of a run and their answers
+unfoldable pub saysBy : Side → ℕ → List Call → List Answer → List Says
+saysBy s k [] answers = []
+saysBy s k (c ∷ cs) [] = []
+saysBy s k (c ∷ cs) (a ∷ answers) = over (saysFor s c) (saysOf k a) ++ saysBy s k cs answers
+
+-- ---- each side alone
+
+-- the same of side s of berth k as demand 3 says of a berth: its state and area; its words and codes; its frames; its reports
+pub record SideAlone (set : Settings) (start : Part) (s : Side) (k : ℕ) (own : List Event) (cs : List Call) (said : List Answer) (end : Held) : Type 0 where
+  pub part : sideOf s (partOf k end) ≡ alone set start own
+  pub says : saysBy s k cs said ≡ saysAll set start own
+  pub frames : over (framesBy s k) said ≡ over handedIn (saysAll set start own)
+  pub reported : ofSide s (ofBerth k (over reports said)) ≡ over (saidReports k) (saysAll set start own)

@@ -1,11 +1,12 @@
--- Bytes put down inside berth k's area change that area alone.
+-- Bytes put down inside berth k's area change that area alone, and an area has A bytes.
 use mathlib.Core.Path.{_≡_, refl, sym, ap, _∙_}
 use Prim.Native.Nat.{ℕ, suc, _+_, _-_, _*_, _≤_, _<_}
 use native.Mathlib.Nat.{mul-le-mul-right, add-suc}
 use native.Mathlib.Omega.{arith}
 use mathlib.Core.List.{List, [], _∷_}
-use lib.ListN.{length, take, drop, set}
+use lib.ListN.{length, take, drop, set, length-take, length-drop}
 use lib.Seq.{sets, drop-set-add, drop-set-lt, take-set-lt, take-set-le}
+use Rattle.rules.specs.Numbers.{berthCount}
 use Rattle.rules.specs.Stores.{areaOf, stored}
 use Rattle.rules.proofs.Cases.{split}
 
@@ -42,3 +43,10 @@ area-other a j k at (v ∷ vs) s ne h =
     ap (λ (i : ℕ). areaOf a j (sets (set s (k * a + at) v) i vs)) (sym (add-suc (k * a) at))
     ∙ area-other a j k (suc at) vs (set s (k * a + at) v) ne (omega arith)
     ∙ byte-other a j k s at v ne (omega arith)
+
+-- an area of a store of ten has A bytes
+pub area-length : (a k : ℕ) (store : List ℕ) → k < berthCount → length store ≡ berthCount * a → length (areaOf a k store) ≡ a
+unfolding areaOf
+area-length a k store h e =
+    let m : suc k * a ≤ berthCount * a = mul-le-mul-right a h in
+    simp (length-take, length-drop) (omega arith)

@@ -2,7 +2,7 @@
 use Prim.Native.Nat.{ℕ, zero, suc, _-_}
 use mathlib.Core.List.{List, [], _∷_, _++_}
 use lib.ListN.{take}
-use lib.Dec.{eqb}
+use lib.Dec.{leb, eqb}
 use Rattle.rules.specs.Tests.{pick, unless}
 use Rattle.rules.specs.Numbers.{frameSize, toBerth, N-OK, N-WRONG-SN}
 use Rattle.rules.specs.declared.Word.{Word}
@@ -60,13 +60,17 @@ unfoldable pub codesReports : ℕ → List Codes → List Report
 codesReports k [] = []
 codesReports k (c ∷ cs) = reported k receive (c .receive) ++ (reported k send (c .send) ++ codesReports (suc k) cs)
 
+-- whose an identifier is that the node sends on: berth k's if it is 660 hex + k, nobody's if it is below 660 hex
+abbrev pub forTaker {ℓ} : {X : Type ℓ} → ℕ → (ℕ → X) → X → X
+forTaker id its nobodys = pick (leb toBerth id) (its (id - toBerth)) nobodys
+
 unfoldable pub reports : Answer → List Report
 reports (refused n) = []
 reports ready = []
 reports (heard k old w) = reported k receive old ++ wordReports k w
 reports (codes cs) = codesReports 0 cs
 reports (sent k) = []
-reports (handed id frame code passed) = reported (id - toBerth) send code
+reports (handed id frame code passed) = forTaker id (λ k. reported k send code) []
 reports (none passed) = []
 reports (shown part) = []
 

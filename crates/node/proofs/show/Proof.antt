@@ -19,11 +19,15 @@ says : (c : tie.After-showable) → let a = c .before .before .before .before .a
     showable (lent (a .t1) (now (a .incoming)) (now (a .outgoing))) (a .berth) ≡ c .showable .result
 says c = sym (c .showable .ensures (c .before .before .before .before .args .t1) (c .before .in-order .ensures) refl)
 
+-- where the tests were made, and where the call began
+abbrev tested : tie.After-length-shown → tie.After-showable
+tested c = c .before .before .before .before .before
+
 abbrev start : tie.After-length-shown → tie.Start
-start c = c .before .before .before .before .before .before .before .before .before
+start c = tested c .before .before .before .before
 
 yes : (c : tie.After-length-shown) → let a = start c .args in showable (lent (a .t1) (now (a .incoming)) (now (a .outgoing))) (a .berth) ≡ true
-yes c = says (c .before .before .before .before .before) ∙ c .before .before .before .before .if1 .taken
+yes c = says (tested c) ∙ c .before .before .before .before .if1 .taken
 
 can : (c : tie.After-length-shown) → let a = start c .args in Able (a .t1) (now (a .incoming)) (now (a .outgoing)) (a .berth)
 can c = let a = start c .args in able (a .t1) (now (a .incoming)) (now (a .outgoing)) (a .berth) (yes c)

@@ -1,0 +1,108 @@
+-- Chains that meet the premises of the laws of the code's runs, and poor nodes that are no run, computed.
+use Prim.Native.Nat.{ℕ}
+use native.Mathlib.Omega.{arith}
+use mathlib.Core.Path.{_≡_, refl, ap}
+use mathlib.Core.List.{List, [], _∷_, _++_}
+use lib.ListN.{getD, replicate}
+use lib.Dec.{lit<, lit≤}
+use Rattle.rules.specs.Tests.{all, each, firstUnmet}
+use Rattle.rules.specs.Nodes.{berthAt, withBerth, Held, blankNode, withNode}
+use Rattle.rules.specs.Ranges.{settingsAllowed, inBlock, takingInRange, berthInOrder, inOrder}
+use Rattle.rules.specs.Frames.{kind, low, singleFits, shortLength, escapeLength, announced, firstFits, consecutiveFits, share}
+use Rattle.rules.specs.Arrivals.{singleCame, begun, firstCame, piece, completed, awaitedCame, heardBy, byKind, frameCame}
+use Rattle.rules.specs.Turns.{due, handOver, beginsWith, sent as sentBerth}
+use Rattle.rules.specs.Events.{Call, frame, tick, send, turn, ticks, arrives}
+use Rattle.rules.specs.Stores.{rightStore, areaOf, stored, inside, servedNode, setUpNode, distance, leastDistance, passedOver, reached, cameAt, handedAt}
+use Rattle.rules.specs.Answers.{refused}
+use Rattle.rules.specs.Refusals.{needs, refusal}
+use Rattle.rules.specs.Calls.{Outcome, afterFrame, done, outcome}
+use Rattle.rules.specs.Alone.{partOf, partAfter, says, hears}
+use Rattle.rules.specs.declared.Word.the-variants.{Delivered}
+use Rattle.rules.specs.declared.Settings.{Settings}
+use Rattle.rules.specs.declared.Tx.{Tx}
+use Rattle.laws.specs.Own.{ownDone, own, over}
+use Rattle.laws.specs.Rounds.{turnOf, StaysDue, Fair}
+use Rattle.laws.specs.Line.{blank}
+use Rattle.laws.proofs.Examples.{two, twoRun, afresh-computed, crowd, crowdRun, crowd-computed}
+use Rattle.runs.specs.Chains.{Made, AfterSetUp, madeOf, saidBy, leftBy, DueIn, EachAlone}
+use Rattle.runs.proofs.Runs.{chain-fair, chain-alone-after-set-up}
+use Rattle.runs.proofs.Every.{every-chain, every-after-set-up}
+use Rattle.runs.proofs.PoorNodes.{one-more, refusing-again, idle-again-timers, counting-again, fixed-again, fixed-again-bytes}
+
+-- ---- demand 3: the run of eight calls after a set-up, and ten calls for a frame while all ten berths are due
+
+pub alone-here : EachAlone two (two .node .settings) (setUpNode (two .node .settings)) (madeOf (withNode two (setUpNode (two .node .settings))) twoRun)
+alone-here =
+    chain-alone-after-set-up two (two .node .settings) (setUpNode (two .node .settings)) (madeOf (withNode two (setUpNode (two .node .settings))) twoRun)
+    (every-after-set-up two (two .node .settings) twoRun (afresh-computed .0))
+
+due-made : (k : ℕ) (h : Held) (cs : List Call) → StaysDue k h cs → DueIn k h (madeOf h cs)
+unfolding StaysDue DueIn madeOf
+due-made k h [] t = tt
+due-made k h (c ∷ cs) t = (t .0, due-made k (outcome h c .held) cs (t .1))
+
+pub fair-here : Fair 4 (over turnOf (saidBy (madeOf crowd crowdRun)))
+fair-here = chain-fair 4 (lit< tt) crowd (madeOf crowd crowdRun) (every-chain crowd crowdRun) (due-made 4 crowd crowdRun (crowd-computed .1))
+
+-- ---- poor nodes after a set-up with A 8, BS 0, STmin 0, of a node that no set-up had filled, with stores of zeros
+
+abbrev unset : Held
+unset = record { node = blankNode; incoming = replicate 80 0; outgoing = replicate 80 0 }
+
+abbrev eight : Settings
+eight = record { area = 8; block = 0; stmin = 0 }
+
+abbrev made : Call → Outcome → Made
+made c o = record { call = c; out = o }
+
+-- refusing: a tick that is answered with a refusal is no run
+pub refusing-here : (o : Outcome) (number : ℕ) → AfterSetUp unset eight (setUpNode eight) (made tick o ∷ []) → o .answer ≡ refused number → ⊥
+unfolding own ownDone leftBy refusal needs firstUnmet inOrder all each settingsAllowed berthInOrder setUpNode
+refusing-here o number r = refusing-again (one-more [] (made tick o) 0 ticks r (lit< tt) refl) number
+
+-- a fixed answer, and fixed bytes: two single frames of other lengths, and of other bytes
+pub fixed-here : (o q : Outcome) → AfterSetUp unset eight (setUpNode eight) (made (frame 0x640 (0x01 ∷ 7 ∷ [])) o ∷ [])
+    → AfterSetUp unset eight (setUpNode eight) (made (frame 0x640 (0x02 ∷ 7 ∷ 8 ∷ [])) q ∷ []) → o .answer ≡ q .answer → ⊥
+unfolding
+    own ownDone leftBy refusal needs firstUnmet rightStore inside inOrder all each settingsAllowed berthInOrder setUpNode berthAt
+    cameAt frameCame byKind kind low heardBy singleCame singleFits partOf says
+fixed-here o q r x =
+    fixed-again (one-more [] (made (frame 0x640 (0x01 ∷ 7 ∷ [])) o) 0 (arrives (0x01 ∷ 7 ∷ [])) r (lit< tt) refl)
+    (one-more [] (made (frame 0x640 (0x02 ∷ 7 ∷ 8 ∷ [])) q) 0 (arrives (0x02 ∷ 7 ∷ 8 ∷ [])) x (lit< tt) refl)
+    (λ e. let f : hears 0 (Delivered 1) ≡ hears 0 (Delivered 2) = e in let z : _≡_ {A = ℕ} 1 2 = cc in omega arith)
+
+pub fixed-bytes-here : (o q : Outcome) → AfterSetUp unset eight (setUpNode eight) (made (frame 0x640 (0x01 ∷ 7 ∷ [])) o ∷ [])
+    → AfterSetUp unset eight (setUpNode eight) (made (frame 0x640 (0x01 ∷ 8 ∷ [])) q ∷ []) → partOf 0 (o .held) .incoming ≡ partOf 0 (q .held) .incoming → ⊥
+unfolding
+    own ownDone leftBy refusal needs firstUnmet rightStore inside inOrder all each settingsAllowed berthInOrder setUpNode berthAt
+    cameAt frameCame byKind kind low heardBy singleCame singleFits partOf partAfter areaOf
+fixed-bytes-here o q r x =
+    fixed-again-bytes (one-more [] (made (frame 0x640 (0x01 ∷ 7 ∷ [])) o) 0 (arrives (0x01 ∷ 7 ∷ [])) r (lit< tt) refl)
+    (one-more [] (made (frame 0x640 (0x01 ∷ 8 ∷ [])) q) 0 (arrives (0x01 ∷ 8 ∷ [])) x (lit< tt) refl)
+    (λ e. let z : _≡_ {A = ℕ} 7 8 = ap (λ (l : List ℕ). getD l 0 0) e in omega arith)
+
+-- doing nothing: a message was sent, and a tick leaves its berth as it was
+abbrev afterSend : List Made
+afterSend = madeOf (withNode unset (setUpNode eight)) (send 0 (1 ∷ []) ∷ [])
+
+pub idle-here : (o : Outcome) → AfterSetUp unset eight (setUpNode eight) (afterSend ++ made tick o ∷ [])
+    → partOf 0 (o .held) .berth ≡ partOf 0 (leftBy (withNode unset (setUpNode eight)) afterSend) .berth → ⊥
+unfolding
+    madeOf own ownDone leftBy refusal needs firstUnmet rightStore inOrder all each settingsAllowed berthInOrder setUpNode berthAt
+    outcome done withBerth sentBerth beginsWith partOf
+idle-here o r = idle-again-timers (one-more afterSend (made tick o) 0 ticks r (lit< tt) refl) (λ e. let f : Tx.SingleDue 1 0 ≡ Tx.Idle = e .1 in let z : _≡_ {A = ℕ} 0 1 = cc in omega arith)
+
+-- counting only: a first frame of eight bytes came in and go was handed over; the consecutive frame leaves the area as it was
+abbrev afterGo : List Made
+afterGo = madeOf (withNode unset (setUpNode eight)) (frame 0x640 (0x10 ∷ 8 ∷ 1 ∷ 2 ∷ 3 ∷ 4 ∷ 5 ∷ 6 ∷ []) ∷ turn blank ∷ [])
+
+pub counting-here : (o : Outcome) → AfterSetUp unset eight (setUpNode eight) (afterGo ++ made (frame 0x640 (0x21 ∷ 7 ∷ 8 ∷ [])) o ∷ [])
+    → partOf 0 (o .held) .incoming ≡ partOf 0 (leftBy (withNode unset (setUpNode eight)) afterGo) .incoming → ⊥
+unfolding
+    madeOf own ownDone leftBy refusal needs firstUnmet rightStore inside inOrder all each settingsAllowed berthInOrder takingInRange inBlock setUpNode berthAt
+    outcome done afterFrame stored withBerth cameAt frameCame byKind kind low heardBy firstCame firstFits announced shortLength escapeLength begun
+    awaitedCame completed consecutiveFits piece share passedOver leastDistance distance due reached servedNode handedAt handOver partOf areaOf
+counting-here o r =
+    counting-again (0x21 ∷ 7 ∷ 8 ∷ []) (record { total = 8; got = 6; sn = record { 0 = 1 }; taken = 0 }) 0
+    (one-more afterGo (made (frame 0x640 (0x21 ∷ 7 ∷ 8 ∷ [])) o) 0 (arrives (0x21 ∷ 7 ∷ 8 ∷ [])) r (lit< tt) refl) refl refl tt refl (lit≤ tt)
+    (λ e. let z : _≡_ {A = ℕ} 0 7 = ap (λ (l : List ℕ). getD l 0 0) e in omega arith)

@@ -1,0 +1,6 @@
+-- The laws of the code's runs.
+pub mod Runs
+pub mod Every
+pub mod PoorNodes
+pub mod Lines
+pub mod Examples

@@ -1,0 +1,128 @@
+-- A chain of the code's calls is a run of the rules: each call's promise says that it left the rule's outcome, so by induction the chain
+-- says `answers` and leaves `final`, and what the laws say of these holds of the chain.
+use Prim.Native.Nat.{ℕ, zero, suc, _<_}
+use mathlib.Core.Path.{_≡_, refl, ap, ap₂, _∙_}
+use mathlib.Core.List.{List, [], _∷_, _++_, map}
+use Rattle.rules.specs.Tests.{unless}
+use Rattle.rules.specs.Numbers.{berthCount}
+use Rattle.rules.specs.Nodes.{Held, withNode}
+use Rattle.rules.specs.Events.{Call, Event}
+use Rattle.rules.specs.Stores.{setUpNode}
+use Rattle.rules.specs.Answers.{Side, Answer, ready, setUpSays}
+use Rattle.rules.specs.Refusals.{setUpRefusal}
+use Rattle.rules.specs.Calls.{Outcome, refusedOutcome, outcome, setUpOutcome, outcomes, answers, final}
+use Rattle.rules.specs.Alone.{Part, partOf}
+use Rattle.rules.specs.declared.Settings.{Settings}
+use Rattle.rules.specs.declared.Node.{Node}
+use Rattle.rules.specs.declared.SetUpAnswer.{SetUpAnswer}
+use Rattle.node.specs.Promises.{lent, left, SetUpPromise}
+use Rattle.node.proofs.Determined.{set-up-is, frame-is, tick-is, send-is, turn-is, show-is}
+use Rattle.laws.specs.Own.{own, owns, over, setUp, freshPart, Alone}
+use Rattle.laws.specs.Sides.{sideOf, sideEvents, SideAlone}
+use Rattle.laws.specs.Rounds.{StaysDue, turnOf, Fair}
+use Rattle.laws.proofs.SetUp.{each-alone, each-alone-after-set-up}
+use Rattle.laws.proofs.SideRuns.{side-alone-in-run}
+use Rattle.laws.proofs.Fairness.{fair}
+use Rattle.runs.specs.Chains.{Step, frames, ticks, sends, turns, shows, Made, Chain, AfterSetUp, callsOf, saidBy, leftBy, ownIn, DueIn, EachAlone}
+
+-- EACH CALL'S PROMISE says that it answered and left the rule's outcome.
+pub step-is : {h : Held} {c : Call} {o : Outcome} → Step h c o → o ≡ outcome h c
+step-is {h} (frames id d a n incoming p) = frame-is (h .node) n (h .incoming) incoming id d a p (h .outgoing)
+step-is {h} (ticks a n p) = tick-is (h .node) n a p (h .incoming) (h .outgoing)
+step-is {h} (sends k m a n outgoing p) = send-is (h .node) n (h .outgoing) outgoing k m a p (h .incoming)
+step-is {h} (turns buffer a n buffer′ p) = turn-is (h .node) n (h .outgoing) buffer buffer′ a p (h .incoming)
+step-is {h} (shows k choice part in-at out-at part-at p) = show-is (h .node) (h .incoming) (h .outgoing) k choice part in-at out-at part-at p
+
+-- ---- a chain is a run of the rules, from any start
+
+module _ (h : Held) (m : Made) (e : m .out ≡ outcome h (m .call)) where
+  held-same : m .out .held ≡ outcome h (m .call) .held
+  held-same = ap (λ (o : Outcome). o .held) e
+
+-- A CHAIN answers and leaves, call by call, what the rules say of the same calls.
+pub chain-is : (h : Held) (ms : List Made) → Chain h ms → map (λ (m : Made). m .out) ms ≡ outcomes h (callsOf ms)
+unfolding Chain outcomes
+chain-is h [] c = refl
+chain-is h (m ∷ ms) c =
+    let e = step-is (c .0) in
+    ap₂ (λ (o : Outcome) (rest : List Outcome). o ∷ rest) e
+    (chain-is (m .out .held) ms (c .1) ∙ ap (λ (g : Held). outcomes g (callsOf ms)) (held-same h m e))
+
+-- A CHAIN SAYS `answers`,
+pub chain-says : (h : Held) (ms : List Made) → Chain h ms → saidBy ms ≡ answers h (callsOf ms)
+unfolding Chain answers
+chain-says h [] c = refl
+chain-says h (m ∷ ms) c =
+    let e = step-is (c .0) in
+    ap₂ (λ (a : Answer) (rest : List Answer). a ∷ rest) (ap (λ (o : Outcome). o .answer) e)
+    (chain-says (m .out .held) ms (c .1) ∙ ap (λ (g : Held). answers g (callsOf ms)) (held-same h m e))
+
+-- AND LEAVES `final`;
+pub chain-leaves : (h : Held) (ms : List Made) → Chain h ms → leftBy h ms ≡ final h (callsOf ms)
+unfolding Chain leftBy final
+chain-leaves h [] c = refl
+chain-leaves h (m ∷ ms) c =
+    chain-leaves (m .out .held) ms (c .1) ∙ ap (λ (g : Held). final g (callsOf ms)) (held-same h m (step-is (c .0)))
+
+-- a berth's own events in it are those of the run,
+chain-owns : (k : ℕ) (h : Held) (ms : List Made) → Chain h ms → ownIn k h ms ≡ owns k h (callsOf ms)
+unfolding Chain ownIn owns
+chain-owns k h [] c = refl
+chain-owns k h (m ∷ ms) c =
+    ap (λ (es : List Event). own k h (m .call) ++ es)
+    (chain-owns k (m .out .held) ms (c .1) ∙ ap (λ (g : Held). owns k g (callsOf ms)) (held-same h m (step-is (c .0))))
+
+-- and what is due in it is due in the run
+chain-due : (k : ℕ) (h : Held) (ms : List Made) → Chain h ms → DueIn k h ms → StaysDue k h (callsOf ms)
+unfolding Chain DueIn StaysDue
+chain-due k h [] c t = tt
+chain-due k h (m ∷ ms) c t =
+    (t .0, rw (held-same h m (step-is (c .0))) at (chain-due k (m .out .held) ms (c .1) (t .1)))
+
+-- ---- demand 3
+
+-- what a chain says and leaves is as alone, if that holds of the run of the same calls
+as-run : (s : Settings) (p : Part) (k : ℕ) (h : Held) (ms : List Made) → Chain h ms
+    → Alone s p k h (owns k h (callsOf ms)) (answers h (callsOf ms)) (final h (callsOf ms)) → Alone s p k h (ownIn k h ms) (saidBy ms) (leftBy h ms)
+as-run s p k h ms c a = rw (chain-owns k h ms c, chain-says h ms c, chain-leaves h ms c) a
+
+-- EACH BERTH ALONE, in any chain of calls from any start.
+pub chain-alone : (h : Held) (ms : List Made) (k : ℕ) → k < berthCount → Chain h ms
+    → Alone (h .node .settings) (partOf k h) k h (ownIn k h ms) (saidBy ms) (leftBy h ms)
+chain-alone h ms k l c = as-run (h .node .settings) (partOf k h) k h ms c (each-alone h (callsOf ms) k l)
+
+-- EACH SIDE ALONE, in any chain of calls from any start.
+pub chain-side-alone : (s : Side) (k : ℕ) (h : Held) (ms : List Made) → Chain h ms
+    → SideAlone (h .node .settings) (sideOf s (partOf k h)) s k (sideEvents s (h .node .settings) (partOf k h) (ownIn k h ms)) (callsOf ms) (saidBy ms) (leftBy h ms)
+chain-side-alone s k h ms c = rw (chain-owns k h ms c, chain-says h ms c, chain-leaves h ms c) (side-alone-in-run s k h (callsOf ms))
+
+-- DEMAND 3, SECOND HALF, OF THE CODE. In any chain of calls, while berth k has a frame due at every answered call for a frame, none
+-- of these calls answers None, no berth has two turns before k's first, and k's own comes by the tenth.
+pub chain-fair : (k : ℕ) → k < berthCount → (h : Held) (ms : List Made) → Chain h ms → DueIn k h ms → Fair k (over turnOf (saidBy ms))
+chain-fair k l h ms c t = rw (chain-says h ms c) (fair k l h (callsOf ms) (chain-due k h ms c t))
+
+-- a set-up that is answered Ready was not refused, and left what the rules leave
+module _ (h : Held) (s : Settings) (n : Node) (p : SetUpPromise (h .node) (s .area) (s .block) (s .stmin) SetUpAnswer.Ready n) where
+  set-up-left : left ready (withNode h n) [] ≡ setUpOutcome h (s .area) (s .block) (s .stmin)
+  unfolding setUpSays
+  set-up-left = set-up-is (h .node) n (s .area) (s .block) (s .stmin) SetUpAnswer.Ready p (h .incoming) (h .outgoing)
+
+  ready-free : setUpRefusal (s .area) (s .block) (s .stmin) ≡ 0
+  unfolding setUpOutcome refusedOutcome
+  ready-free = go (setUpRefusal (s .area) (s .block) (s .stmin)) (ap (λ (o : Outcome). o .answer) set-up-left)
+    where
+      go : (number : ℕ)
+          → ready ≡ unless number (refusedOutcome h []) (left ready (lent (setUpNode s) (h .incoming) (h .outgoing)) []) .answer → number ≡ 0
+      go zero e = refl
+      go (suc number) e = cc
+
+  ready-held : withNode h n ≡ setUp h s
+  ready-held = ap (λ (o : Outcome). o .held) set-up-left
+
+-- DEMAND 3, FIRST HALF, OF THE CODE. Take any chain of calls after a set-up that the code answered with Ready. Each berth's state,
+-- areas, words, codes, frames and reports, and what is shown of it, are those that the rules give for that berth alone, fresh at
+-- the start: its own frames and sends, all ticks, and the turns it received, refused calls left out.
+pub chain-alone-after-set-up : (h : Held) (s : Settings) (n : Node) (ms : List Made) → AfterSetUp h s n ms → EachAlone h s n ms
+chain-alone-after-set-up h s n ms r k l =
+    as-run s (freshPart h s k) k (withNode h n) ms (r .chain)
+    (rw (ready-held h s n (r .ready)) (each-alone-after-set-up h s (callsOf ms) k l (ready-free h s n (r .ready))))

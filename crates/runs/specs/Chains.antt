@@ -1,0 +1,92 @@
+-- A run of the code: a chain of calls, the same node and the same two stores throughout. Of a call only its promise is known; it is
+-- the same promise by value and on a lent node.
+use Prim.Native.Nat.{ℕ, _<_}
+use mathlib.Core.Path.{_≡_}
+use mathlib.Core.List.{List, [], _∷_, _++_, map}
+use Rattle.rules.specs.Numbers.{berthCount}
+use Rattle.rules.specs.Nodes.{Held, withNode, withIncoming, withOutgoing}
+use Rattle.rules.specs.Events.{Call, frame, tick, send, turn, show, Event}
+use Rattle.rules.specs.Answers.{Answer, shown, frameSays, tickSays, sendSays, turnSays}
+use Rattle.rules.specs.Calls.{Outcome, outcome}
+use Rattle.rules.specs.Alone.{Part, partOf}
+use Rattle.rules.specs.declared.Choice.{Choice}
+use Rattle.rules.specs.declared.Settings.{Settings}
+use Rattle.rules.specs.declared.Node.{Node}
+use Rattle.rules.specs.declared.SetUpAnswer.{SetUpAnswer}
+use Rattle.rules.specs.declared.FrameAnswer.{FrameAnswer}
+use Rattle.rules.specs.declared.TickAnswer.{TickAnswer}
+use Rattle.rules.specs.declared.SendAnswer.{SendAnswer}
+use Rattle.rules.specs.declared.TurnAnswer.{TurnAnswer}
+use Rattle.node.specs.Promises.{left, SetUpPromise, FramePromise, TickPromise, SendPromise, TurnPromise, ShowPromise}
+use Rattle.laws.specs.Own.{own, freshPart, Alone}
+use Rattle.laws.specs.Rounds.{DueAt}
+
+-- one call of the code: it was given h, and answered and left this, of which its promise alone is known. A store that it is not given is
+-- as it was
+pub data Step (h : Held) : Call → Outcome → Type 0 where
+  frames : (id : ℕ) (d : List ℕ) (a : FrameAnswer) (n : Node) (incoming : List ℕ) → FramePromise (h .node) (h .incoming) id d a n incoming
+      → Step h (frame id d) (left (frameSays a) (withIncoming (withNode h n) incoming) [])
+  ticks : (a : TickAnswer) (n : Node) → TickPromise (h .node) a n
+      → Step h tick (left (tickSays a) (withNode h n) [])
+  sends : (k : ℕ) (m : List ℕ) (a : SendAnswer) (n : Node) (outgoing : List ℕ) → SendPromise (h .node) (h .outgoing) k m a n outgoing
+      → Step h (send k m) (left (sendSays a) (withOutgoing (withNode h n) outgoing) [])
+  turns : (buffer : List ℕ) (a : TurnAnswer) (n : Node) (buffer′ : List ℕ) → TurnPromise (h .node) (h .outgoing) buffer a n buffer′
+      → Step h (turn buffer) (left (turnSays a buffer′) (withNode h n) buffer′)
+  shows : (k : ℕ) (choice : Choice) (part : List ℕ) (in-at out-at part-at : ℕ × ℕ)
+      → ShowPromise (h .node) (h .incoming) (h .outgoing) k choice part in-at out-at part-at
+      → Step h (show k choice) (left (shown part) h [])
+
+-- a call that was made, and what it answered and left
+pub record Made : Type 0 where
+  pub call : Call
+  pub out : Outcome
+
+-- a chain: each call is given what the one before it left
+unfoldable pub Chain : Held → List Made → Type 0
+Chain h [] = Unit {0}
+Chain h (m ∷ ms) = Step h (m .call) (m .out) × Chain (m .out .held) ms
+
+-- a set-up that the code answered with Ready, and a chain on the node that it left and the stores, which it does not touch
+pub record AfterSetUp (h : Held) (s : Settings) (n : Node) (ms : List Made) : Type 0 where
+  pub ready : SetUpPromise (h .node) (s .area) (s .block) (s .stmin) SetUpAnswer.Ready n
+  pub chain : Chain (withNode h n) ms
+
+-- a run of the rules as a chain: the calls of a list, each with the rule's outcome
+unfoldable pub madeOf : Held → List Call → List Made
+madeOf h [] = []
+madeOf h (c ∷ cs) = record { call = c; out = outcome h c } ∷ madeOf (outcome h c .held) cs
+
+-- ---- what a chain said and left, read off its calls
+
+abbrev pub callsOf : List Made → List Call
+callsOf ms = map (λ (m : Made). m .call) ms
+
+abbrev pub saidBy : List Made → List Answer
+saidBy ms = map (λ (m : Made). m .out .answer) ms
+
+unfoldable pub leftBy : Held → List Made → Held
+leftBy h [] = h
+leftBy h (m ∷ ms) = leftBy (m .out .held) ms
+
+-- berth k's own events, each call at what it was given
+unfoldable pub ownIn : ℕ → Held → List Made → List Event
+ownIn k h [] = []
+ownIn k h (m ∷ ms) = own k h (m .call) ++ ownIn k (m .out .held) ms
+
+-- berth k has a frame due at each answered call for a frame
+unfoldable pub DueIn : ℕ → Held → List Made → Type 0
+DueIn k h [] = Unit {0}
+DueIn k h (m ∷ ms) = DueAt k h (m .call) × DueIn k (m .out .held) ms
+
+-- what demand 3 says of the answers and of what is left after a set-up, of every berth
+abbrev pub EachAlone : Held → Settings → Node → List Made → Type 0
+EachAlone h s n ms =
+    (k : ℕ) → k < berthCount → Alone s (freshPart h s k) k (withNode h n) (ownIn k (withNode h n) ms) (saidBy ms) (leftBy (withNode h n) ms)
+
+-- a run after a set-up and one call more, which is given berth k's part p and is k's own event e: demand 3 holds with it and without it
+pub record OneMore (h : Held) (s : Settings) (n : Node) (ms : List Made) (k : ℕ) (p : Part) (e : Event) (m : Made) : Type 0 where
+  pub small : k < berthCount
+  pub given : partOf k (leftBy (withNode h n) ms) ≡ p
+  pub its : own k (leftBy (withNode h n) ms) (m .call) ≡ e ∷ []
+  pub without : EachAlone h s n ms
+  pub with : EachAlone h s n (ms ++ m ∷ [])
