@@ -1,2 +1,3 @@
 -- What the exerciser does.
 pub mod Steps
+pub mod Turns

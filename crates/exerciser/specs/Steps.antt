@@ -46,7 +46,7 @@ unfoldable pub says : ℕ → List ℕ → List Answer → List ℕ
 says number d (answer ∷ _) = answerText number answer
 says number d [] = pick (ltb (length d) recordLength) (shortText number) (badText number)
 
--- ---- a step: the text that record prints, and the node and the stores after it
+-- ---- a step: the text that a record prints, and the node and the stores after it
 
 unfoldable pub stepText : ℕ → List ℕ → Held → List ℕ
 stepText number d h = says number d (answers h (asks d (recordOf d)))

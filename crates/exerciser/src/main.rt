@@ -7,6 +7,7 @@ ghost use Rattle.node.specs.Promises.{lent};
 ghost use Rattle.records.specs.Records.{risingFrom};
 ghost use Rattle.text.specs.Building.{textOf};
 ghost use Rattle.exerciser.specs.Steps.{firstNode, zeros, says, Whatever, Does, Steps};
+ghost use Rattle.exerciser.specs.Turns.{running, Stepped, Turns};
 use libc::STDIN_FILENO;
 use libc::STDOUT_FILENO;
 use reading::input::Kind;
@@ -133,7 +134,9 @@ struct Progress {
     more: bool,
 }
 
-fn first() -> Progress {
+fn first() -> Progress
+    ensures { λ r. ⌜ (r .node ≡ firstNode) × (r .number ≡ 1) ⌝ }
+{
     Progress {
         node: first_node(),
         number: 1,
@@ -143,20 +146,38 @@ fn first() -> Progress {
     }
 }
 
-fn say(sink: Sink, output: &mut [u8], text: Text) -> Sink {
-    let mut bytes = [0u8; 128];
-    let n = text::building::copy(text, &mut bytes);
-    sink.put(output, &bytes[..n])
+// A record, or the last part of one.
+fn run_part(
+    before: Progress,
+    part: &[u8],
+    incoming: &mut [u8],
+    outgoing: &mut [u8],
+    output: &mut [u8],
+) -> Progress
+    ensures { λ r. ⌜ Stepped (running before (now (incoming .entry)) (now (outgoing .entry)) (now (output .entry))) (now (part .entry)) (running r (now (incoming .exit)) (now (outgoing .exit)) (now (output .exit))) ⌝ }
+{
+    let node = before.node;
+    let left = step(before.number, part, node, incoming, outgoing);
+    let next = left.node;
+    let text = left.text;
+    let sink = before.sink;
+    let mut after = before;
+    after.node = next;
+    after.number = std::num::wrapping_add_u64(before.number, 1);
+    after.sink = sink.say(output, text);
+    after
 }
 
-// The next record, or the last part of one, until there is none.
+// What stands next, until nothing does.
 fn run_next(
     before: Progress,
     input: &mut [u8],
     incoming: &mut [u8],
     outgoing: &mut [u8],
     output: &mut [u8],
-) -> Progress {
+) -> Progress
+    ensures { λ r. ⌜ Turns (now (input .entry)) (running before (now (incoming .entry)) (now (outgoing .entry)) (now (output .entry))) (now (input .exit)) (running r (now (incoming .exit)) (now (outgoing .exit)) (now (output .exit))) ⌝ }
+{
     let mut after = before;
     let source = before.source;
     let next = source.next(input, Kind::Record(RECORD));
@@ -165,19 +186,11 @@ fn run_next(
         after.more = false;
         return after;
     }
-    let node = before.node;
+    let behind = next.source;
+    after.source = behind;
     let from = next.from;
     let to = next.to;
-    let left = step(before.number, &input[from..to], node, incoming, outgoing);
-    let sink = before.sink;
-    let text = left.text;
-    let left_node = left.node;
-    let left_source = next.source;
-    after.node = left_node;
-    after.number = std::num::wrapping_add_u64(before.number, 1);
-    after.source = left_source;
-    after.sink = say(sink, output, text);
-    after
+    run_part(after, &input[from..to], incoming, outgoing, output)
 }
 
 // A proved loop has to end, and nothing says that the input does. So the loop counts its turns down, from a number that no run

@@ -3,7 +3,9 @@ ghost use mathlib.Core.Path.{_≡_};
 ghost use Prim.Native.Nat.{_+_, _≤_};
 ghost use lib.ListN.{length};
 ghost use lib.Seq.{paste};
+ghost use Rattle.text.specs.Building.{textOf};
 ghost use Rattle.reading.specs.Output.{waits, idle, sinkAfter, bufferAfter};
+use text::building::Text;
 
 // So many bytes at the front of the buffer wait to be written.
 pub struct Sink {
@@ -47,6 +49,15 @@ impl Sink {
         }
         io::write_all(self.file, some);
         empty
+    }
+
+    pub fn say(self, buffer: &mut [u8], text: Text) -> Sink
+        ensures { λ r. ⌜ r ≡ sinkAfter self (now (buffer .entry)) (textOf text) ⌝ }
+        ensures { λ _. ⌜ now (buffer .exit) ≡ bufferAfter self (now (buffer .entry)) (textOf text) ⌝ }
+    {
+        let mut bytes = [0u8; 128];
+        let n = text::building::copy(text, &mut bytes);
+        self.put(buffer, &bytes[..n])
     }
 
     fn laid(mut self, buffer: &mut [u8], at: usize, some: &[u8]) -> Sink

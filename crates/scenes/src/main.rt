@@ -138,7 +138,7 @@ fn run_shown(
     let sink = before.sink;
     let mut after = before;
     after.scene = next;
-    after.sink = output::say(sink, out, text);
+    after.sink = sink.say(out, text);
     after
 }
 
@@ -153,7 +153,7 @@ fn written<'a>(
     out: &mut [u8],
 ) -> Sink {
     if part.len() < RECORD {
-        return output::say(sink, out, text::answers::short(number));
+        return sink.say(out, text::answers::short(number));
     }
     let record = record_of(part);
     looks::bytes(number, scene, &record, incoming, outgoing, sink, out)

@@ -15,12 +15,6 @@ pub(crate) fn lent(whole: &[u8], asked: usize) -> usize
     }
 }
 
-pub(crate) fn say(sink: Sink, out: &mut [u8], text: Text) -> Sink {
-    let mut bytes = [0u8; 128];
-    let n = text::building::copy(text, &mut bytes);
-    sink.put(out, &bytes[..n])
-}
-
 // A text that goes on: without its LF.
 pub(crate) fn open(text: Text) -> Text {
     let mut open = text;
@@ -34,7 +28,7 @@ fn say_hex(sink: Sink, out: &mut [u8], bytes: &[u8]) -> Sink {
     let mut after = sink;
     let mut i = 0;
     while i < bytes.len() {
-        after = say(after, out, Text::empty().hex_byte(bytes[i]));
+        after = after.say(out, Text::empty().hex_byte(bytes[i]));
         i += 1;
     }
     after
@@ -51,8 +45,8 @@ pub(crate) fn with_bytes(text: Text, bytes: &[u8]) -> Text {
 // A text that ends with any number of bytes.
 pub(crate) fn say_bytes(sink: Sink, out: &mut [u8], text: Text, bytes: &[u8]) -> Sink {
     if bytes.len() <= 32 {
-        return say(sink, out, with_bytes(text, bytes));
+        return sink.say(out, with_bytes(text, bytes));
     }
-    let begun = say(sink, out, text.put(b' '));
-    say(say_hex(begun, out, bytes), out, Text::empty().put(b'\n'))
+    let begun = sink.say(out, text.put(b' '));
+    say_hex(begun, out, bytes).say(out, Text::empty().put(b'\n'))
 }
