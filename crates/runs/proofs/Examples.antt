@@ -4,7 +4,7 @@ use native.Mathlib.Omega.{arith}
 use mathlib.Core.Path.{_≡_, refl, ap}
 use mathlib.Core.List.{List, [], _∷_, _++_}
 use lib.ListN.{getD, replicate}
-use lib.Dec.{lit<, lit≤}
+use lib.Dec.{lit<}
 use Rattle.rules.specs.Tests.{all, each, firstUnmet}
 use Rattle.rules.specs.Nodes.{berthAt, withBerth, Held, blankNode, withNode}
 use Rattle.rules.specs.Ranges.{settingsAllowed, inBlock, takingInRange, berthInOrder, inOrder}
@@ -104,5 +104,5 @@ unfolding
     awaitedCame completed consecutiveFits piece share passedOver leastDistance distance due reached servedNode handedAt handOver partOf areaOf
 counting-here o r =
     counting-again (0x21 ∷ 7 ∷ 8 ∷ []) (record { total = 8; got = 6; sn = record { 0 = 1 }; taken = 0 }) 0
-    (one-more afterGo (made (frame 0x640 (0x21 ∷ 7 ∷ 8 ∷ [])) o) 0 (arrives (0x21 ∷ 7 ∷ 8 ∷ [])) r (lit< tt) refl) refl refl tt refl (lit≤ tt)
+    (one-more afterGo (made (frame 0x640 (0x21 ∷ 7 ∷ 8 ∷ [])) o) 0 (arrives (0x21 ∷ 7 ∷ 8 ∷ [])) r (lit< tt) refl) refl refl tt refl
     (λ e. let z : _≡_ {A = ℕ} 0 7 = ap (λ (l : List ℕ). getD l 0 0) e in omega arith)
