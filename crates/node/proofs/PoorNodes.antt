@@ -366,10 +366,11 @@ pub answered-here : (refusal (hearing Rx.Idle 0) (frame 0x640 (0x01 ∷ 7 ∷ []
     × (refusal (hearing (Rx.OwesOverflow 0) 0) tick ≡ 0) × (refusal (lent blankNode [] []) tick ≡ outOfOrder)
     × (setUpRefusal 8 0 0 ≡ 0) × (setUpRefusal 0 0 0 ≡ badSetting)
     × (refusal (hearing (Rx.Awaits sixOfEight 0) 0) (frame 0x640 (0x21 ∷ 7 ∷ 8 ∷ [])) ≡ 0)
+    × (refusal (hearing Rx.Idle 0) (frame 0x640 (0x01 ∷ 8 ∷ [])) ≡ 0)
 unfolding
     all each firstUnmet kind low singleFits consecutiveFits share settingsAllowed inBlock takingInRange berthInOrder berthAt inOrder
     singleCame piece completed awaitedCame heardBy byKind frameCame rightStore inside cameAt needs refusal setUpRefusal
-answered-here = (refl, refl, refl, refl, refl, refl, refl, refl, refl, refl, refl)
+answered-here = (refl, refl, refl, refl, refl, refl, refl, refl, refl, refl, refl, refl)
 
 -- so for every fixed answer, and for every part, there is a call that shuts it out
 pub not-fixed-here :
@@ -390,10 +391,21 @@ not-fixed-here = (
   not-fixed-part (hearing Rx.Idle 1) Choice.Arrived 0 10 (λ z. omega arith),
 )
 
+-- for every incoming store there is a frame that shuts it out
+pub not-fixed-bytes-here : (incoming : List ℕ)
+    → (d : List ℕ) × ((n : Node) × (a : FrameAnswer) × FramePromise (hearing Rx.Idle 0 .node) (replicate 80 0) 0x640 d a n incoming → ⊥)
+not-fixed-bytes-here = not-fixed-bytes (hearing Rx.Idle 0) 0x640 7 8 (λ z. omega arith) (answered-here .0) (answered-here .11)
+
 pub not-idle-here : (a : TickAnswer) → TickPromise (hearing (Rx.OwesOverflow 0) 0 .node) a (hearing (Rx.OwesOverflow 0) 0 .node) → ⊥
 unfolding berthAt
 not-idle-here a =
     not-idle-timers (hearing (Rx.OwesOverflow 0) 0) 0 a (answered-here .6) (λ q. let e : Rx.OwesOverflow 0 ≡ Rx.Idle = q .0 in clash (cc))
+
+pub not-idle-message-here : (a : SendAnswer) (n : Node) → SendPromise (hearing Rx.Idle 0 .node) (replicate 80 0) 0 (1 ∷ []) a n (replicate 80 0) → ⊥
+unfolding areaOf
+not-idle-message-here a n =
+    not-idle-message (hearing Rx.Idle 0) 0 (1 ∷ []) a n (replicate 80 0) (answered-here .2)
+    (λ q. let z : _≡_ {A = ℕ} 0 1 = ap (λ (l : List ℕ). getD l 0 0) q in omega arith) refl
 
 pub not-counting-here : (a : FrameAnswer) (n : Node)
     → FramePromise (hearing (Rx.Awaits sixOfEight 0) 0 .node) (replicate 80 0) 0x640 (0x21 ∷ 7 ∷ 8 ∷ []) a n (replicate 80 0) → ⊥

@@ -34,6 +34,10 @@ use Rattle.laws.proofs.Isolation.{alone-append, says-append}
 use Rattle.runs.specs.Chains.{Made, Chain, AfterSetUp, saidBy, leftBy, ownIn, OneMore}
 use Rattle.runs.proofs.Runs.{chain-alone-after-set-up}
 
+-- two numbers that are not the same
+clash : {X : Type 0} → _≡_ {A = ℕ} 0 1 → X
+clash e = absurd (omega arith)
+
 -- ---- one call more
 
 left-more : (h : Held) (ms : List Made) (m : Made) → leftBy h (ms ++ m ∷ []) ≡ m .out .held
@@ -78,13 +82,9 @@ module _ {h : Held} {s : Settings} {n : Node} {ms : List Made} {k : ℕ} {p : Pa
   -- REFUSING, AGAIN: no event of a berth's own is answered with a refusal
   pub refusing-again : (number : ℕ) → m .out .answer ≡ refused number → ⊥
   unfolding saysOf
-  refusing-again number a = let z : [] ≡ says s p e ∷ [] = sym (ap (saysOf k) a) ∙ says-now in let f : _≡_ {A = ℕ} 0 1 = cc in omega arith
+  refusing-again number a = let z : [] ≡ says s p e ∷ [] = sym (ap (saysOf k) a) ∙ says-now in clash (cc)
 
 -- ---- what the call is, and that its bytes fit
-
--- two numbers that are not the same
-clash : {X : Type 0} → _≡_ {A = ℕ} 0 1 → X
-clash e = absurd (omega arith)
 
 -- the bytes of a frame that comes in lie within the first a bytes of an area
 abbrev Within : ℕ → ℕ → List ℕ → Type 0
@@ -97,9 +97,11 @@ pick-both P false f g = g
 
 -- of the settings only A bears on which bytes are stored, and only so that a first frame stores its six or none
 module _ (a : ℕ) (six : firstBytes ≤ a) (s t : Settings) where
+  -- of what a receive side hears
   abbrev Hears : Heard → Type 0
   Hears c = Within a (c .place) (c .bytes)
 
+  -- a first frame stores at most six bytes, at the front
   first-within : (rx : Rx) (last : ℕ) (d : List ℕ) → Hears (firstCame s rx last d)
   unfolding firstCame ignored turnedAway begun
   first-within rx last d =
@@ -107,6 +109,7 @@ module _ (a : ℕ) (six : firstBytes ≤ a) (s t : Settings) where
       (λ u. pick-either Hears (aboveArea s (announced d)) _ _ (λ v. omega arith) (λ v. omega (arith, length-take firstBytes (drop 2 d))))
       (λ u. omega arith)
 
+  -- a consecutive frame stores the same whatever the settings
   consecutive-within : (rx : Rx) (last : ℕ) (d : List ℕ) → Hears (consecutiveCame t rx last d) → Hears (consecutiveCame s rx last d)
   unfolding awaitedCame took
   consecutive-within Rx.Idle last d = λ w. w
@@ -126,7 +129,7 @@ module _ (a : ℕ) (six : firstBytes ≤ a) (s t : Settings) where
       (pick-both F (eqb (kind d) firstKind) (λ w. first-within (b .rx) (b .last) d)
       (pick-both F (eqb (kind d) consecutiveKind) (consecutive-within (b .rx) (b .last) d) (λ w. w))))
 
--- an event that is another than the berth's own
+-- a call with an event of one kind has none of another
 not-other : (e f : Event) → (e ≡ f → ⊥) → (b : Bool) → pick b (e ∷ []) [] ≡ f ∷ [] → ⊥
 not-other e f ne true q = ne (cc)
 not-other e f ne false q = clash (cc)
@@ -197,7 +200,7 @@ module _ {h : Held} {s : Settings} {n : Node} {ms : List Made} {k : ℕ} {p : Pa
   unfolding partAfter
   idle-again-timers r busy same = busy (still-idle (p .berth) (sym (ap (λ (q : Part). q .berth) (part-now r)) ∙ same))
 
-  -- nor does a frame whose bytes differ from those at their place leave the berth's area,
+  -- nor does a frame whose bytes differ from those at their place leave the berth's incoming area,
   pub idle-again-bytes : (d : List ℕ) → OneMore h s n ms k p (arrives d) m
       → (take (length (frameCame s (p .berth) d .bytes)) (drop (frameCame s (p .berth) d .place) (p .incoming)) ≡ frameCame s (p .berth) d .bytes → ⊥)
       → partOf k (m .out .held) .incoming ≡ p .incoming → ⊥
@@ -206,7 +209,15 @@ module _ {h : Held} {s : Settings} {n : Node} {ms : List Made} {k : ℕ} {p : Pa
       let fits = rw (r .given) at (frame-within k (leftBy (withNode h n) ms) (m .call) d s (r .small) (r .its)) in
       differ (stood-before (p .incoming) _ _ fits (sym (ap (λ (q : Part). q .incoming) (part-now r)) ∙ same))
 
-  -- COUNTING, AGAIN: so a right awaited consecutive frame does not
+  -- nor a send whose message differs from the bytes at the front leave the outgoing one
+  pub idle-again-message : (v : List ℕ) → OneMore h s n ms k p (sends v) m → (take (length v) (p .outgoing) ≡ v → ⊥)
+      → partOf k (m .out .held) .outgoing ≡ p .outgoing → ⊥
+  unfolding partAfter
+  idle-again-message v r differ same =
+      let fits = rw (r .given) at (message-within k (leftBy (withNode h n) ms) (m .call) v (r .its)) in
+      differ (stood-before (p .outgoing) 0 v (omega arith) (sym (ap (λ (q : Part). q .outgoing) (part-now r)) ∙ same))
+
+  -- COUNTING, AGAIN: so a right awaited consecutive frame does not leave the area
   pub counting-again : (d : List ℕ) (q : Taking) (t : ℕ) → OneMore h s n ms k p (arrives d) m
       → p .berth .rx ≡ Rx.Awaits q t → kind d ≡ consecutiveKind → T (consecutiveFits (missing q) d) → low d ≡ q .sn .0
       → (take (length (piece q d)) (drop (q .got) (p .incoming)) ≡ piece q d → ⊥)
