@@ -12,7 +12,7 @@ use lib.Seq.{sets, length-sets}
 use lib.Dec.{T}
 use mir.Facts.{yes-eqb, yes-leb, yes-ltb}
 use Rattle.rules.specs.Numbers.{berthCount, fromBerth, mostData, flowKind, shortMost}
-use Rattle.rules.specs.Nodes.{berthAt, Held}
+use Rattle.rules.specs.Nodes.{fresh, withRx, withTx, berthAt, Held}
 use Rattle.rules.specs.Ranges.{inOrder}
 use Rattle.rules.specs.Frames.{kind, goFrame, framesOf}
 use Rattle.rules.specs.Arrivals.{Came, frameCame}
@@ -265,7 +265,7 @@ module _ (i j : ℕ) (small-i : i < berthCount) (small-j : j < berthCount) (set 
 
   -- a frame at the send side of berth i alone
   abbrev cameA : Held → List ℕ → Came
-  cameA h d = frameCame (h .node .settings) (record { rx = Rx.Idle; last = 0; tx = berthAt (h .node) i .tx }) d
+  cameA h d = frameCame (h .node .settings) (withRx (berthAt (h .node) i) (fresh .rx) (fresh .last)) d
 
   came-A : (h : Held) (d : List ℕ)
       → (partAfter (h .node .settings) (sideA h) (arrives d) .berth .tx ≡ cameA h d .berth .tx)
@@ -290,7 +290,7 @@ module _ (i j : ℕ) (small-i : i < berthCount) (small-j : j < berthCount) (set 
   -- a frame at the receive side of berth j alone
   abbrev cameB : Held → List ℕ → Came
   cameB h d =
-      frameCame (h .node .settings) (record { rx = berthAt (h .node) j .rx; last = berthAt (h .node) j .last; tx = Tx.Idle }) d
+      frameCame (h .node .settings) (withTx (berthAt (h .node) j) (fresh .tx)) d
 
   came-B : (h : Held) (d : List ℕ)
       → (partAfter (h .node .settings) (sideB h) (arrives d) .berth ≡ cameB h d .berth)

@@ -10,7 +10,7 @@ use lib.Seq.{sets, sets-eq, take-at, drop-at, getD-set-same, length-take-le}
 use lib.Dec.{T, eqb, ltb}
 use Rattle.rules.specs.Tests.{all, each, firstUnmet}
 use Rattle.rules.specs.Numbers.{berthCount, toBerth, timeout, consecutiveKind, frameSize, outOfOrder, badSetting}
-use Rattle.rules.specs.Nodes.{fresh, blankNode, berthAt, Held}
+use Rattle.rules.specs.Nodes.{fresh, withRx, blankNode, berthAt, Held}
 use Rattle.rules.specs.Ranges.{settingsAllowed, inBlock, takingInRange, berthInOrder, inOrder}
 use Rattle.rules.specs.Frames.{kind, low, singleFits, consecutiveFits, share}
 use Rattle.rules.specs.Arrivals.{singleCame, missing, piece, completed, awaitedCame, heardBy, byKind, frameCame}
@@ -349,7 +349,7 @@ hearing rx last =
       node = record {
         settings = record { area = 8; block = 0; stmin = 0 };
         served = 9;
-        berths = record { rx = rx; last = last; tx = Tx.Idle } ∷ replicate 9 fresh;
+        berths = withRx fresh rx last ∷ replicate 9 fresh;
       };
       incoming = replicate 80 0;
       outgoing = replicate 80 0;
