@@ -6,7 +6,7 @@ use lib.ListN.{set, replicate}
 use lib.Dec.{lit<, lit≤}
 use Rattle.rules.specs.Tests.{all, each, firstUnmet}
 use Rattle.rules.specs.Numbers.{berthCount}
-use Rattle.rules.specs.Nodes.{fresh, berthAt, Held, withBerth}
+use Rattle.rules.specs.Nodes.{fresh, withRx, withTx, berthAt, Held, withBerth}
 use Rattle.rules.specs.Ranges.{settingsAllowed, inBlock, takingInRange, sendingInRange, berthInOrder, inOrder}
 use Rattle.rules.specs.Frames.{kind, low, singleFits, shortLength, escapeLength, announced, firstFits, consecutiveFits, flowFits, padded, singleFrame, firstFrame, consecutiveFrame, goFrame, firstSn, nextSn, counted, fillsBlock, gapOf, share}
 use Rattle.rules.specs.Arrivals.{ignored, singleCame, begun, firstCame, piece, grown, completed, afterTook, took, wrongSn, awaitedCame, granted, byStatus, heardBy, toldBy, byKind, frameCame}
@@ -39,8 +39,7 @@ abbrev pairOf : ℕ → ℕ → Codes
 pairOf r s = record { receive = r; send = s }
 
 abbrev waitingBerth : Berth
-waitingBerth =
-    record { rx = Rx.Awaits (record { total = 8; got = 6; sn = firstSn; taken = 0 }) 998; last = 0; tx = Tx.Idle }
+waitingBerth = withRx fresh (Rx.Awaits (record { total = 8; got = 6; sn = firstSn; taken = 0 }) 998) 0
 
 abbrev pub two : Held
 two =
@@ -99,7 +98,7 @@ crowd =
       node = record {
         settings = record { area = 8; block = 0; stmin = 0 };
         served = 4;
-        berths = replicate berthCount (record { rx = Rx.Idle; last = 0; tx = Tx.SingleDue 1 0 });
+        berths = replicate berthCount (withTx fresh (Tx.SingleDue 1 0));
       };
       incoming = replicate 80 0;
       outgoing = replicate 80 7;

@@ -2,6 +2,7 @@
 use mathlib.Core.Path.{_≡_, refl, sym, ap, _∙_}
 use Prim.Native.Nat.{ℕ, suc, _+_, _-_, _/_, _<_}
 use native.Mathlib.Omega.{arith}
+use native.Mathlib.Numerals.{add-one}
 use native.Mathlib.Nat.{div-zero, div-eq-of-lt, add-div-left}
 use mathlib.Core.Bool.{Bool, true, false}
 use mathlib.Core.List.{List, [], _∷_}
@@ -59,11 +60,8 @@ back-blocks s t f (g ∷ fs) h =
     go (holds q x) z ih jh =
         let e : t + suc (length fs) ≡ s .block + (0 + length fs) = omega (arith, x .1) in
         let d : (t + suc (length fs)) / s .block ≡ suc ((0 + length fs) / s .block) =
-        ap (λ (k : ℕ). k / s .block) e ∙ add-div-left (0 + length fs) (x .0) ∙ one-more ((0 + length fs) / s .block) in
+        ap (λ (k : ℕ). k / s .block) e ∙ add-div-left (0 + length fs) (x .0) ∙ add-one ((0 + length fs) / s .block) in
         rw (q, d) (ap (λ (r : List (List ℕ)). goFrame s ∷ r) ih)
-      where
-        one-more : (k : ℕ) → k + 1 ≡ suc k
-        one-more k = omega arith
     go (fails q x) (holds r z) ih jh =
         let none : (k : ℕ) → k / s .block ≡ 0 = λ k. rw z (div-zero k) in
         rw q (jh (λ l. absurd (omega arith)) ∙ ap (λ (k : ℕ). replicate k (goFrame s)) (none (counted (s .block) t + length fs) ∙ sym (none (t + suc (length fs)))))
@@ -82,14 +80,11 @@ block-count size r c e = go (eqb-cases size 0)
     some : eqb c 0 ≡ false
     some = eqb-not c 0 (λ z. omega arith)
 
-    one-more : (k : ℕ) → k + 1 ≡ suc k
-    one-more k = omega arith
-
     go : Tested (eqb size 0) (size ≡ 0) (size ≡ 0 → ⊥) → suc ((0 + r) / size) ≡ blocks size c
     go (holds q z) = rw (some, q) (ap suc (rw z (div-zero (0 + r))))
     go (fails q ne) =
         let f : c + (size - 1) ≡ size + (0 + r) = omega arith in
-        let d : (c + (size - 1)) / size ≡ suc ((0 + r) / size) = ap (λ (k : ℕ). k / size) f ∙ add-div-left (0 + r) (omega arith) ∙ one-more ((0 + r) / size) in
+        let d : (c + (size - 1)) / size ≡ suc ((0 + r) / size) = ap (λ (k : ℕ). k / size) f ∙ add-div-left (0 + r) (omega arith) ∙ add-one ((0 + r) / size) in
         rw (some, q) (sym d)
 
 -- what is handed over back is one go for each block

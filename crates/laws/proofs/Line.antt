@@ -3,6 +3,7 @@
 use mathlib.Core.Path.{_≡_, refl, sym, ap, ap₂, _∙_}
 use Prim.Native.Nat.{ℕ, zero, suc, _+_, _-_, _*_, _/_, _≤_, _<_}
 use native.Mathlib.Omega.{arith}
+use native.Mathlib.Numerals.{add-one}
 use native.Mathlib.Nat.{zero-add}
 use mathlib.Core.Bool.{Bool, true, false}
 use mathlib.Core.List.{List, [], _∷_, _++_, nil≢cons, head-eq-of-cons-eq, tail-eq-of-cons-eq}
@@ -11,6 +12,7 @@ use lib.Seq.{sets, length-sets, length-take-le, append-snoc}
 use lib.Dec.{T, eqb, ltb, leb}
 use Rattle.rules.specs.Tests.{pick}
 use Rattle.rules.specs.Numbers.{timeout, flowKind, frameSize, singleMost, firstBytes, consecutiveMost, leastLong, shortMost, longestGap, N-OK}
+use Rattle.rules.specs.Nodes.{fresh, withRx, withTx}
 use Rattle.rules.specs.Frames.{kind, low, consecutiveFits, flowFits, padded, goFrame, nextSn, counted, fillsBlock, gapOf, share, framesOf}
 use Rattle.rules.specs.Arrivals.{Came, singleCame, firstCame, taking, begun, missing, piece, grown, completed, afterTook, took, awaitedCame, granted, byStatus, heardBy, toldBy, byKind, frameCame}
 use Rattle.rules.specs.Ticks.{ran, rxTicked, rxCode, closer, txTicked, txCode}
@@ -192,14 +194,14 @@ module _ (i j : ℕ) (set : Settings) (n : ℕ) (out : List ℕ) (E : List Hande
       (l .heard ++ (reported j receive (c .old) ++ wordReports j (c .word))) (l .delivered ++ deliveredIn (hears (c .old) (c .word)))
 
   abbrev pub takerBerth : Line → Berth
-  takerBerth l = record { rx = l .rx; last = l .last; tx = Tx.Idle }
+  takerBerth l = withRx fresh (l .rx) (l .last)
 
   unfoldable pub tookS : Line → List (List ℕ) → Came → Line
   tookS l q c =
       atSender l (c .berth .tx) (l .toR) q (l .log) (l .said ++ (reported i receive (c .old) ++ wordReports i (c .word)))
 
   abbrev pub senderBerth : Line → Berth
-  senderBerth l = record { rx = Rx.Idle; last = 0; tx = l .tx }
+  senderBerth l = withTx fresh (l .tx)
 
   -- ---- ticks
 
@@ -426,9 +428,9 @@ module _ (i j : ℕ) (set : Settings) (n : ℕ) (out : List ℕ) (E : List Hande
   granted-at o d k k′ s e = rw e (record { length = s .length; position = s .position; sn = s .sn; more = s .more })
 
   pub went : (setS : Settings) (o : Sending) (t : ℕ)
-      → frameCame setS (record { rx = Rx.Idle; last = 0; tx = Tx.AwaitsFlow o t }) (goFrame set)
+      → frameCame setS (withTx fresh (Tx.AwaitsFlow o t)) (goFrame set)
       ≡ record {
-        berth = record { rx = Rx.Idle; last = 0; tx = Tx.Consecutive (granted o (goFrame set)) 0 };
+        berth = withTx fresh (Tx.Consecutive (granted o (goFrame set)) 0);
         old = 0;
         word = Going;
         place = 0;
@@ -492,8 +494,8 @@ module _ (i j : ℕ) (set : Settings) (n : ℕ) (out : List ℕ) (E : List Hande
 
     -- the right frame at the right time
     heard-right : (p : Taking) (u last : ℕ) (ina : List ℕ) (k : ℕ) → TakeAt n out p k ina
-        → frameCame set (record { rx = Rx.Awaits p u; last = last; tx = Tx.Idle }) (frameAt n out k)
-        ≡ heardBy (record { rx = Rx.Awaits p u; last = last; tx = Tx.Idle })
+        → frameCame set (withRx fresh (Rx.Awaits p u) last) (frameAt n out k)
+        ≡ heardBy (withRx fresh (Rx.Awaits p u) last)
         (pick (leb (missing p) consecutiveMost) (completed p (frameAt n out k)) (took set p last (frameAt n out k)))
     unfolding frameCame byKind awaitedCame consecutiveFits
     heard-right p u last ina k r =
@@ -505,7 +507,7 @@ module _ (i j : ℕ) (set : Settings) (n : ℕ) (out : List ℕ) (E : List Hande
     unfolding grown
     take-on p k count ina r m =
         let e : posAt k + share consecutiveMost (n - posAt k) ≡ posAt (suc k) = unfold posAt share in (omega (arith, m)) in
-        let f : nextSn (p .sn) ≡ snAt (suc k) = ap nextSn (r .sn) ∙ sn-next k ∙ ap snAt (one-more k) in
+        let f : nextSn (p .sn) ≡ snAt (suc k) = ap nextSn (r .sn) ∙ sn-next k ∙ ap snAt (add-one k) in
         record {
           total = r .total;
           got = ap₂ (λ (a b : ℕ). a + share consecutiveMost b) (r .got) (missing-at p k ina r) ∙ e;
@@ -514,9 +516,6 @@ module _ (i j : ℕ) (set : Settings) (n : ℕ) (out : List ℕ) (E : List Hande
           fits = rw length-sets (r .fits);
           same = rw e at (grows n out fit ina k (r .fits) (omega (arith, r .more)) (r .same));
         }
-      where
-        one-more : (k : ℕ) → k + 1 ≡ suc k
-        one-more k = omega arith
 
     -- the line after a frame that was not the last, and after the last
     pub took-more : (l : Line) (q : List (List ℕ)) (p : Taking) (u k : ℕ) → l .rx ≡ Rx.Awaits p u → TakeAt n out p k (l .ina) → posAt (suc k) < n
@@ -616,15 +615,15 @@ module _ (i j : ℕ) (set : Settings) (n : ℕ) (out : List ℕ) (E : List Hande
 
     module _ (some : 1 ≤ n) (in-area : n ≤ set .area) (small : set .area ≤ shortMost) where
       pub heard-single : n ≤ singleMost → (last : ℕ)
-          → frameCame set (record { rx = Rx.Idle; last = last; tx = Tx.Idle }) (singleOf n out)
-          ≡ record { berth = record { rx = Rx.Idle; last = n; tx = Tx.Idle }; old = 0; word = Delivered n; place = 0; bytes = take n out }
+          → frameCame set (withRx fresh Rx.Idle last) (singleOf n out)
+          ≡ record { berth = withRx fresh Rx.Idle n; old = 0; word = Delivered n; place = 0; bytes = take n out }
       unfolding frameCame byKind heardBy singleCame
       heard-single b last =
           rw (single-length n out fit b, single-kind n out fit b, single-fits n out fit some b, single-low n out fit b, single-data n out fit)
 
       pub heard-first : leastLong ≤ n → (last : ℕ)
-          → frameCame set (record { rx = Rx.Idle; last = last; tx = Tx.Idle }) (firstOf n out)
-          ≡ record { berth = record { rx = Rx.OwesGo (taking n) 0; last = 0; tx = Tx.Idle }; old = 0; word = Begun n; place = 0; bytes = take firstBytes out }
+          → frameCame set (withRx fresh Rx.Idle last) (firstOf n out)
+          ≡ record { berth = withRx fresh (Rx.OwesGo (taking n) 0) 0; old = 0; word = Begun n; place = 0; bytes = take firstBytes out }
       unfolding frameCame byKind heardBy firstCame begun
       heard-first a last =
           let c : n ≤ shortMost = omega arith in

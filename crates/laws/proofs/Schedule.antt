@@ -31,7 +31,7 @@ use Rattle.laws.specs.Line.{Handed, World, leftA, leftB, callA, callB, c
 use Rattle.laws.proofs.Isolation.{settings-step, part-step}
 use Rattle.laws.proofs.SetUp.{sound-step}
 use Rattle.laws.proofs.Round.{some-reached, nearer}
-use Rattle.laws.proofs.Touch.{SparedBy, TurnOf, own-is, held-is, own-k, turn-of-side, turn-of-other, other-berth, touch-tick, none-delivered, all-met}
+use Rattle.laws.proofs.Touch.{SparedBy, TurnOf, whole-heard, own-is, held-is, own-k, turn-of-side, turn-of-other, other-berth, touch-tick, none-delivered, all-met}
 use Rattle.laws.proofs.Line.{Line, Phase, Nearer, tickS, tickR, hands-S, hands-R, there-whole, back-whole}
 use Rattle.laws.proofs.World.{lineIn, Alive, after-A, after-B, alive-carriedA, alive-carriedB, spared-A, tick-A, turn-A, spared-B, tick-B, turn-B, took-A, took-B, outA, setB, expected, fit-a, small-b, begun-alive, line-law}
 use Rattle.laws.proofs.Onward.{Young, young-start, young-handed, young-flow, young-there, young-back, Next, bring-there, bring-back, hand-message, hand-flow, wait, at-end, next}
@@ -164,7 +164,7 @@ module _ (i j : ℕ) (small-i : i < berthCount) (small-j : j < berthCount) (set 
       let z : w .toB ≡ d ∷ q = unfold lineIn in e in
       let g = alive-carriedB i j small-i small-j set n out E fit some-bytes in-area small w d q z s in
       let (l, k) = there-whole i j set n out E fit some-bytes in-area small (lineIn i j w) (s .steps) d q e (s .phase) in
-      let line = took-B i j small-i small-j set n out E w d q (s .sound-b) (s .settings-b) (omega arith) k in
+      let line = took-B i j small-i small-j set n out E w d q (s .sound-b) (s .settings-b) (omega (arith, whole-heard)) k in
       let y : Young (lineIn i j (carriedB j w (d ∷ q))) =
       subst (λ (x : Line). Young x) (sym line) (young-there i j set n out E fit some-bytes in-area small (lineIn i j w) (s .steps) d q e (s .phase)) in
       subst (λ (x : List (List ℕ)). Onto w (s .steps) (carriedB j w x)) (sym z)
@@ -176,7 +176,7 @@ module _ (i j : ℕ) (small-i : i < berthCount) (small-j : j < berthCount) (set 
       let z : w .toA ≡ d ∷ q = unfold lineIn in e in
       let g = alive-carriedA i j small-i small-j set n out E fit some-bytes in-area small w d q z s in
       let (l, k) = back-whole i j set n out E fit some-bytes in-area small (lineIn i j w) (s .steps) d q e (s .phase) in
-      let (line, o) = took-A i j small-i small-j set n out E w d q (s .sound-a) (omega arith) k in
+      let (line, o) = took-A i j small-i small-j set n out E w d q (s .sound-a) (omega (arith, whole-heard)) k in
       let y : Young (lineIn i j (carriedA i w (d ∷ q))) =
       subst (λ (x : Line). Young x) (sym line) (young-back i j set n out E fit some-bytes in-area small (w .a .node .settings) (lineIn i j w) (s .steps) d q e (s .phase) young) in
       subst (λ (x : List (List ℕ)). Onto w (s .steps) (carriedA i w x)) (sym z)

@@ -10,7 +10,7 @@ use lib.Seq.{sets}
 use lib.Dec.{eqb, leb}
 use Rattle.rules.specs.Tests.{pick}
 use Rattle.rules.specs.Numbers.{singleKind, firstKind, consecutiveKind, flowKind, goStatus, waitStatus, overflowStatus, consecutiveMost, noData, otherKind}
-use Rattle.rules.specs.Nodes.{fresh}
+use Rattle.rules.specs.Nodes.{fresh, withTx}
 use Rattle.rules.specs.Frames.{kind, low, singleFits, announced, firstFits, consecutiveFits, flowFits}
 use Rattle.rules.specs.Arrivals.{Heard, Told, Came, ignored, singleCame, firstCame, aboveArea, turnedAway, begun, missing, completed, took, wrongSn, awaitedCame, consecutiveCame, byStatus, flowIgnored, flowCame, heardBy, toldBy, byKind, frameCame}
 use Rattle.rules.specs.Ticks.{ticked, rxCode, txCode}
@@ -33,10 +33,10 @@ use Rattle.laws.proofs.Reports.{over-append, only-append}
 -- the same with another send side
 unfoldable pub cameWithTx : Tx → Came → Came
 cameWithTx tx c =
-    record { berth = record { rx = c .berth .rx; last = c .berth .last; tx = tx }; old = c .old; word = c .word; place = c .place; bytes = c .bytes }
+    record { berth = withTx (c .berth) tx; old = c .old; word = c .word; place = c .place; bytes = c .bytes }
 
 pub came-receive : (set : Settings) (b : Berth) (d : List ℕ) → (kind d ≡ flowKind → ⊥)
-    → frameCame set b d ≡ cameWithTx (b .tx) (frameCame set (record { rx = b .rx; last = b .last; tx = fresh .tx }) d)
+    → frameCame set b d ≡ cameWithTx (b .tx) (frameCame set (withTx b (fresh .tx)) d)
 unfolding frameCame byKind heardBy cameWithTx
 came-receive set b d ne =
     rw (eqb-not (kind d) flowKind ne) (go (eqb (length d) 0) (eqb (kind d) singleKind) (eqb (kind d) firstKind) (eqb (kind d) consecutiveKind))
@@ -49,7 +49,7 @@ came-receive set b d ne =
         (pick w (heardBy c (consecutiveCame set (c .rx) (c .last) d))
         (heardBy c (ignored otherKind (c .rx) (c .last))))))
 
-    go : (t u v w : Bool) → by b t u v w ≡ cameWithTx (b .tx) (by (record { rx = b .rx; last = b .last; tx = fresh .tx }) t u v w)
+    go : (t u v w : Bool) → by b t u v w ≡ cameWithTx (b .tx) (by (withTx b (fresh .tx)) t u v w)
     go true u v w = refl
     go false true v w = refl
     go false false true w = refl

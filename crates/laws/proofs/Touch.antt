@@ -11,7 +11,7 @@ use lib.Seq.{sets}
 use lib.Dec.{T, eqb, ltb, leb, le→leb, lt→ltb}
 use mir.Facts.{eqb-yes, yes-eqb, yes-leb, yes-and}
 use Rattle.rules.specs.Tests.{pick, Need, firstUnmet}
-use Rattle.rules.specs.Numbers.{berthCount, fromBerth, frameSize, singleKind, firstKind, consecutiveKind, flowKind, goStatus, waitStatus, overflowStatus, consecutiveMost, shortMost}
+use Rattle.rules.specs.Numbers.{berthCount, fromBerth, frameSize, mostData, singleKind, firstKind, consecutiveKind, flowKind, goStatus, waitStatus, overflowStatus, consecutiveMost, shortMost}
 use Rattle.rules.specs.Nodes.{berthAt, Held}
 use Rattle.rules.specs.Ranges.{BerthRange, TxRange}
 use Rattle.rules.specs.Frames.{kind, low, padded, singleFits, announced, firstFits, consecutiveFits, flowFits, singleFrame, firstFrame, consecutiveFrame, goFrame, overflowFrame}
@@ -40,6 +40,10 @@ use Rattle.laws.specs.Line.{reportsBy, deliveredIn, isIgnored, tickCode,
 use Rattle.laws.proofs.Isolation.{said-to, part-step, says-step}
 use Rattle.laws.proofs.Reports.{reports-of}
 use Rattle.laws.proofs.Sides.{cameWithTx, came-receive, came-send, side-alone, side-reports}
+
+-- a whole frame has no more bytes than a frame that comes in may have
+pub whole-heard : frameSize ≤ mostData
+whole-heard = omega arith
 
 -- ---- ignored frames change nothing, timers included, and have no old code
 
@@ -468,7 +472,7 @@ module _ (k : ℕ) (h : Held) where
     back-again : senderOf (fromBerth + k) ≡ k
     back-again = omega arith
 
-    carried-met : (d : List ℕ) → length d ≤ frameSize → refusal h (frame (fromBerth + k) d) ≡ 0
+    carried-met : (d : List ℕ) → length d ≤ mostData → refusal h (frame (fromBerth + k) d) ≡ 0
     unfolding refusal needs rightStore inside
     carried-met d l =
         let i : senderOf (fromBerth + k) < berthCount = omega arith in
@@ -488,7 +492,7 @@ module _ (k : ℕ) (h : Held) where
           ),
         )
 
-    own-carried : (d : List ℕ) → length d ≤ frameSize → own k h (frame (fromBerth + k) d) ≡ arrives d ∷ []
+    own-carried : (d : List ℕ) → length d ≤ mostData → own k h (frame (fromBerth + k) d) ≡ arrives d ∷ []
     unfolding ownDone
     own-carried d l = own-is (frame (fromBerth + k) d) (carried-met d l) ∙ rw (eqb-is (senderOf (fromBerth + k)) k back-again)
 
@@ -498,7 +502,7 @@ module _ (k : ℕ) (h : Held) where
       pub reported : reportsBy s k (outcome h (frame (fromBerth + k) d) .answer) ≡ saidReports k (says set (sideOf s (partOf k h)) (arrives d))
       pub frames : framesBy s k (outcome h (frame (fromBerth + k) d) .answer) ≡ []
 
-    pub carry : (s : Side) (d : List ℕ) → length d ≤ frameSize → frameSide d ≡ s → CarriedTo s d
+    pub carry : (s : Side) (d : List ℕ) → length d ≤ mostData → frameSide d ≡ s → CarriedTo s d
     carry s d l e =
         let (x, y) = touched s (frame (fromBerth + k) d) (arrives d) (own-carried d l) (its s e) in
         record { part = x; reported = y; frames = ap (framesBy s k) (answer-is (frame (fromBerth + k) d) (carried-met d l)) ∙ unfold reply framesBy in refl }
@@ -513,7 +517,7 @@ module _ (k : ℕ) (h : Held) where
         → over deliveredIn (saysOf k (outcome h c .answer)) ≡ over deliveredIn (saysAll set (partOf k h) es)
     delivered-own c es o = ap (over deliveredIn) (says-step k h c ∙ ap (saysAll set (partOf k h)) o)
 
-    pub delivered-carried : (d : List ℕ) → length d ≤ frameSize → frameSide d ≡ receive
+    pub delivered-carried : (d : List ℕ) → length d ≤ mostData → frameSide d ≡ receive
         → over deliveredIn (saysOf k (outcome h (frame (fromBerth + k) d) .answer)) ≡ deliveredIn (says set (sideOf receive (partOf k h)) (arrives d))
     unfolding saysAll over says sideOf cameWithTx
     delivered-carried d l e =

@@ -11,8 +11,8 @@ use lib.ListN.{length, take, replicate}
 use lib.Seq.{sets, length-sets}
 use lib.Dec.{T}
 use mir.Facts.{yes-eqb, yes-leb, yes-ltb}
-use Rattle.rules.specs.Numbers.{berthCount, fromBerth, frameSize, flowKind, shortMost}
-use Rattle.rules.specs.Nodes.{berthAt, Held}
+use Rattle.rules.specs.Numbers.{berthCount, fromBerth, mostData, flowKind, shortMost}
+use Rattle.rules.specs.Nodes.{fresh, withRx, withTx, berthAt, Held}
 use Rattle.rules.specs.Ranges.{inOrder}
 use Rattle.rules.specs.Frames.{kind, goFrame, framesOf}
 use Rattle.rules.specs.Arrivals.{Came, frameCame}
@@ -39,7 +39,7 @@ use Rattle.laws.specs.Line.{Handed, there, back, World, endA, endB, repo
 use Rattle.laws.proofs.Isolation.{settings-step, part-step}
 use Rattle.laws.proofs.Reports.{berth-shown}
 use Rattle.laws.proofs.SetUp.{sound-step}
-use Rattle.laws.proofs.Touch.{SparedBy, TickOf, TurnOf, TouchedBy, spared, clocked, turned, touch, carry, delivered-carried, none-delivered, own-is, all-met}
+use Rattle.laws.proofs.Touch.{SparedBy, TickOf, TurnOf, TouchedBy, spared, clocked, turned, whole-heard, touch, carry, delivered-carried, none-delivered, own-is, all-met}
 use Rattle.laws.proofs.Frames.{extended}
 use Rattle.laws.proofs.Exchanged.{there-exchanged, back-exchanged}
 use Rattle.laws.proofs.Line.{Line, atSender, atTaker, Phase, under-way, handS, handR, tickS, tickR, tookR, tookS, takerBerth, senderBerth, ticks-S, ticks-R, hands-S, hands-R, carries-S, carries-R, there-whole, back-whole, starts, Landed, at-rest}
@@ -265,7 +265,7 @@ module _ (i j : ℕ) (small-i : i < berthCount) (small-j : j < berthCount) (set 
 
   -- a frame at the send side of berth i alone
   abbrev cameA : Held → List ℕ → Came
-  cameA h d = frameCame (h .node .settings) (record { rx = Rx.Idle; last = 0; tx = berthAt (h .node) i .tx }) d
+  cameA h d = frameCame (h .node .settings) (withRx (berthAt (h .node) i) (fresh .rx) (fresh .last)) d
 
   came-A : (h : Held) (d : List ℕ)
       → (partAfter (h .node .settings) (sideA h) (arrives d) .berth .tx ≡ cameA h d .berth .tx)
@@ -274,7 +274,7 @@ module _ (i j : ℕ) (small-i : i < berthCount) (small-j : j < berthCount) (set 
   unfolding partAfter sideOf partOf says saidReports
   came-A h d = (refl, refl, refl)
 
-  pub took-A : (w : World) (d : List ℕ) (q : List (List ℕ)) → Sound (w .a) → length d ≤ frameSize → kind d ≡ flowKind
+  pub took-A : (w : World) (d : List ℕ) (q : List (List ℕ)) → Sound (w .a) → length d ≤ mostData → kind d ≡ flowKind
       → (lineIn i j (carriedA i w (d ∷ q)) ≡ tookS i j set n out E (lineIn i j w) q (frameCame (w .a .node .settings) (senderBerth i j set n out E (lineIn i j w)) d))
       × (partOf i (outcome (w .a) (frame (fromBerth + i) d) .held) .outgoing ≡ partOf i (w .a) .outgoing)
   unfolding lineIn carriedA leftA tookS
@@ -290,7 +290,7 @@ module _ (i j : ℕ) (small-i : i < berthCount) (small-j : j < berthCount) (set 
   -- a frame at the receive side of berth j alone
   abbrev cameB : Held → List ℕ → Came
   cameB h d =
-      frameCame (h .node .settings) (record { rx = berthAt (h .node) j .rx; last = berthAt (h .node) j .last; tx = Tx.Idle }) d
+      frameCame (h .node .settings) (withTx (berthAt (h .node) j) (fresh .tx)) d
 
   came-B : (h : Held) (d : List ℕ)
       → (partAfter (h .node .settings) (sideB h) (arrives d) .berth ≡ cameB h d .berth)
@@ -299,7 +299,7 @@ module _ (i j : ℕ) (small-i : i < berthCount) (small-j : j < berthCount) (set 
   unfolding partAfter sideOf partOf says
   came-B h d = (refl, refl, refl)
 
-  pub took-B : (w : World) (d : List ℕ) (q : List (List ℕ)) → Sound (w .b) → w .b .node .settings ≡ set → length d ≤ frameSize → (kind d ≡ flowKind → ⊥)
+  pub took-B : (w : World) (d : List ℕ) (q : List (List ℕ)) → Sound (w .b) → w .b .node .settings ≡ set → length d ≤ mostData → (kind d ≡ flowKind → ⊥)
       → lineIn i j (carriedB j w (d ∷ q)) ≡ tookR i j set n out E (lineIn i j w) q (frameCame set (takerBerth i j set n out E (lineIn i j w)) d)
   unfolding lineIn carriedB leftB tookR saidReports
   took-B w d q s same l ne =
@@ -378,7 +378,7 @@ module _ (i j : ℕ) (small-i : i < berthCount) (small-j : j < berthCount) (set 
     alive-carriedA w d q z s =
         let e : lineIn i j w .toS ≡ d ∷ q = unfold lineIn in z in
         let (l, k) = back-whole i j set n out E fit some in-area small (lineIn i j w) (s .steps) d q e (s .phase) in
-        let (line, o) = took-A w d q (s .sound-a) (omega arith) k in
+        let (line, o) = took-A w d q (s .sound-a) (omega (arith, whole-heard)) k in
         let (m, h, ph) = carries-S i j set n out E (w .a .node .settings) (lineIn i j w) (s .steps) d q e (s .phase) in
         record {
           alive = record {
@@ -397,7 +397,7 @@ module _ (i j : ℕ) (small-i : i < berthCount) (small-j : j < berthCount) (set 
     alive-carriedB w d q z s =
         let e : lineIn i j w .toR ≡ d ∷ q = unfold lineIn in z in
         let (l, k) = there-whole i j set n out E fit some in-area small (lineIn i j w) (s .steps) d q e (s .phase) in
-        let line = took-B w d q (s .sound-b) (s .settings-b) (omega arith) k in
+        let line = took-B w d q (s .sound-b) (s .settings-b) (omega (arith, whole-heard)) k in
         let (m, h, ph) = carries-R i j set n out E fit some in-area small (lineIn i j w) (s .steps) d q e (s .phase) in
         record {
           alive = record {

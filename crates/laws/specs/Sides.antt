@@ -7,7 +7,7 @@ use mathlib.Core.List.{List, [], _∷_, _++_, map}
 use lib.Dec.{eqb}
 use Rattle.rules.specs.Tests.{pick}
 use Rattle.rules.specs.Numbers.{flowKind}
-use Rattle.rules.specs.Nodes.{fresh, Held}
+use Rattle.rules.specs.Nodes.{fresh, withRx, withTx, Held}
 use Rattle.rules.specs.Frames.{kind}
 use Rattle.rules.specs.Turns.{flowDue}
 use Rattle.rules.specs.Answers.{Answer, refused, ready, heard, codes, sent, handed, none, shown, Side, receive, send, Report, forTaker, reports}
@@ -25,9 +25,9 @@ sameSide send send = true
 -- one side of a berth with its area: the other side fresh, the other area left out
 unfoldable pub sideOf : Side → Part → Part
 sideOf receive p =
-    record { berth = record { rx = p .berth .rx; last = p .berth .last; tx = fresh .tx }; incoming = p .incoming; outgoing = [] }
+    record { berth = withTx (p .berth) (fresh .tx); incoming = p .incoming; outgoing = [] }
 sideOf send p =
-    record { berth = record { rx = fresh .rx; last = fresh .last; tx = p .berth .tx }; incoming = []; outgoing = p .outgoing }
+    record { berth = withRx (p .berth) (fresh .rx) (fresh .last); incoming = []; outgoing = p .outgoing }
 
 -- ---- the events of a side
 

@@ -10,7 +10,7 @@ use lib.Seq.{sets, sets-eq, take-at, drop-at, getD-set-same, length-take-le}
 use lib.Dec.{T, eqb, ltb}
 use Rattle.rules.specs.Tests.{all, each, firstUnmet}
 use Rattle.rules.specs.Numbers.{berthCount, toBerth, timeout, consecutiveKind, frameSize, outOfOrder, badSetting}
-use Rattle.rules.specs.Nodes.{fresh, blankNode, berthAt, Held}
+use Rattle.rules.specs.Nodes.{fresh, withRx, blankNode, berthAt, Held}
 use Rattle.rules.specs.Ranges.{settingsAllowed, inBlock, takingInRange, berthInOrder, inOrder}
 use Rattle.rules.specs.Frames.{kind, low, singleFits, consecutiveFits, share}
 use Rattle.rules.specs.Arrivals.{singleCame, missing, piece, completed, awaitedCame, heardBy, byKind, frameCame}
@@ -349,7 +349,7 @@ hearing rx last =
       node = record {
         settings = record { area = 8; block = 0; stmin = 0 };
         served = 9;
-        berths = record { rx = rx; last = last; tx = Tx.Idle } ∷ replicate 9 fresh;
+        berths = withRx fresh rx last ∷ replicate 9 fresh;
       };
       incoming = replicate 80 0;
       outgoing = replicate 80 0;
@@ -366,10 +366,11 @@ pub answered-here : (refusal (hearing Rx.Idle 0) (frame 0x640 (0x01 ∷ 7 ∷ []
     × (refusal (hearing (Rx.OwesOverflow 0) 0) tick ≡ 0) × (refusal (lent blankNode [] []) tick ≡ outOfOrder)
     × (setUpRefusal 8 0 0 ≡ 0) × (setUpRefusal 0 0 0 ≡ badSetting)
     × (refusal (hearing (Rx.Awaits sixOfEight 0) 0) (frame 0x640 (0x21 ∷ 7 ∷ 8 ∷ [])) ≡ 0)
+    × (refusal (hearing Rx.Idle 0) (frame 0x640 (0x01 ∷ 8 ∷ [])) ≡ 0)
 unfolding
     all each firstUnmet kind low singleFits consecutiveFits share settingsAllowed inBlock takingInRange berthInOrder berthAt inOrder
     singleCame piece completed awaitedCame heardBy byKind frameCame rightStore inside cameAt needs refusal setUpRefusal
-answered-here = (refl, refl, refl, refl, refl, refl, refl, refl, refl, refl, refl)
+answered-here = (refl, refl, refl, refl, refl, refl, refl, refl, refl, refl, refl, refl)
 
 -- so for every fixed answer, and for every part, there is a call that shuts it out
 pub not-fixed-here :
@@ -390,10 +391,21 @@ not-fixed-here = (
   not-fixed-part (hearing Rx.Idle 1) Choice.Arrived 0 10 (λ z. omega arith),
 )
 
+-- for every incoming store there is a frame that shuts it out
+pub not-fixed-bytes-here : (incoming : List ℕ)
+    → (d : List ℕ) × ((n : Node) × (a : FrameAnswer) × FramePromise (hearing Rx.Idle 0 .node) (replicate 80 0) 0x640 d a n incoming → ⊥)
+not-fixed-bytes-here = not-fixed-bytes (hearing Rx.Idle 0) 0x640 7 8 (λ z. omega arith) (answered-here .0) (answered-here .11)
+
 pub not-idle-here : (a : TickAnswer) → TickPromise (hearing (Rx.OwesOverflow 0) 0 .node) a (hearing (Rx.OwesOverflow 0) 0 .node) → ⊥
 unfolding berthAt
 not-idle-here a =
     not-idle-timers (hearing (Rx.OwesOverflow 0) 0) 0 a (answered-here .6) (λ q. let e : Rx.OwesOverflow 0 ≡ Rx.Idle = q .0 in clash (cc))
+
+pub not-idle-message-here : (a : SendAnswer) (n : Node) → SendPromise (hearing Rx.Idle 0 .node) (replicate 80 0) 0 (1 ∷ []) a n (replicate 80 0) → ⊥
+unfolding areaOf
+not-idle-message-here a n =
+    not-idle-message (hearing Rx.Idle 0) 0 (1 ∷ []) a n (replicate 80 0) (answered-here .2)
+    (λ q. let z : _≡_ {A = ℕ} 0 1 = ap (λ (l : List ℕ). getD l 0 0) q in omega arith) refl
 
 pub not-counting-here : (a : FrameAnswer) (n : Node)
     → FramePromise (hearing (Rx.Awaits sixOfEight 0) 0 .node) (replicate 80 0) 0x640 (0x21 ∷ 7 ∷ 8 ∷ []) a n (replicate 80 0) → ⊥

@@ -8,7 +8,7 @@ use lib.ListN.{length}
 use lib.Dec.{T, ltb, leb}
 use mir.Facts.{leb-yes, ltb-yes, eqb-yes}
 use Rattle.rules.specs.Tests.{Need, firstUnmet}
-use Rattle.rules.specs.Numbers.{berthCount, fromBerth, frameSize}
+use Rattle.rules.specs.Numbers.{berthCount, fromBerth, mostData, leastBuffer}
 use Rattle.rules.specs.Nodes.{berthAt, Held}
 use Rattle.rules.specs.Ranges.{inOrder}
 use Rattle.rules.specs.Turns.{busy}
@@ -33,7 +33,7 @@ pub record MayHear (n : Node) (incoming : List ℕ) (id : ℕ) (d : List ℕ) : 
   pub store : length incoming ≡ berthCount * n .settings .area
   pub known : fromBerth ≤ id
   pub mine : senderOf id < berthCount
-  pub short : length d ≤ frameSize
+  pub short : length d ≤ mostData
 
 pub may-hear : (n : Node) (incoming : List ℕ) (id : ℕ) (d : List ℕ) (ns : List Need) → firstUnmet (toHear n incoming id d ++ ns) ≡ 0
     → MayHear n incoming id d × (firstUnmet ns ≡ 0)
@@ -76,7 +76,7 @@ send-answered h k m e =
 pub record TurnAnswered (h : Held) (buffer : List ℕ) : Type 0 where
   pub order : T (inOrder (h .node))
   pub store : length (h .outgoing) ≡ berthCount * h .node .settings .area
-  pub room : frameSize ≤ length buffer
+  pub room : leastBuffer ≤ length buffer
 
 pub turn-answered : (h : Held) (buffer : List ℕ) → refusal h (Call.turn buffer) ≡ 0 → TurnAnswered h buffer
 unfolding refusal needs

@@ -26,7 +26,7 @@ use Rattle.rules.proofs.Cases.{Tested, holds, fails, ltb-cases}
 use Rattle.rules.proofs.Handed.{handed-fit}
 use Rattle.node.specs.Promises.{lent, left, SetUpPromise, startsAt}
 use Rattle.node.proofs.Outcomes.{agrees, refuses, does}
-use Rattle.runs.specs.Chains.{Step, frames, ticks, sends, turns, shows, Chain, AfterSetUp, madeOf}
+use Rattle.runs.specs.Chains.{Step, frameStep, tickStep, sendStep, turnStep, showStep, Chain, AfterSetUp, madeOf}
 use Rattle.runs.proofs.Runs.{step-is}
 
 module _ (h : Held) where
@@ -40,10 +40,10 @@ module _ (h : Held) where
     where
       go : (number : ℕ) → refusal h (frame id d) ≡ number → Step h (frame id d) (outcome h (frame id d))
       go zero e =
-          as-outcome (frames id d (FrameAnswer.Heard (senderOf id) (cameAt h (senderOf id) d .old) (cameAt h (senderOf id) d .word)) (done h (frame id d) .node) (done h (frame id d) .incoming)
+          as-outcome (frameStep id d (FrameAnswer.Heard (senderOf id) (cameAt h (senderOf id) d .old) (cameAt h (senderOf id) d .word)) (done h (frame id d) .node) (done h (frame id d) .incoming)
           (λ outgoing. does (lent (h .node) (h .incoming) outgoing) (frame id d) refl (sym e) refl))
       go (suc number) e =
-          as-outcome (frames id d (FrameAnswer.Refused (suc number)) (h .node) (h .incoming)
+          as-outcome (frameStep id d (FrameAnswer.Refused (suc number)) (h .node) (h .incoming)
           (λ outgoing. refuses (lent (h .node) (h .incoming) outgoing) (frame id d) (suc number) (λ z. omega arith) refl refl (sym e)))
 
   tick-step : Step h tick (outcome h tick)
@@ -52,10 +52,10 @@ module _ (h : Held) where
     where
       go : (number : ℕ) → refusal h tick ≡ number → Step h tick (outcome h tick)
       go zero e =
-          as-outcome (ticks (record { refused = 0; codes = map codesOf (h .node .berths) }) (done h tick .node)
+          as-outcome (tickStep (record { refused = 0; codes = map codesOf (h .node .berths) }) (done h tick .node)
           (record { agrees = λ incoming outgoing. does (lent (h .node) incoming outgoing) tick refl (sym e) refl; beside = tt }))
       go (suc number) e =
-          as-outcome (ticks (record { refused = suc number; codes = replicate berthCount (record { receive = 0; send = 0 }) }) (h .node)
+          as-outcome (tickStep (record { refused = suc number; codes = replicate berthCount (record { receive = 0; send = 0 }) }) (h .node)
           (record {
             agrees = λ incoming outgoing. refuses (lent (h .node) incoming outgoing) tick (suc number) (λ z. omega arith) refl refl (sym e);
             beside = refl;
@@ -67,10 +67,10 @@ module _ (h : Held) where
     where
       go : (number : ℕ) → refusal h (send k m) ≡ number → Step h (send k m) (outcome h (send k m))
       go zero e =
-          as-outcome (sends k m (SendAnswer.Sent k) (done h (send k m) .node) (done h (send k m) .outgoing)
+          as-outcome (sendStep k m (SendAnswer.Sent k) (done h (send k m) .node) (done h (send k m) .outgoing)
           (λ incoming. does (lent (h .node) incoming (h .outgoing)) (send k m) refl (sym e) refl))
       go (suc number) e =
-          as-outcome (sends k m (SendAnswer.Refused (suc number)) (h .node) (h .outgoing)
+          as-outcome (sendStep k m (SendAnswer.Refused (suc number)) (h .node) (h .outgoing)
           (λ incoming. refuses (lent (h .node) incoming (h .outgoing)) (send k m) (suc number) (λ z. omega arith) refl refl (sym e)))
 
   turn-step : (buffer : List ℕ) → Step h (turn buffer) (outcome h (turn buffer))
@@ -86,15 +86,15 @@ module _ (h : Held) where
       go zero e (holds t l) =
           let says : outcome h (turn buffer) .answer ≡ handed (toBerth + k) (handedAt h k .frame) (handedAt h k .code) (passedOver (h .node)) = rw (e, t) in
           let eight = handed-fit h buffer _ _ _ _ says .0 .eight in
-          as-outcome (turns buffer (TurnAnswer.HandedOver (toBerth + k) (handedAt h k .code) (passedOver (h .node))) (servedNode (h .node) k (handedAt h k .berth)) (handedAt h k .frame ++ drop frameSize buffer)
+          as-outcome (turnStep buffer (TurnAnswer.HandedOver (toBerth + k) (handedAt h k .code) (passedOver (h .node))) (servedNode (h .node) k (handedAt h k .berth)) (handedAt h k .frame ++ drop frameSize buffer)
           (λ incoming. does (lent (h .node) incoming (h .outgoing)) (turn buffer) refl (sym e)
           (rw t (ap (λ (f : List ℕ). left (handed (toBerth + k) f (handedAt h k .code) (passedOver (h .node))) (lent (servedNode (h .node) k (handedAt h k .berth)) incoming (h .outgoing)) (handedAt h k .frame ++ drop frameSize buffer))
           (take-at (handedAt h k .frame) (drop frameSize buffer) frameSize eight)))))
       go zero e (fails t l) =
-          as-outcome (turns buffer (TurnAnswer.None berthCount) (h .node) buffer
+          as-outcome (turnStep buffer (TurnAnswer.None berthCount) (h .node) buffer
           (λ incoming. does (lent (h .node) incoming (h .outgoing)) (turn buffer) refl (sym e) (rw t)))
       go (suc number) e t =
-          as-outcome (turns buffer (TurnAnswer.Refused (suc number)) (h .node) buffer
+          as-outcome (turnStep buffer (TurnAnswer.Refused (suc number)) (h .node) buffer
           (λ incoming. refuses (lent (h .node) incoming (h .outgoing)) (turn buffer) (suc number) (λ z. omega arith) refl refl (sym e)))
 
   -- EVERY CALL HAS A STEP
@@ -104,7 +104,7 @@ module _ (h : Held) where
   every-step (send k m) = send-step k m
   every-step (turn buffer) = turn-step buffer
   every-step (show k choice) =
-      as-outcome (shows k choice (showing h k choice) (0, 0) (0, 0) (startsAt h k choice (0, 0) (0, 0))
+      as-outcome (showStep k choice (showing h k choice) (0, 0) (0, 0) (startsAt h k choice (0, 0) (0, 0))
       (record { agrees = unfold refusal needs firstUnmet reply done written in (does h (show k choice) refl refl refl); starts = refl }))
 
 -- EVERY LIST OF CALLS HAS A CHAIN, from any start

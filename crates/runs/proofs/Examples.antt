@@ -4,14 +4,14 @@ use native.Mathlib.Omega.{arith}
 use mathlib.Core.Path.{_≡_, refl, ap}
 use mathlib.Core.List.{List, [], _∷_, _++_}
 use lib.ListN.{getD, replicate}
-use lib.Dec.{lit<, lit≤}
+use lib.Dec.{lit<}
 use Rattle.rules.specs.Tests.{all, each, firstUnmet}
 use Rattle.rules.specs.Nodes.{berthAt, withBerth, Held, blankNode, withNode}
 use Rattle.rules.specs.Ranges.{settingsAllowed, inBlock, takingInRange, berthInOrder, inOrder}
 use Rattle.rules.specs.Frames.{kind, low, singleFits, shortLength, escapeLength, announced, firstFits, consecutiveFits, share}
 use Rattle.rules.specs.Arrivals.{singleCame, begun, firstCame, piece, completed, awaitedCame, heardBy, byKind, frameCame}
 use Rattle.rules.specs.Turns.{due, handOver, beginsWith, sent as sentBerth}
-use Rattle.rules.specs.Events.{Call, frame, tick, send, turn, ticks, arrives}
+use Rattle.rules.specs.Events.{Call, frame, tick, send, turn, ticks, arrives, sends}
 use Rattle.rules.specs.Stores.{rightStore, areaOf, stored, inside, servedNode, setUpNode, distance, leastDistance, passedOver, reached, cameAt, handedAt}
 use Rattle.rules.specs.Answers.{refused}
 use Rattle.rules.specs.Refusals.{needs, refusal}
@@ -27,7 +27,7 @@ use Rattle.laws.proofs.Examples.{two, twoRun, afresh-computed, crowd, crowdRun,
 use Rattle.runs.specs.Chains.{Made, AfterSetUp, madeOf, saidBy, leftBy, DueIn, EachAlone}
 use Rattle.runs.proofs.Runs.{chain-fair, chain-alone-after-set-up}
 use Rattle.runs.proofs.Every.{every-chain, every-after-set-up}
-use Rattle.runs.proofs.PoorNodes.{one-more, refusing-again, idle-again-timers, counting-again, fixed-again, fixed-again-bytes}
+use Rattle.runs.proofs.PoorNodes.{one-more, refusing-again, idle-again-timers, idle-again-message, counting-again, fixed-again, fixed-again-bytes}
 
 -- ---- demand 3: the run of eight calls after a set-up, and ten calls for a frame while all ten berths are due
 
@@ -92,6 +92,14 @@ unfolding
     outcome done withBerth sentBerth beginsWith partOf
 idle-here o r = idle-again-timers (one-more afterSend (made tick o) 0 ticks r (lit< tt) refl) (λ e. let f : Tx.SingleDue 1 0 ≡ Tx.Idle = e .1 in let z : _≡_ {A = ℕ} 0 1 = cc in omega arith)
 
+-- and a send leaves the outgoing area as it was
+pub idle-message-here : (o : Outcome) → AfterSetUp unset eight (setUpNode eight) (made (send 0 (1 ∷ [])) o ∷ [])
+    → partOf 0 (o .held) .outgoing ≡ partOf 0 (withNode unset (setUpNode eight)) .outgoing → ⊥
+unfolding own ownDone leftBy refusal needs firstUnmet rightStore inOrder all each settingsAllowed berthInOrder setUpNode berthAt partOf areaOf
+idle-message-here o r =
+    idle-again-message (1 ∷ []) (one-more [] (made (send 0 (1 ∷ [])) o) 0 (sends (1 ∷ [])) r (lit< tt) refl)
+    (λ e. let z : _≡_ {A = ℕ} 0 1 = ap (λ (l : List ℕ). getD l 0 0) e in omega arith)
+
 -- counting only: a first frame of eight bytes came in and go was handed over; the consecutive frame leaves the area as it was
 abbrev afterGo : List Made
 afterGo = madeOf (withNode unset (setUpNode eight)) (frame 0x640 (0x10 ∷ 8 ∷ 1 ∷ 2 ∷ 3 ∷ 4 ∷ 5 ∷ 6 ∷ []) ∷ turn blank ∷ [])
@@ -104,5 +112,5 @@ unfolding
     awaitedCame completed consecutiveFits piece share passedOver leastDistance distance due reached servedNode handedAt handOver partOf areaOf
 counting-here o r =
     counting-again (0x21 ∷ 7 ∷ 8 ∷ []) (record { total = 8; got = 6; sn = record { 0 = 1 }; taken = 0 }) 0
-    (one-more afterGo (made (frame 0x640 (0x21 ∷ 7 ∷ 8 ∷ [])) o) 0 (arrives (0x21 ∷ 7 ∷ 8 ∷ [])) r (lit< tt) refl) refl refl tt refl (lit≤ tt)
+    (one-more afterGo (made (frame 0x640 (0x21 ∷ 7 ∷ 8 ∷ [])) o) 0 (arrives (0x21 ∷ 7 ∷ 8 ∷ [])) r (lit< tt) refl) refl refl tt refl
     (λ e. let z : _≡_ {A = ℕ} 0 7 = ap (λ (l : List ℕ). getD l 0 0) e in omega arith)

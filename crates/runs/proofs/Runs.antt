@@ -23,15 +23,15 @@ use Rattle.laws.specs.Rounds.{StaysDue, turnOf, Fair}
 use Rattle.laws.proofs.SetUp.{each-alone, each-alone-after-set-up}
 use Rattle.laws.proofs.SideRuns.{side-alone-in-run}
 use Rattle.laws.proofs.Fairness.{fair}
-use Rattle.runs.specs.Chains.{Step, frames, ticks, sends, turns, shows, Made, Chain, AfterSetUp, callsOf, saidBy, leftBy, ownIn, DueIn, EachAlone}
+use Rattle.runs.specs.Chains.{Step, frameStep, tickStep, sendStep, turnStep, showStep, Made, Chain, AfterSetUp, callsOf, saidBy, leftBy, ownIn, DueIn, EachAlone}
 
 -- EACH CALL'S PROMISE says that it answered and left the rule's outcome.
 pub step-is : {h : Held} {c : Call} {o : Outcome} → Step h c o → o ≡ outcome h c
-step-is {h} (frames id d a n incoming p) = frame-is (h .node) n (h .incoming) incoming id d a p (h .outgoing)
-step-is {h} (ticks a n p) = tick-is (h .node) n a p (h .incoming) (h .outgoing)
-step-is {h} (sends k m a n outgoing p) = send-is (h .node) n (h .outgoing) outgoing k m a p (h .incoming)
-step-is {h} (turns buffer a n buffer′ p) = turn-is (h .node) n (h .outgoing) buffer buffer′ a p (h .incoming)
-step-is {h} (shows k choice part in-at out-at part-at p) = show-is (h .node) (h .incoming) (h .outgoing) k choice part in-at out-at part-at p
+step-is {h} (frameStep id d a n incoming p) = frame-is (h .node) n (h .incoming) incoming id d a p (h .outgoing)
+step-is {h} (tickStep a n p) = tick-is (h .node) n a p (h .incoming) (h .outgoing)
+step-is {h} (sendStep k m a n outgoing p) = send-is (h .node) n (h .outgoing) outgoing k m a p (h .incoming)
+step-is {h} (turnStep buffer a n buffer′ p) = turn-is (h .node) n (h .outgoing) buffer buffer′ a p (h .incoming)
+step-is {h} (showStep k choice part in-at out-at part-at p) = show-is (h .node) (h .incoming) (h .outgoing) k choice part in-at out-at part-at p
 
 -- ---- a chain is a run of the rules, from any start
 

@@ -24,15 +24,15 @@ use Rattle.laws.specs.Rounds.{DueAt}
 -- one call of the code: it was given h, and answered and left this, of which its promise alone is known. A store that it is not given is
 -- as it was
 pub data Step (h : Held) : Call → Outcome → Type 0 where
-  frames : (id : ℕ) (d : List ℕ) (a : FrameAnswer) (n : Node) (incoming : List ℕ) → FramePromise (h .node) (h .incoming) id d a n incoming
+  frameStep : (id : ℕ) (d : List ℕ) (a : FrameAnswer) (n : Node) (incoming : List ℕ) → FramePromise (h .node) (h .incoming) id d a n incoming
       → Step h (frame id d) (left (frameSays a) (withIncoming (withNode h n) incoming) [])
-  ticks : (a : TickAnswer) (n : Node) → TickPromise (h .node) a n
+  tickStep : (a : TickAnswer) (n : Node) → TickPromise (h .node) a n
       → Step h tick (left (tickSays a) (withNode h n) [])
-  sends : (k : ℕ) (m : List ℕ) (a : SendAnswer) (n : Node) (outgoing : List ℕ) → SendPromise (h .node) (h .outgoing) k m a n outgoing
+  sendStep : (k : ℕ) (m : List ℕ) (a : SendAnswer) (n : Node) (outgoing : List ℕ) → SendPromise (h .node) (h .outgoing) k m a n outgoing
       → Step h (send k m) (left (sendSays a) (withOutgoing (withNode h n) outgoing) [])
-  turns : (buffer : List ℕ) (a : TurnAnswer) (n : Node) (buffer′ : List ℕ) → TurnPromise (h .node) (h .outgoing) buffer a n buffer′
+  turnStep : (buffer : List ℕ) (a : TurnAnswer) (n : Node) (buffer′ : List ℕ) → TurnPromise (h .node) (h .outgoing) buffer a n buffer′
       → Step h (turn buffer) (left (turnSays a buffer′) (withNode h n) buffer′)
-  shows : (k : ℕ) (choice : Choice) (part : List ℕ) (in-at out-at part-at : ℕ × ℕ)
+  showStep : (k : ℕ) (choice : Choice) (part : List ℕ) (in-at out-at part-at : ℕ × ℕ)
       → ShowPromise (h .node) (h .incoming) (h .outgoing) k choice part in-at out-at part-at
       → Step h (show k choice) (left (shown part) h [])
 
