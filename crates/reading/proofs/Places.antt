@@ -1,7 +1,7 @@
 -- Places that lie within a buffer, and what is held between them.
-use Prim.Native.Nat.{ℕ, _+_, _-_, _≤_, min}
+use Prim.Native.Nat.{ℕ, _+_, _-_, _≤_}
 use mathlib.Core.Path.{_≡_, refl, ap, _∙_}
-use mathlib.Core.List.{List, _++_}
+use mathlib.Core.List.{List}
 use native.Mathlib.Omega.{arith}
 use lib.ListN.{length, take, drop}
 use lib.Seq.{paste, take-add, drop-at, take-take, take-at, take-length, length-take-le, length-slice, length-paste}
@@ -11,8 +11,7 @@ use Rattle.bytes.specs.Bytes.{slice}
 use Rattle.reading.specs.declared.input.Source.{Source}
 use Rattle.reading.specs.declared.input.Kind.{Kind}
 use Rattle.reading.specs.declared.input.Next.{Next}
-use Rattle.reading.specs.declared.input.Part.the-variants.{Whole, Cut, Long, End}
-use Rattle.reading.specs.Input.{within, held, extent, behind, answer, nextOf, nextIn, gatheredIn}
+use Rattle.reading.specs.Input.{within, held, extent, behind, nextOf, nextIn, gatheredIn}
 
 pub within-order : (s : Source) (long : ℕ) → (within s long .used ≤ within s long .filled) × (within s long .filled ≤ long)
 unfolding within

@@ -51,6 +51,7 @@ impl Sink {
         empty
     }
 
+    // Puts a text.
     pub fn say(self, buffer: &mut [u8], text: Text) -> Sink
         ensures { λ r. ⌜ r ≡ sinkAfter self (now (buffer .entry)) (textOf text) ⌝ }
         ensures { λ _. ⌜ now (buffer .exit) ≡ bufferAfter self (now (buffer .entry)) (textOf text) ⌝ }

@@ -1,5 +1,5 @@
 -- The step's promise, and that its text is put.
-use mathlib.Core.Path.{_≡_, refl}
+use mathlib.Core.Path.{refl}
 use borrow.Author.Needs.{needs}
 use Rattle.exerciser.proofs.run_part.Statement.{statement}
 use Rattle.exerciser.proofs.run_part.Tie as tie

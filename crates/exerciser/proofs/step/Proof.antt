@@ -1,8 +1,7 @@
 -- What was read tells which call is asked for, that a frame's data lie within the record and that a message is no longer than the
 -- longest; the call promises the rest.
 use Prim.Native.Nat.{ℕ, _+_, _-_}
-use mathlib.Core.Path.{_≡_, refl, sym, _∙_}
-use mathlib.Core.List.{[], _∷_}
+use mathlib.Core.Path.{_≡_, refl, sym}
 use native.Mathlib.Omega.{arith}
 use Rattle.records.specs.Records.{recordOf}
 use Rattle.records.proofs.Reading.{Told, record-told}

@@ -1,6 +1,6 @@
 -- The invariant: the first bytes are pasted to the front, so the next one still stands where it stood.
 use Prim.Native.Nat.{_+_, _-_, _≤_, _<_}
-use mathlib.Core.Path.{_≡_, refl}
+use mathlib.Core.Path.{_≡_}
 use native.Mathlib.Omega.{arith}
 use lib.ListN.{length, drop, length-drop}
 use lib.Seq.{paste, paste-zero, length-paste}

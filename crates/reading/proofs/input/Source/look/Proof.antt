@@ -1,6 +1,6 @@
 -- What is held is looked through: a record's size is told, and a line ends at the first LF.
 use Prim.Native.Nat.{_-_, _≤_}
-use mathlib.Core.Path.{_≡_, sym, ap, _∙_}
+use mathlib.Core.Path.{_≡_}
 use native.Mathlib.Omega.{arith}
 use lib.ListN.{length}
 use Rattle.bytes.specs.Bytes.{slice, indexOf}

@@ -1,6 +1,5 @@
 -- What stands in the buffer is the answer where it settles the matter; else what stands in it after a refill.
 use mathlib.Core.Path.{_≡_, refl, sym, _∙_}
-use mathlib.Core.Bool.{Bool}
 use Rattle.reading.specs.Input.{nextIn, settled}
 use Rattle.reading.proofs.Places.{next-inside}
 use borrow.Author.Needs.{needs}

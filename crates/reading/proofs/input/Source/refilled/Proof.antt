@@ -1,7 +1,6 @@
 -- The part behind what is held is lent to the read, and comes back as long as it was.
 use Prim.Native.Nat.{_≤_}
 use native.Mathlib.Omega.{arith}
-use mathlib.Core.Path.{_≡_}
 use lib.ListN.{length}
 use Rattle.reading.specs.Input.{gathered}
 use Rattle.reading.proofs.Places.{held-fits, gathered-length}

@@ -1,5 +1,4 @@
 -- The smaller of two numbers, twice.
-use mathlib.Core.Path.{_≡_}
 use Rattle.reading.specs.Input.{within}
 use borrow.Author.Needs.{needs}
 use Rattle.reading.proofs.input.Source.within.Statement.{statement}

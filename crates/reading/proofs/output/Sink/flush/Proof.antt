@@ -1,8 +1,6 @@
 -- What waits is a front of the buffer.
-use Prim.Native.Nat.{_≤_}
 use mathlib.Core.Path.{sym}
 use native.Mathlib.Omega.{arith}
-use lib.ListN.{length}
 use lib.Seq.{length-take-le}
 use borrow.Author.Needs.{needs}
 use Rattle.reading.proofs.output.Sink.flush.Statement.{statement}

@@ -1,5 +1,5 @@
 -- The bytes are copied into the end of the buffer.
-use mathlib.Core.Path.{refl, ap, _∙_}
+use mathlib.Core.Path.{refl}
 use Rattle.reading.proofs.Bytes.{copied-in}
 use borrow.Author.Needs.{needs}
 use Rattle.reading.proofs.output.Sink.laid.Statement.{statement}
