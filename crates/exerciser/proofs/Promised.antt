@@ -12,7 +12,7 @@ use Rattle.records.specs.Records.{recordOf}
 use Rattle.text.specs.Building.{textOf}
 use Rattle.text.specs.Answers.{answerText}
 use Rattle.text.specs.declared.building.Text.{Text}
-use Rattle.exerciser.specs.Steps.{asks, says, stepText, stepHeld, Steps, Does}
+use Rattle.exerciser.specs.Steps.{asks, textFor, stepText, stepHeld, Steps, Does}
 
 module _ {number : ℕ} {h h′ : Held} {text : Text} where
   pub does : {call : Call} {a : Answer} {buffer : List ℕ} → textOf text ≡ answerText number a → Agrees (left a h′ buffer) (outcome h call)
@@ -20,9 +20,9 @@ module _ {number : ℕ} {h h′ : Held} {text : Text} where
   does t p = record { prints = t ∙ ap (λ o. answerText number (o .answer)) (same p); leaves = ap (λ o. o .held) (same p) }
 
   pub steps : (d : List ℕ) {call : Call} → asks d (recordOf d) ≡ call ∷ [] → Does number h call text h′ → Steps number d h text h′
-  unfolding stepText stepHeld says answers final
+  unfolding stepText stepHeld textFor answers final
   steps d e p = record { prints = rw e (p .prints); leaves = rw e (p .leaves) }
 
-  pub stays : (d : List ℕ) → asks d (recordOf d) ≡ [] → textOf text ≡ says number d [] → h′ ≡ h → Steps number d h text h′
+  pub stays : (d : List ℕ) → asks d (recordOf d) ≡ [] → textOf text ≡ textFor number d [] → h′ ≡ h → Steps number d h text h′
   unfolding stepText stepHeld answers final
   stays d e t k = record { prints = rw e t; leaves = rw e k }

@@ -30,26 +30,26 @@ abbrev pub recordLength : ℕ
 recordLength = 16
 
 -- a turn's buffer: eight zeros
-abbrev pub zeros : List ℕ
-zeros = replicate frameSize 0
+abbrev pub turnBuffer : List ℕ
+turnBuffer = replicate frameSize 0
 
 -- the call that a record asks for; none if it is bad
 unfoldable pub asks : List ℕ → Record → List Call
 asks d (Record.Frame id long) = frame id (take long (drop 8 d)) ∷ []
 asks d Record.Tick = tick ∷ []
 asks d (Record.Send k long first) = send k (risingFrom first long) ∷ []
-asks d Record.Turn = turn zeros ∷ []
+asks d Record.Turn = turn turnBuffer ∷ []
 asks d Record.Bad = []
 
 -- the text of its answer; without a call `short` for a part under 16 bytes, else `bad`
-unfoldable pub says : ℕ → List ℕ → List Answer → List ℕ
-says number d (answer ∷ _) = answerText number answer
-says number d [] = pick (ltb (length d) recordLength) (shortText number) (badText number)
+unfoldable pub textFor : ℕ → List ℕ → List Answer → List ℕ
+textFor number d (answer ∷ _) = answerText number answer
+textFor number d [] = pick (ltb (length d) recordLength) (shortText number) (badText number)
 
 -- ---- a step: the text that a record prints, and the node and the stores after it
 
 unfoldable pub stepText : ℕ → List ℕ → Held → List ℕ
-stepText number d h = says number d (answers h (asks d (recordOf d)))
+stepText number d h = textFor number d (answers h (asks d (recordOf d)))
 
 unfoldable pub stepHeld : List ℕ → Held → Held
 stepHeld d h = final h (asks d (recordOf d))
@@ -63,6 +63,6 @@ pub record Does (number : ℕ) (h : Held) (call : Call) (text : Text) (h′ : He
   pub prints : textOf text ≡ answerText number (outcome h call .answer)
   pub leaves : h′ ≡ outcome h call .held
 
--- a call that is not given a store leaves any such store as it is
+-- whatever the store is that a call is not given
 abbrev pub Whatever : (List ℕ → Type 0) → Type 0
 Whatever P = (store : List ℕ) → P store

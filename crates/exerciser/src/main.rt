@@ -6,7 +6,7 @@ ghost use Rattle.rules.specs.Events.{frame, tick, send, turn};
 ghost use Rattle.node.specs.Promises.{lent};
 ghost use Rattle.records.specs.Records.{risingFrom};
 ghost use Rattle.text.specs.Building.{textOf};
-ghost use Rattle.exerciser.specs.Steps.{firstNode, zeros, says, Whatever, Does, Steps};
+ghost use Rattle.exerciser.specs.Steps.{firstNode, turnBuffer, textFor, Whatever, Does, Steps};
 ghost use Rattle.exerciser.specs.Turns.{running, Stepped, Turns};
 use libc::STDIN_FILENO;
 use libc::STDOUT_FILENO;
@@ -79,7 +79,7 @@ fn sent(number: u64, node: Node, outgoing: &mut [u8], berth: u8, length: u32, fi
 }
 
 fn turned(number: u64, node: Node, outgoing: &[u8]) -> Left
-    ensures { λ r. ⌜ Whatever (λ incoming. Does number (lent node incoming (now (outgoing .entry))) (turn zeros) (r .text) (lent (r .node) incoming (now (outgoing .entry)))) ⌝ }
+    ensures { λ r. ⌜ Whatever (λ incoming. Does number (lent node incoming (now (outgoing .entry))) (turn turnBuffer) (r .text) (lent (r .node) incoming (now (outgoing .entry)))) ⌝ }
 {
     let mut buffer = [0u8; 8];
     let out = carumpek::local::turn(node, outgoing, &mut buffer);
@@ -93,7 +93,7 @@ fn turned(number: u64, node: Node, outgoing: &[u8]) -> Left
 
 // A record that asks for no call.
 fn none(number: u64, bytes: &[u8]) -> Text
-    ensures { λ r. ⌜ textOf r ≡ says number (now (bytes .entry)) [] ⌝ }
+    ensures { λ r. ⌜ textOf r ≡ textFor number (now (bytes .entry)) [] ⌝ }
 {
     if bytes.len() < RECORD {
         return text::answers::short(number);

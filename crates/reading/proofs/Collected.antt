@@ -9,7 +9,7 @@ use lib.Seq.{paste, take-paste, take-length, length-paste}
 use borrow.Author.Tests.{le-leb, lt-leb}
 use Rattle.rules.proofs.Cases.{split}
 use Rattle.reading.specs.declared.output.Sink.{Sink}
-use Rattle.reading.specs.Output.{waitingIn, sinkAfter, bufferAfter, waitingBytes, written}
+use Rattle.reading.specs.Output.{waitingIn, sinkAfter, bufferAfter, waitingBytes, toFile}
 
 -- what stands in a buffer up to the end of what was put into it
 laid : (b some : List ℕ) (at n : ℕ) → n ≡ at + length some → at + length some ≤ length b
@@ -19,8 +19,8 @@ laid b some at n e fits =
     let m : min n (length (paste b at some (length some))) ≡ at + length some = omega arith in
     rw m (take-paste b at some (length some) (omega arith) (omega arith) ∙ ap (λ (l : List ℕ). take at b ++ l) (take-length some))
 
-pub put-keeps : (s : Sink) (b some : List ℕ) → written s b some ++ waitingBytes (sinkAfter s b some) (bufferAfter s b some) ≡ waitingBytes s b ++ some
-unfolding written waitingBytes sinkAfter bufferAfter
+pub put-keeps : (s : Sink) (b some : List ℕ) → toFile s b some ++ waitingBytes (sinkAfter s b some) (bufferAfter s b some) ≡ waitingBytes s b ++ some
+unfolding toFile waitingBytes sinkAfter bufferAfter
 put-keeps s b some =
     let none : min 0 (length b) ≡ 0 = omega arith in
     split (length some) (length b - waitingIn s b)

@@ -77,7 +77,7 @@ pub record Stood (s : Source) (buffer : List ℕ) (kind : Kind) (r : Next) (buff
   pub same : buffer′ ≡ buffer
 
 -- the answer stands in the buffer after a refill
-pub record Came (s : Source) (buffer : List ℕ) (kind : Kind) (r : Next) (buffer′ : List ℕ) : Type 0 where
+pub record AfterRefill (s : Source) (buffer : List ℕ) (kind : Kind) (r : Next) (buffer′ : List ℕ) : Type 0 where
   pub source : Source
   pub refilled : Refilled s buffer source buffer′
   pub answer : r ≡ nextIn source buffer′ kind
@@ -92,4 +92,4 @@ settled s End = not (s .more)
 -- else there is one refill
 abbrev pub NextPromise : Source → List ℕ → Kind → Next → List ℕ → Type 0
 NextPromise s buffer kind r buffer′ =
-    pick (settled s (nextIn s buffer kind .part)) (Stood s buffer kind r buffer′) (Came s buffer kind r buffer′)
+    pick (settled s (nextIn s buffer kind .part)) (Stood s buffer kind r buffer′) (AfterRefill s buffer kind r buffer′)

@@ -34,7 +34,7 @@ bufferAfter s buffer some =
 unfoldable pub waitingBytes : Sink → List ℕ → List ℕ
 waitingBytes s buffer = take (waitingIn s buffer) buffer
 
-unfoldable pub written : Sink → List ℕ → List ℕ → List ℕ
-written s buffer some =
+unfoldable pub toFile : Sink → List ℕ → List ℕ → List ℕ
+toFile s buffer some =
     pick (leb (length some) (length buffer - waitingIn s buffer)) []
     (pick (leb (length some) (length buffer)) (waitingBytes s buffer) (waitingBytes s buffer ++ some))

@@ -78,7 +78,7 @@ pub(crate) fn turn(number: u64, node: Node, record: &[u8; 16], outgoing: &[u8]) 
     turned(number, node, outgoing, &mut buffer[..n])
 }
 
-fn set_up_line(number: u64, answer: SetUpAnswer) -> Text {
+fn set_up_text(number: u64, answer: SetUpAnswer) -> Text {
     match answer {
         SetUpAnswer::Refused(n) => text::answers::refused(number, n),
         SetUpAnswer::Ready => text::answers::numbered(number).put_all(b"setup\n"),
@@ -96,7 +96,7 @@ pub(crate) fn set_up(number: u64, node: Node, record: &[u8; 16], at: usize) -> O
     let answer = came.answer;
     let after = came.node;
     Outcome {
-        text: set_up_line(number, answer),
+        text: set_up_text(number, answer),
         node: after,
     }
 }

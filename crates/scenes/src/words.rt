@@ -1,4 +1,4 @@
-// The scenes' own lines: a berth's state, the node's own, and the frames needed.
+// The scenes' own texts: a berth's state, the node's own, and the frames needed.
 use rules::Berth;
 use rules::Rx;
 use rules::Sending;
