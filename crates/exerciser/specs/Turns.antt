@@ -25,18 +25,20 @@ pub record Running : Type 0 where
   pub outgoing : List ℕ
   pub output : List ℕ
 
+-- a run so far, from its parts
 abbrev pub running : Progress → List ℕ → List ℕ → List ℕ → Running
 running p incoming outgoing output = record { progress = p; incoming = incoming; outgoing = outgoing; output = output }
 
-abbrev pub stores : Running → Held
-stores r = lent (r .progress .node) (r .incoming) (r .outgoing)
+-- the node and the stores that the next step is lent, and the text that it will print
+abbrev pub lentIn : Running → Held
+lentIn r = lent (r .progress .node) (r .incoming) (r .outgoing)
 
 abbrev pub nextText : Running → List ℕ → List ℕ
-nextText r d = stepText (r .progress .number) d (stores r)
+nextText r d = stepText (r .progress .number) d (lentIn r)
 
 -- a record's turn: its step, the next number, its text put to the output
 pub record Stepped (r : Running) (d : List ℕ) (r′ : Running) : Type 0 where
-  pub leaves : stores r′ ≡ stepHeld d (stores r)
+  pub leaves : lentIn r′ ≡ stepHeld d (lentIn r)
   pub counts : r′ .progress .number ≡ (r .progress .number + 1) % 2 ^ 64
   pub goes-on : r′ .progress .more ≡ r .progress .more
   pub reads : r′ .progress .source ≡ r .progress .source

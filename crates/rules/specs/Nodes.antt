@@ -51,6 +51,7 @@ pub record Held : Type 0 where
   pub incoming : List ℕ
   pub outgoing : List ℕ
 
+-- with one of the three anew
 abbrev pub withNode : Held → Node → Held
 withNode h n = record { node = n; incoming = h .incoming; outgoing = h .outgoing }
 

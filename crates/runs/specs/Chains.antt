@@ -58,6 +58,7 @@ madeOf h (c ∷ cs) = record { call = c; out = outcome h c } ∷ madeOf (outcome
 
 -- ---- what a chain said and left, read off its calls
 
+-- its calls, its answers, and what the last call left
 abbrev pub callsOf : List Made → List Call
 callsOf ms = map (λ (m : Made). m .call) ms
 
