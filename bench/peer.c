@@ -1,9 +1,8 @@
 /*
- * peer.c - what a call of the peer costs: crates/bench once more, over the node of tests/peer.
+ * peer.c - crates/bench once more, over the node of tests/peer.
  *
- * The same words, the same states, the same sum; the form is read and has no
- * meaning here. The peer changes the node that it is lent, so each turn of a
- * loop puts the first state back. The call "nothing" does that and no more.
+ * The same words, the same states, one call, the same sum. The calls stand in
+ * files of their own, so that the compiler leaves them calls.
  */
 #include <inttypes.h>
 #include <stdio.h>
@@ -12,14 +11,16 @@
 
 #include "../tests/peer/node.h"
 
-enum { WORDS = 8, SHORT_BUFFER = 7, LONG_FRAME = 9 };
+enum { WORDS = 6, SHORT_BUFFER = 7, LONG_FRAME = 9, BAD_STMIN = 0xFA };
+
+/* The third letter tells the calls apart. */
+enum call { FRAME = 'a', TICK = 'c', SEND = 'n', TURN = 'r', SHOW = 'o', SET_UP = 't' };
 
 struct load {
     char call, situation;
     int area, length, busy;
-    uint64_t count;
     struct bytes incoming, outgoing, message, buffer;
-    int berth, came;
+    int number, came; /* the frame's identifier, the berth of send and show, or the STmin of a set-up */
     uint8_t payload[LONG_FRAME];
 };
 
@@ -28,54 +29,25 @@ static uint8_t outgoing_store[BERTHS * AREA_MAX];
 static uint8_t message_bytes[AREA_MAX];
 static uint8_t buffer_bytes[FRAME_BYTES];
 
-static uint64_t of_node(const struct node *node)
+static int of_node(const struct node *node)
 {
-    return (uint64_t)(node->served + node->rx[BERTHS - 1].last);
+    return node->served + node->rx[BERTHS - 1].last;
 }
 
-static uint64_t of_turn(struct turn_answer a)
+static int of_frame(struct frame_answer a)
 {
-    return (uint64_t)(a.refusal + a.identifier + a.code + a.passed_over);
+    return a.refusal + a.berth + a.old + a.number;
 }
 
-/* The loops stay calls, as those of crates/bench are: each has a frame of its own. */
-#define LOOP(NAME, CALL)                                                           \
-    static __attribute__((noinline)) uint64_t NAME(const struct load *l, const struct node *start) \
-    {                                                                              \
-        uint64_t sum = 0;                                                          \
-        struct node node;                                                          \
-        for (uint64_t i = 0; i < l->count; i++) {                                  \
-            node = *start;                                                         \
-            sum += CALL;                                                           \
-            sum += of_node(&node);                                                 \
-        }                                                                          \
-        return sum;                                                                \
-    }
-
-static uint64_t of_frame(struct frame_answer a)
+static int of_tick(struct tick_answer a)
 {
-    return (uint64_t)(a.refusal + a.berth + a.old + a.number);
+    return a.refusal + a.receive_code[BERTHS - 1] + a.send_code[BERTHS - 1];
 }
 
-static uint64_t of_tick(struct tick_answer a)
+static int of_turn(struct turn_answer a)
 {
-    return (uint64_t)(a.refusal + a.receive_code[BERTHS - 1] + a.send_code[BERTHS - 1]);
+    return a.refusal + a.identifier + a.code + a.passed_over;
 }
-
-/* A send answers its refusal, else the berth, which is 0. */
-LOOP(frames, of_frame(frame_came(&node, l->incoming, l->berth, l->payload, l->came)))
-LOOP(ticks, of_tick(tick(&node)))
-LOOP(sends, (uint64_t)send_message(&node, l->outgoing, l->berth, l->message))
-LOOP(turns, of_turn(call_for_frame(&node, l->outgoing, l->buffer)))
-LOOP(shows, show_message(&node, l->incoming, l->outgoing, l->berth, SHOW_SENDING).length)
-
-/* The compiler may not see that the state put back is the one that is there. */
-static __attribute__((noinline)) int no_call(struct node *node)
-{
-    __asm__ volatile("" : : "r"(node) : "memory");
-    return 0;
-}
-LOOP(nothings, (uint64_t)no_call(&node))
 
 static int middle(int length)
 {
@@ -96,21 +68,32 @@ static struct send_side sending(int length)
 
 static void build_node(const struct load *l, struct node *node)
 {
-    if (set_up(node, (uint32_t)l->area, 8, 0) != 0 || l->situation == 'i')
+    *node = (struct node){ .area = l->area, .block_size = 8, .served = BERTHS - 1 };
+    if (l->situation == 'i')
         return;
     for (int berth = 0; berth < l->busy && berth < BERTHS; berth++) {
         node->rx[berth] = receiving(l->length);
         node->tx[berth] = sending(l->length);
     }
-    if (l->call == 'e' && l->situation == 'b') {
+    if (l->call == SEND && l->situation == 'b') {
         node->rx[0] = receiving(l->length);
         node->tx[0] = (struct send_side){ .state = TX_IDLE };
     }
-    if (l->call == 'i' && l->situation == 'r') {
+    if (l->call == TICK && l->situation == 'r') {
         node->rx[BERTHS - 1] = receiving(l->length);
         node->tx[BERTHS - 1] = sending(l->length);
         node->tx[BERTHS - 1].gap_left = 1;
         node->tx[BERTHS - 1].timer = 1;
+    }
+}
+
+static int given(char call, bool refused)
+{
+    switch (call) {
+    case FRAME: return FROM_BERTH_0;
+    case SHOW: return refused ? BERTHS : 0;
+    case SET_UP: return refused ? BAD_STMIN : 0;
+    default: return 0;
     }
 }
 
@@ -124,20 +107,21 @@ static void lend(struct load *l)
     l->outgoing = (struct bytes){ outgoing_store, size };
     l->message = (struct bytes){ message_bytes, (size_t)l->length };
     l->buffer = (struct bytes){ buffer_bytes, refused ? SHORT_BUFFER : FRAME_BYTES };
-    l->berth = l->call == 'r' ? FROM_BERTH_0 : l->call == 'h' && refused ? BERTHS : 0;
+    l->number = given(l->call, refused);
     l->came = refused ? LONG_FRAME : FRAME_BYTES;
     memcpy(l->payload, l->situation == 'i' ? "\7\1\2\3\4\5\6\7" : "\41\1\2\3\4\5\6\7", LONG_FRAME);
 }
 
-static uint64_t run(const struct load *l, const struct node *start)
+/* A send answers its refusal, else the berth, which is 0. */
+static int made(const struct load *l, struct node *node)
 {
     switch (l->call) {
-    case 'r': return frames(l, start);
-    case 'i': return ticks(l, start);
-    case 'e': return sends(l, start);
-    case 'u': return turns(l, start);
-    case 'h': return shows(l, start);
-    default: return nothings(l, start);
+    case FRAME: return of_frame(frame_came(node, l->incoming, l->number, l->payload, l->came));
+    case TICK: return of_tick(tick(node));
+    case SEND: return send_message(node, l->outgoing, l->number, l->message);
+    case TURN: return of_turn(call_for_frame(node, l->outgoing, l->buffer));
+    case SHOW: return (int)show_message(node, l->incoming, l->outgoing, l->number, SHOW_SENDING).length;
+    default: return set_up(node, (uint32_t)l->area, 8, (uint32_t)l->number);
     }
 }
 
@@ -146,17 +130,16 @@ int main(int argc, char **argv)
     if (argc != WORDS)
         return 2;
     struct load load = {
-        .call = argv[2][1],
-        .situation = argv[3][0],
-        .area = atoi(argv[4]),
-        .length = atoi(argv[5]),
-        .busy = atoi(argv[6]),
-        .count = (uint64_t)atoi(argv[7]),
+        .call = argv[1][2],
+        .situation = argv[2][0],
+        .area = atoi(argv[3]),
+        .length = atoi(argv[4]),
+        .busy = atoi(argv[5]),
     };
-    struct node node = { 0 };
+    struct node node;
     lend(&load);
     build_node(&load, &node);
-    /* the highest bit is set, so that every sum costs the same to print */
-    printf("%016" PRIx64, run(&load, &node) + (UINT64_C(1) << 63));
+    int answer = made(&load, &node);
+    printf("%016x", (unsigned)(answer + of_node(&node)));
     return 0;
 }

@@ -1,2 +1,3 @@
--- Facts that several proofs of this crate cite.
+-- Facts that several proofs, here or in `sides`, cite.
 pub mod Others
+pub mod Touches

@@ -11,6 +11,7 @@ use Rattle.rules.specs.declared.Rx.{Rx}
 use Rattle.rules.specs.declared.Tx.{Tx}
 use Rattle.rules.proofs.Rx as receiving
 use Rattle.rules.proofs.Tx as sending
+use Rattle.arrivals.specs.Reading.{whyConsecutive}
 
 pub consecutive-not-awaited :
     (s : Settings) (rx : Rx) (last : ℕ) (d : List ℕ) → OneOf (0 ∷ 1 ∷ 2 ∷ []) (tagOf receiving.the-type rx)
@@ -19,6 +20,12 @@ consecutive-not-awaited s Rx.Idle last d o = refl
 consecutive-not-awaited s (Rx.OwesOverflow t) last d o = refl
 consecutive-not-awaited s (Rx.OwesGo p t) last d o = refl
 consecutive-not-awaited s (Rx.Awaits p t) last d o = absurd (miss (0 ∷ 1 ∷ 2 ∷ []) 3 tt o)
+
+pub none-awaited : (rx : Rx) (d : List ℕ) → OneOf (0 ∷ 1 ∷ 2 ∷ []) (tagOf receiving.the-type rx) → whyConsecutive rx d ≡ notAwaited
+none-awaited Rx.Idle d o = refl
+none-awaited (Rx.OwesOverflow t) d o = refl
+none-awaited (Rx.OwesGo p t) d o = refl
+none-awaited (Rx.Awaits p t) d o = absurd (miss (0 ∷ 1 ∷ 2 ∷ []) 3 tt o)
 
 pub flow-not-awaited :
     (tx : Tx) (d : List ℕ) → OneOf (0 ∷ 1 ∷ 2 ∷ 4 ∷ []) (tagOf sending.the-type tx) → flowCame tx d ≡ flowIgnored notAwaited tx

@@ -8,10 +8,10 @@ ghost use Prim.Native.Nat.{ℕ, _+_, _≤_, _<_};
 ghost use lib.ListN.{length};
 ghost use Rattle.rules.specs.Numbers.{frameSize, leastFlow, consecutiveMost};
 ghost use Rattle.rules.specs.Frames.{share};
-ghost use Rattle.rules.specs.Ranges.{TakingRange, RxRange, BerthRange};
-ghost use Rattle.rules.specs.Arrivals.{Heard as HeardRule, ignored, oldCode, singleCame, taking, begun, firstCame, missing, piece, grown, afterTook, awaitedCame, consecutiveCame, granted, byStatus, flowIgnored, flowCame, heardBy, toldBy, byKind, frameCame};
-ghost use Rattle.arrivals.specs.Reading.{Hears, Comes, toldOf};
-use rules::Berth;
+ghost use Rattle.rules.specs.Ranges.{TakingRange, RxRange};
+ghost use Rattle.rules.specs.Arrivals.{ignored, oldCode, singleCame, taking, begun, firstCame, missing, piece, grown, afterTook, awaitedCame, consecutiveCame, granted, byStatus, flowIgnored, flowCame};
+ghost use Rattle.rules.specs.declared.Settings.{Settings};
+ghost use Rattle.arrivals.specs.Reading.{Hears, toldOf, isFlow, rxCame, unlessFits, whyConsecutive, whyIgnored};
 use rules::Rx;
 use rules::Sending;
 use rules::Settings;
@@ -35,16 +35,6 @@ pub struct Heard {
 pub struct Told {
     pub tx: Tx,
     pub word: Word,
-}
-
-// What a frame makes of a berth.
-pub struct Came {
-    pub berth: Berth,
-    pub old: u8,
-    pub word: Word,
-    pub place: u32,
-    pub from: u32,
-    pub count: u32,
 }
 
 // An answer that stores nothing.
@@ -271,7 +261,8 @@ fn flow_ignored(why: u8, tx: Tx) -> Told
     }
 }
 
-fn flow_came(tx: Tx, frame: &[u8]) -> Told
+// Flow control, at a send side.
+pub fn flow_came(tx: Tx, frame: &[u8]) -> Told
     requires { ⌜ 0 < length (now frame) ⌝ }
     ensures { λ r. ⌜ toldOf r ≡ flowCame tx (now (frame .entry)) ⌝ }
 {
@@ -286,67 +277,67 @@ fn flow_came(tx: Tx, frame: &[u8]) -> Told
     }
 }
 
-fn heard_by(berth: Berth, heard: Heard) -> Came
-    ensures { λ r. ⌜ ((d : List ℕ) → (h : HeardRule) → Hears heard d h → Comes r d (heardBy berth h)) ⌝ }
+// Whether a frame is flow control, which touches only the send side; the other kinds touch only the receive side.
+pub fn is_flow(frame: &[u8]) -> bool
+    ensures { λ r. ⌜ r ≡ isFlow (now (frame .entry)) ⌝ }
 {
-    let rx = heard.rx;
-    let word = heard.word;
-    Came {
-        berth: berth.with_rx(rx, heard.last),
-        old: heard.old,
-        word: word,
-        place: heard.place,
-        from: heard.from,
-        count: heard.count,
+    if frame.len() == 0 {
+        return false;
+    }
+    frames::kind(frame) == rules::FLOW_KIND
+}
+
+fn unless_fits(fits: bool) -> u8
+    ensures { λ r. ⌜ r ≡ unlessFits fits ⌝ }
+{
+    if fits {
+        return 0;
+    }
+    rules::WRONG_LENGTH
+}
+
+fn why_consecutive(rx: Rx, frame: &[u8]) -> u8
+    requires { ⌜ ((s : Settings) × ((last : ℕ) × RxRange s last rx)) ⌝ }
+    ensures { λ r. ⌜ r ≡ whyConsecutive rx (now (frame .entry)) ⌝ }
+{
+    match rx {
+        Rx::Awaits(p, _) => unless_fits(frames::consecutive_fits(missing(p), frame)),
+        _ => rules::NOT_AWAITED,
     }
 }
 
-fn told_by(berth: Berth, told: Told) -> Came
-    ensures { λ r. ⌜ ((d : List ℕ) → Comes r d (toldBy berth (toldOf told))) ⌝ }
+// Why a frame with data that is no flow control is ignored, 0 where it is not: a frame that changes nothing need not be taken to the side.
+pub fn why_ignored(rx: Rx, frame: &[u8]) -> u8
+    requires { ⌜ (0 < length (now frame)) × ((s : Settings) × ((last : ℕ) × RxRange s last rx)) ⌝ }
+    ensures { λ r. ⌜ r ≡ whyIgnored rx (now (frame .entry)) ⌝ }
 {
-    let tx = told.tx;
-    let word = told.word;
-    Came {
-        berth: berth.with_tx(tx),
-        old: 0,
-        word: word,
-        place: 0,
-        from: 0,
-        count: 0,
-    }
-}
-
-fn by_kind(settings: Settings, berth: Berth, frame: &[u8]) -> Came
-    requires { ⌜ (0 < length (now frame)) × BerthRange settings berth ⌝ }
-    ensures { λ r. ⌜ Comes r (now (frame .entry)) (byKind settings berth (now (frame .entry))) ⌝ }
-{
-    let rx = berth.rx;
-    let tx = berth.tx;
-    let last = berth.last;
     let kind = frames::kind(frame);
     if kind == rules::SINGLE_KIND {
-        return heard_by(berth, single_came(rx, last, frame));
+        return unless_fits(frames::single_fits(frame));
     }
     if kind == rules::FIRST_KIND {
-        return heard_by(berth, first_came(settings, rx, last, frame));
+        return unless_fits(frames::first_fits(frame));
     }
     if kind == rules::CONSECUTIVE_KIND {
-        return heard_by(berth, consecutive_came(settings, rx, last, frame));
+        return why_consecutive(rx, frame);
     }
-    if kind == rules::FLOW_KIND {
-        return told_by(berth, flow_came(tx, frame));
-    }
-    heard_by(berth, ignored(rules::OTHER_KIND, rx, last))
+    rules::OTHER_KIND
 }
 
-pub fn frame_came(settings: Settings, berth: Berth, frame: &[u8]) -> Came
-    requires { ⌜ BerthRange settings berth ⌝ }
-    ensures { λ r. ⌜ Comes r (now (frame .entry)) (frameCame settings berth (now (frame .entry))) ⌝ }
+// A frame with data that is no flow control, at a receive side.
+pub fn rx_came(settings: Settings, rx: Rx, last: u32, frame: &[u8]) -> Heard
+    requires { ⌜ (0 < length (now frame)) × RxRange settings last rx ⌝ }
+    ensures { λ r. ⌜ Hears r (now (frame .entry)) (rxCame settings rx last (now (frame .entry))) ⌝ }
 {
-    let rx = berth.rx;
-    let last = berth.last;
-    if frame.len() == 0 {
-        return heard_by(berth, ignored(rules::NO_DATA, rx, last));
+    let kind = frames::kind(frame);
+    if kind == rules::SINGLE_KIND {
+        return single_came(rx, last, frame);
     }
-    by_kind(settings, berth, frame)
+    if kind == rules::FIRST_KIND {
+        return first_came(settings, rx, last, frame);
+    }
+    if kind == rules::CONSECUTIVE_KIND {
+        return consecutive_came(settings, rx, last, frame);
+    }
+    ignored(rules::OTHER_KIND, rx, last)
 }

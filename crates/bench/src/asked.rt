@@ -2,12 +2,12 @@
 // berths are busy.
 
 pub(crate) enum Call {
+    SetUp,
     Frame,
     Tick,
     Send,
     Turn,
     Show,
-    Nothing,
 }
 
 pub(crate) enum Situation {

@@ -1,6 +1,6 @@
 -- A chain of tests, each of which ends the function where it fails, computes what `all` says of the list of tests: one step of the
 -- chain for each element of the list.
-use mathlib.Core.Path.{_≡_, sym, _∙_}
+use mathlib.Core.Path.{_≡_, refl, sym, _∙_}
 use mathlib.Core.Bool.{Bool, true, false, and-true}
 use mathlib.Core.List.{List, [], _∷_}
 use Rattle.rules.specs.Tests.{all}
@@ -19,3 +19,9 @@ stop bs e = rw e
 pub ends : {b r : Bool} → r ≡ b → r ≡ all (b ∷ [])
 unfolding all
 ends {b} e = e ∙ sym (and-true b)
+
+-- a later test fails
+pub later : (b : Bool) (bs : List Bool) → false ≡ all bs → false ≡ all (b ∷ bs)
+unfolding all
+later true bs h = h
+later false bs h = refl

@@ -1,3 +1,3 @@
--- Facts that several proofs, here or in `node`, cite.
+-- Facts that several proofs, here or in `looks`, cite.
 pub mod Chains
-pub mod Timers
+pub mod Guards

@@ -1,2 +1,2 @@
--- How the structs of this crate are read as the records of the rules.
-pub mod Reading
+-- Which berths are idle.
+pub mod Idle

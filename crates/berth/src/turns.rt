@@ -1,5 +1,5 @@
-// Paper 01, "Ticks and turns", at one berth: whether a frame is due, what is handed over, how a message begins to be sent, and the
-// length of the message now being sent.
+// Paper 01, "Ticks and turns", at one side of a berth: whether a frame is due, what is handed over, how a message begins to be sent,
+// and the length of the message now being sent.
 ghost use mathlib.Core.Path.{_≡_};
 ghost use mathlib.Core.Bool.{true};
 ghost use mathlib.Core.List.{[], _∷_};
@@ -7,17 +7,15 @@ ghost use Prim.Native.Nat.{_≤_, _<_};
 ghost use lib.ListN.{length, take, drop};
 ghost use Rattle.rules.specs.Numbers.{leastArea, largestArea, snCount, flowKind, frameSize, singleMost, firstBytes, consecutiveMost};
 ghost use Rattle.rules.specs.Frames.{headed, singleFrame, firstFrame, consecutiveFrame, share};
-ghost use Rattle.rules.specs.Ranges.{SendingRange, TxRange, BerthRange};
-ghost use Rattle.rules.specs.Turns.{flowDue, messageDue, due, flowFrame, afterFlow, toGo, messageFrame, messageCode, opened, moved, afterConsecutive, afterMessage, handOver, beginsWith, sent, lengthSending, busy};
-ghost use Rattle.berth.specs.Reading.{handedOf};
-use rules::Berth;
+ghost use Rattle.rules.specs.Ranges.{SendingRange, TxRange};
+ghost use Rattle.rules.specs.Turns.{flowDue, messageDue, flowFrame, afterFlow, toGo, messageFrame, messageCode, opened, moved, afterConsecutive, afterMessage, beginsWith, lengthSending, busy};
 use rules::Rx;
 use rules::Sending;
 use rules::Settings;
 use rules::Sn;
 use rules::Tx;
 
-fn flow_due(rx: Rx) -> bool
+pub fn flow_due(rx: Rx) -> bool
     ensures { λ r. ⌜ r ≡ flowDue rx ⌝ }
 {
     match rx {
@@ -28,7 +26,7 @@ fn flow_due(rx: Rx) -> bool
     }
 }
 
-fn message_due(tx: Tx) -> bool
+pub fn message_due(tx: Tx) -> bool
     ensures { λ r. ⌜ r ≡ messageDue tx ⌝ }
 {
     match tx {
@@ -40,17 +38,6 @@ fn message_due(tx: Tx) -> bool
     }
 }
 
-pub fn due(berth: Berth) -> bool
-    ensures { λ r. ⌜ r ≡ due berth ⌝ }
-{
-    let rx = berth.rx;
-    let tx = berth.tx;
-    if flow_due(rx) {
-        return true;
-    }
-    message_due(tx)
-}
-
 fn flow_control(status: u8, block: u8, stmin: u8, frame: &mut [u8])
     requires { ⌜ (status < 16) × (length (now frame) ≡ frameSize) ⌝ }
     ensures { λ _. ⌜ now (frame .exit) ≡ headed flowKind status (block ∷ stmin ∷ []) ⌝ }
@@ -60,7 +47,7 @@ fn flow_control(status: u8, block: u8, stmin: u8, frame: &mut [u8])
 }
 
 // Flow control that is owed, into the frame.
-fn flow_frame(settings: Settings, rx: Rx, frame: &mut [u8])
+pub fn flow_frame(settings: Settings, rx: Rx, frame: &mut [u8])
     requires { ⌜ (flowDue rx ≡ true) × (length (now frame) ≡ frameSize) ⌝ }
     ensures { λ _. ⌜ now (frame .exit) ≡ flowFrame settings rx ⌝ }
 {
@@ -74,7 +61,7 @@ fn flow_frame(settings: Settings, rx: Rx, frame: &mut [u8])
     }
 }
 
-fn after_flow(rx: Rx) -> Rx
+pub fn after_flow(rx: Rx) -> Rx
     ensures { λ r. ⌜ r ≡ afterFlow rx ⌝ }
 {
     match rx {
@@ -124,7 +111,7 @@ fn consecutive_frame(o: Sending, area: &[u8], frame: &mut [u8])
 }
 
 // A message's frame that is due, into the frame.
-fn message_frame(settings: Settings, tx: Tx, area: &[u8], frame: &mut [u8])
+pub fn message_frame(settings: Settings, tx: Tx, area: &[u8], frame: &mut [u8])
     requires { ⌜ (messageDue tx ≡ true) × TxRange settings tx × (settings .area ≤ largestArea) × (leastArea ≤ settings .area) × (length (now area) ≡ settings .area) × (length (now frame) ≡ frameSize) ⌝ }
     ensures { λ _. ⌜ now (frame .exit) ≡ messageFrame tx (now (area .entry)) ⌝ }
 {
@@ -137,7 +124,7 @@ fn message_frame(settings: Settings, tx: Tx, area: &[u8], frame: &mut [u8])
     }
 }
 
-fn message_code(settings: Settings, tx: Tx) -> u8
+pub fn message_code(settings: Settings, tx: Tx) -> u8
     requires { ⌜ TxRange settings tx ⌝ }
     ensures { λ r. ⌜ r ≡ messageCode tx ⌝ }
 {
@@ -199,7 +186,7 @@ fn after_consecutive(settings: Settings, o: Sending) -> Tx
     Tx::Consecutive(q, 0)
 }
 
-fn after_message(settings: Settings, tx: Tx) -> Tx
+pub fn after_message(settings: Settings, tx: Tx) -> Tx
     requires { ⌜ TxRange settings tx ⌝ }
     ensures { λ r. ⌜ r ≡ afterMessage tx ⌝ }
 {
@@ -215,46 +202,14 @@ fn after_message(settings: Settings, tx: Tx) -> Tx
     }
 }
 
-// What a berth that has a frame due hands over; the frame stands in the part that was lent.
-pub struct Handed {
-    pub berth: Berth,
-    pub code: u8,
-}
-
-pub fn hand_over(settings: Settings, berth: Berth, area: &[u8], frame: &mut [u8]) -> Handed
-    requires { ⌜ (due berth ≡ true) × BerthRange settings berth × (leastArea ≤ settings .area) × (settings .area ≤ largestArea) × (length (now area) ≡ settings .area) × (length (now frame) ≡ frameSize) ⌝ }
-    ensures { λ r. ⌜ handedOf r (now (frame .exit)) ≡ handOver settings berth (now (area .entry)) ⌝ }
-{
-    let rx = berth.rx;
-    if flow_due(rx) {
-        flow_frame(settings, rx, frame);
-        return Handed {
-            berth: berth.with_rx(after_flow(rx), berth.last),
-            code: 0,
-        };
-    }
-    let tx = berth.tx;
-    message_frame(settings, tx, area, frame);
-    Handed {
-        berth: berth.with_tx(after_message(settings, tx)),
-        code: message_code(settings, tx),
-    }
-}
-
-fn begins_with(n: u32) -> Tx
+// How a message of n bytes begins to be sent.
+pub fn begins_with(n: u32) -> Tx
     ensures { λ r. ⌜ r ≡ beginsWith n ⌝ }
 {
     if n <= rules::SINGLE_MOST {
         return Tx::SingleDue(n, 0);
     }
     Tx::FirstDue(n, 0)
-}
-
-// A message of n bytes begins to be sent.
-pub fn sent(berth: Berth, n: u32) -> Berth
-    ensures { λ r. ⌜ r ≡ sent berth n ⌝ }
-{
-    berth.with_tx(begins_with(n))
 }
 
 // The length of the message now being sent, 0 for none.

@@ -1,3 +1,5 @@
-pub mod Lent
-pub mod Looks
-pub mod Determined
+-- Facts that the walks of this crate cite.
+pub mod Arms
+pub mod OneShow
+pub mod Ticking
+pub mod SetsUp

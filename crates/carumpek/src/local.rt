@@ -1,13 +1,18 @@
 // The same calls for a program whose node is a local: each lends it to the entry and gives it back beside the answer, so that
 // the program's own proof needs no walk.
 ghost use Rattle.node.specs.Promises.{SetUpPromise, FramePromise, TickPromise, SendPromise, TurnPromise, ShowPromise};
-use node::FrameOut;
-use node::SendOut;
-use node::SetUpOut;
-use node::TickOut;
-use node::TurnOut;
 use rules::Choice;
+use rules::FrameAnswer;
 use rules::Node;
+use rules::SendAnswer;
+use rules::SetUpAnswer;
+use rules::TickAnswer;
+use rules::TurnAnswer;
+
+pub struct SetUpOut {
+    pub answer: SetUpAnswer,
+    pub node: Node,
+}
 
 pub fn set_up(node: Node, area: u32, block: u32, stmin: u32) -> SetUpOut
     ensures { λ r. ⌜ SetUpPromise node area block stmin (r .answer) (r .node) ⌝ }
@@ -18,6 +23,11 @@ pub fn set_up(node: Node, area: u32, block: u32, stmin: u32) -> SetUpOut
         answer: answer,
         node: held,
     }
+}
+
+pub struct FrameOut {
+    pub answer: FrameAnswer,
+    pub node: Node,
 }
 
 pub fn frame(node: Node, incoming: &mut [u8], identifier: u32, payload: &[u8]) -> FrameOut
@@ -31,6 +41,11 @@ pub fn frame(node: Node, incoming: &mut [u8], identifier: u32, payload: &[u8]) -
     }
 }
 
+pub struct TickOut {
+    pub answer: TickAnswer,
+    pub node: Node,
+}
+
 pub fn tick(node: Node) -> TickOut
     ensures { λ r. ⌜ TickPromise node (r .answer) (r .node) ⌝ }
 {
@@ -42,6 +57,11 @@ pub fn tick(node: Node) -> TickOut
     }
 }
 
+pub struct SendOut {
+    pub answer: SendAnswer,
+    pub node: Node,
+}
+
 pub fn send(node: Node, outgoing: &mut [u8], berth: u32, message: &[u8]) -> SendOut
     ensures { λ r. ⌜ SendPromise node (now (outgoing .entry)) berth (now (message .entry)) (r .answer) (r .node) (now (outgoing .exit)) ⌝ }
 {
@@ -51,6 +71,11 @@ pub fn send(node: Node, outgoing: &mut [u8], berth: u32, message: &[u8]) -> Send
         answer: answer,
         node: held,
     }
+}
+
+pub struct TurnOut {
+    pub answer: TurnAnswer,
+    pub node: Node,
 }
 
 pub fn turn(node: Node, outgoing: &[u8], buffer: &mut [u8]) -> TurnOut

@@ -1,7 +1,6 @@
--- Facts that several proofs of this crate cite, and what the promises determine.
-pub mod Lists
-pub mod Distances
+-- Facts that several proofs, here, in `sides` or in `carumpek`, cite, and what the promises determine.
 pub mod Outcomes
+pub mod Numbered
 pub mod Shows
 pub mod Determined
 pub mod PoorNodes

@@ -1,3 +1,3 @@
--- What the calls promise, and what the search of a turn probes.
+-- What the calls promise, and what a call tests of its numbers.
 pub mod Promises
-pub mod Probes
+pub mod Numbered

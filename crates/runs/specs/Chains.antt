@@ -1,5 +1,4 @@
--- A run of the code: a chain of calls, the same node and the same two stores throughout. Of a call only its promise is known; it is
--- the same promise by value and on a lent node.
+-- A run of the code: a chain of calls, the same node and the same two stores throughout. Of a call only its promise is known.
 use Prim.Native.Nat.{ℕ, _<_}
 use mathlib.Core.Path.{_≡_}
 use mathlib.Core.List.{List, [], _∷_, _++_, map}

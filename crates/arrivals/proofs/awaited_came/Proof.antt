@@ -36,11 +36,12 @@ pieced-requires-2 c κs = search needs
 
 returns-2 : tie.Need-returns-2
 unfolding awaitedCame took
-returns-2 c = let d = now (c .before .before .before .before .before .before .before .before .before .args .frame) in
-    let r = c .before .before .before .before .before .before .before .missing .ensures in
-    let fits = sym (c .before .before .before .before .before .before .consecutive-fits .ensures) ∙ c .before .before .before .before .before .if1 .taken in
+returns-2 c = let t = c .before .before .before .before .before in
+    let d = now (t .before .before .before .before .args .frame) in
+    let r = t .before .before .missing .ensures in
+    let fits = sym (t .before .consecutive-fits .ensures) ∙ t .if1 .taken in
     simp (← r, fits, ← c .before .before .before .before .low .ensures .0, eq-eqb _ _ (c .before .before .before .if2 .taken), lt-leb _ _ (c .before .before .if3 .left), ← c .before .after-took .ensures)
-    (c .pieced2 .ensures d (rw r at (consecutive-within (c .before .before .before .before .before .before .before .missing .result) d fits)))
+    (c .pieced2 .ensures d (rw r at (consecutive-within (t .before .before .missing .result) d fits)))
 
 unstored-requires : tie.Need-unstored-requires
 unstored-requires c κs = search needs

@@ -1,7 +1,6 @@
--- By cases on the receive side; the tests are those of the rule's lists.
+-- By cases on the receive side; the two receptions under way are one arm.
+use mathlib.Core.Path.{_∙_}
 use mathlib.Core.Logic.{⊎-elim}
-use mathlib.Core.Bool.{and-assoc, and-true}
-use Rattle.rules.specs.Tests.{all}
 use borrow.Author.Needs.{needs}
 use Rattle.berth.proofs.ranges.rx_in_range.Statement.{statement}
 use Rattle.berth.proofs.ranges.rx_in_range.Tie as tie
@@ -11,6 +10,9 @@ enum-told c = search needs
 
 enum-known-rx : tie.Need-enum-known-rx
 enum-known-rx c = search needs
+
+overflow-in-range-requires : tie.Need-overflow-in-range-requires
+overflow-in-range-requires c κs = search needs
 
 enum-known-rx-2 : tie.Need-enum-known-rx-2
 enum-known-rx-2 c = search needs
@@ -22,17 +24,13 @@ taking-in-range-requires : tie.Need-taking-in-range-requires
 taking-in-range-requires c κs = search needs
 
 returns : tie.Need-returns
-unfolding all
 returns c = simp (c .before .enum-told .given .1)
 
 returns-2 : tie.Need-returns-2
-unfolding all
-returns-2 c = simp (c .before .before .rx .given .1, and-true)
+returns-2 c = c .overflow-in-range .ensures ∙ simp (c .before .before .rx .given .1)
 
 returns-3 : tie.Need-returns-3
-unfolding all
-returns-3 c = let test = c .taking-in-range .ensures in
-    ⊎-elim (λ w. simp (test, w .1 .given .1, w .3, w .4, and-assoc, and-true)) (λ w. simp (test, w .1 .given .1, w .3, w .4, and-assoc, and-true)) (c .before .match .came)
+returns-3 c = c .taking-in-range .ensures ∙ ⊎-elim (λ w. simp (w .1 .given .1, w .3, w .4)) (λ w. simp (w .1 .given .1, w .3, w .4)) (c .before .match .came)
 
 pub rx-in-range-spec : {M : Type 1} → statement M
 rx-in-range-spec =
@@ -40,6 +38,7 @@ rx-in-range-spec =
     (tie.spec
     enum-told
     enum-known-rx
+    overflow-in-range-requires
     enum-known-rx-2
     enum-known-rx-3
     taking-in-range-requires

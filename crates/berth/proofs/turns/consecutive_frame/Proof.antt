@@ -39,8 +39,9 @@ same-length c = search needs
 
 returns : tie.Need-returns
 unfolding consecutiveFrame
-returns c = let o = c .before .before .before .before .before .before .before .before .before .args .o in
-    let n : c .before .before .before .before .before .done-after .result - o .position ≡ share consecutiveMost (toGo o) = omega (arith, c .before .before .before .before .before .done-after .ensures .0) in
+returns c = let done = c .before .before .before .before .before in
+    let o = done .before .before .before .before .args .o in
+    let n : done .done-after .result - o .position ≡ share consecutiveMost (toGo o) = omega (arith, done .done-after .ensures .0) in
     rw (← n) (c .before .before .headed .ensures)
 
 pub consecutive-frame-spec : {M : Type 1} → statement M

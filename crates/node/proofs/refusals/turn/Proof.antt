@@ -1,25 +1,30 @@
 -- Refusals 1, 2 and 9 in their order.
 use borrow.Author.Tests.{le-leb, lt-leb}
 use borrow.Author.Needs.{needs}
-use Rattle.rules.specs.Refusals.{orderAndStore, refusal, needs as needsOf}
+use mathlib.Core.List.{List}
+use Rattle.rules.specs.Tests.{Need}
+use Rattle.node.specs.Numbered.{orderAndStoreNeeds, turnRefusal}
 use Rattle.node.proofs.Outcomes.{meets, unmet, all-met, stands, go-on}
 use Rattle.node.proofs.refusals.turn.Statement.{statement}
 use Rattle.node.proofs.refusals.turn.Tie as tie
+
+abbrev two : tie.Start → List Need
+two c = orderAndStoreNeeds (c .args .ordered) (c .args .area) (c .args .store)
 
 order-and-store-requires : tie.Need-order-and-store-requires
 order-and-store-requires c κs = search needs
 
 returns : tie.Need-returns
-unfolding refusal needsOf
-returns c = λ n order area incoming. stands (orderAndStore _ _) _ (c .if1 .taken) (c .before .order-and-store .ensures n order area)
+unfolding turnRefusal
+returns c = stands (two (c .before .before)) _ (c .if1 .taken) (c .before .order-and-store .ensures)
 
 returns-2 : tie.Need-returns-2
-unfolding refusal needsOf
-returns-2 c = λ n order area incoming. go-on (orderAndStore _ _) _ tt (c .before .if1 .left) (c .before .before .order-and-store .ensures n order area) (unmet _ _ (lt-leb _ _ (c .if2 .taken)))
+unfolding turnRefusal
+returns-2 c = go-on (two (c .before .before .before)) _ tt (c .before .if1 .left) (c .before .before .order-and-store .ensures) (unmet _ _ (lt-leb _ _ (c .if2 .taken)))
 
 returns-3 : tie.Need-returns-3
-unfolding refusal needsOf
-returns-3 c = λ n order area incoming. go-on (orderAndStore _ _) _ tt (c .before .if1 .left) (c .before .before .order-and-store .ensures n order area) (meets _ _ (le-leb _ _ (c .if2 .left)) all-met)
+unfolding turnRefusal
+returns-3 c = go-on (two (c .before .before .before)) _ tt (c .before .if1 .left) (c .before .before .order-and-store .ensures) (meets _ _ (le-leb _ _ (c .if2 .left)) all-met)
 
 pub turn-spec : {M : Type 1} → statement M
 turn-spec = tie.close (tie.spec order-and-store-requires returns returns-2 returns-3)

@@ -1,0 +1,5 @@
+-- Facts that the walks of this crate cite.
+pub mod Stored
+pub mod OneTick
+pub mod EachTick
+pub mod Clearing

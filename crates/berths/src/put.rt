@@ -1,0 +1,42 @@
+// One side of a berth stored back where it lies.
+ghost use mathlib.Core.Path.{_≡_};
+ghost use Prim.Native.Nat.{_<_};
+ghost use Rattle.rules.specs.Numbers.{berthCount};
+ghost use Rattle.rules.specs.Nodes.{berthAt, withRx, withTx, withBerth};
+ghost use Rattle.rules.specs.Stores.{servedNode};
+use rules::Node;
+use rules::Rx;
+use rules::Tx;
+
+// The receive side, with the last length.
+pub fn rx(node: &mut Node, at: usize, rx: Rx, last: u32)
+    requires { ⌜ at < berthCount ⌝ }
+    ensures { λ r. ⌜ now (node .exit) ≡ withBerth (now (node .entry)) at (withRx (berthAt (now (node .entry)) at) rx last) ⌝ }
+{
+    node.berths[at].rx = rx;
+    node.berths[at].last = last;
+}
+
+pub fn tx(node: &mut Node, at: usize, tx: Tx)
+    requires { ⌜ at < berthCount ⌝ }
+    ensures { λ r. ⌜ now (node .exit) ≡ withBerth (now (node .entry)) at (withTx (berthAt (now (node .entry)) at) tx) ⌝ }
+{
+    node.berths[at].tx = tx;
+}
+
+// A side of the berth that was served: it is the one served last now.
+pub fn served_rx(node: &mut Node, at: usize, rx: Rx)
+    requires { ⌜ at < berthCount ⌝ }
+    ensures { λ r. ⌜ now (node .exit) ≡ servedNode (now (node .entry)) at (withRx (berthAt (now (node .entry)) at) rx (berthAt (now (node .entry)) at .last)) ⌝ }
+{
+    node.served = at as u8;
+    node.berths[at].rx = rx;
+}
+
+pub fn served_tx(node: &mut Node, at: usize, tx: Tx)
+    requires { ⌜ at < berthCount ⌝ }
+    ensures { λ r. ⌜ now (node .exit) ≡ servedNode (now (node .entry)) at (withTx (berthAt (now (node .entry)) at) tx) ⌝ }
+{
+    node.served = at as u8;
+    node.berths[at].tx = tx;
+}

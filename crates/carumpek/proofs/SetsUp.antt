@@ -1,0 +1,34 @@
+-- Setting up: the settings, the berth served last and ten fresh berths are the node of the rule; settings that are not allowed change
+-- nothing.
+use mathlib.Core.Path.{_≡_, refl, sym, _∙_}
+use mathlib.Core.Bool.{Bool, true, not}
+use Prim.Native.Nat.{ℕ}
+use lib.ListN.{replicate}
+use lib.Dec.{T}
+use Rattle.rules.specs.Numbers.{berthCount, badSetting}
+use Rattle.rules.specs.Nodes.{fresh, withBerths}
+use Rattle.rules.specs.Ranges.{settingsAllowed}
+use Rattle.rules.specs.Refusals.{setUpRefusal}
+use Rattle.rules.specs.Answers.{setUpSays}
+use Rattle.rules.specs.Stores.{setUpNode}
+use Rattle.rules.specs.Calls.{setUpOutcome, refusedOutcome}
+use Rattle.rules.specs.declared.Settings.{Settings}
+use Rattle.rules.specs.declared.Node.{Node}
+use Rattle.rules.specs.declared.SetUpAnswer.{SetUpAnswer}
+use Rattle.node.specs.Promises.{SetUpPromise}
+use Rattle.node.proofs.Outcomes.{meets, unmet, all-met, agrees}
+use Rattle.rules.proofs.Cases.{is-true, is-false}
+use Rattle.looks.proofs.Puts.{put-served, put-settings}
+
+module _ (h : Node) (area block stmin : ℕ) {allowed : Bool} (said : allowed ≡ settingsAllowed area block stmin) where
+  pub may-set : T allowed → settingsAllowed area block stmin ≡ true
+  may-set t = sym said ∙ is-true allowed t
+
+  pub sets-up : T allowed → {s : Settings} {h′ : Node} → s ≡ record { area = area; block = block; stmin = stmin }
+      → h′ ≡ withBerths (put-served (put-settings h s) 9) (replicate berthCount fresh) → SetUpPromise h area block stmin SetUpAnswer.Ready h′
+  unfolding setUpOutcome setUpRefusal setUpSays setUpNode
+  sets-up t is e = λ incoming outgoing. rw (← meets _ _ (may-set t) all-met, e, is) (agrees refl)
+
+  pub refuses-settings : T (not allowed) → SetUpPromise h area block stmin (SetUpAnswer.Refused badSetting) h
+  unfolding setUpOutcome setUpRefusal setUpSays refusedOutcome
+  refuses-settings t = λ incoming outgoing. rw (← unmet _ _ (sym said ∙ is-false allowed t)) (agrees refl)

@@ -1,0 +1,14 @@
+-- What the walks of functions over a lent node share, here and in `carumpek`, and what they cite.
+pub mod Lent
+pub mod Item
+pub mod Rest
+pub mod Loops
+pub mod Ten
+pub mod Sides
+pub mod Ordered
+pub mod Distances
+pub mod Variants
+pub mod Puts
+pub mod Bodies
+pub mod Filled
+pub mod Codes

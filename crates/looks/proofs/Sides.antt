@@ -1,0 +1,65 @@
+-- A berth in memory is its three parts: each of them has its type where the berth has. What the two sides say of the berth together:
+-- the receive side is asked first, and decides where it fails the test of order or owes flow control.
+use mathlib.Core.Path.{_≡_, refl}
+use mathlib.Core.Bool.{Bool, true, false}
+use mathlib.Core.List.{[], _∷_}
+use mir.Syntax.{w32}
+use mir.Val.{Val, vint, vstruct, ofList}
+use denote.Laws.{Is}
+use denote.Builtin.{u32}
+use denote.Struct.Laws as SL
+use Rattle.rules.specs.Ranges.{rxInRange, txInRange, berthInOrder}
+use Rattle.rules.specs.Turns.{flowDue, messageDue, due}
+use Rattle.rules.specs.declared.Settings.{Settings}
+use Rattle.rules.specs.declared.Berth.{Berth}
+use Rattle.rules.proofs.Rx as R
+use Rattle.rules.proofs.Rx.Laws as R′
+use Rattle.rules.proofs.Tx as X
+use Rattle.rules.proofs.Tx.Laws as X′
+use Rattle.rules.proofs.Berth as B
+use Rattle.rules.proofs.Berth.Laws as B′
+use Rattle.berth.proofs.Chains.{more, stop, ends}
+use Rattle.looks.proofs.Lent.{Flat, enum}
+use Rattle.looks.proofs.Ten.{FB}
+
+abbrev pub FR : Flat
+FR = enum R.the-type R′.the-laws tt R′.the-plain
+
+abbrev pub FX : Flat
+FX = enum X.the-type X′.the-laws tt X′.the-plain
+
+-- ---- the parts of a berth
+
+abbrev pub parts : Berth → Val
+parts b = vstruct (ofList (FR .val (b .rx) ∷ vint w32 (b .last) ∷ FX .val (b .tx) ∷ []))
+
+pub see-parts : (b : Berth) → FB .val b ≡ parts b
+see-parts b = refl
+
+module _ (b : Berth) (is : Is B.the-row b (FB .val b ∷ [])) where
+  pub rx-of : Is R.the-row (b .rx) (FR .val (b .rx) ∷ [])
+  rx-of = SL.owed B.the-type B′.the-laws b _ is .0
+
+  pub last-of : Is u32 (b .last) (vint w32 (b .last) ∷ [])
+  last-of = SL.owed B.the-type B′.the-laws b _ is .1 .0
+
+  pub tx-of : Is X.the-row (b .tx) (FX .val (b .tx) ∷ [])
+  tx-of = SL.owed B.the-type B′.the-laws b _ is .1 .1 .0
+
+-- ---- one side, and then the other
+
+pub side-fails : (s : Settings) (b : Berth) → rxInRange s (b .last) (b .rx) ≡ false → false ≡ berthInOrder s b
+unfolding berthInOrder
+side-fails s b e = stop _ e
+
+pub side-passes : {r : Bool} (s : Settings) (b : Berth) → rxInRange s (b .last) (b .rx) ≡ true → r ≡ txInRange s (b .tx) → r ≡ berthInOrder s b
+unfolding berthInOrder
+side-passes s b e h = more _ e (ends h)
+
+pub flow-first : (b : Berth) → flowDue (b .rx) ≡ true → true ≡ due b
+unfolding due
+flow-first b e = rw e
+
+pub then-message : {r : Bool} (b : Berth) → flowDue (b .rx) ≡ false → r ≡ messageDue (b .tx) → r ≡ due b
+unfolding due
+then-message b e h = rw e h

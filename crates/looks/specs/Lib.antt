@@ -1,0 +1,3 @@
+-- What the calls look at behind `&Node`.
+pub mod Order
+pub mod Probes

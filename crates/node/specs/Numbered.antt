@@ -1,0 +1,51 @@
+-- What a call tests, over plain numbers: whether the node is in order, the area, lengths and numbers given. At a node these are the
+-- refusals of paper 01 (proofs/Numbered), so that a call need not hand the node on.
+use Prim.Native.Nat.{ℕ, _+_, _-_, _*_}
+use mathlib.Core.Bool.{Bool, not, _&&_}
+use mathlib.Core.List.{List, [], _∷_, _++_}
+use lib.Dec.{ltb, leb, eqb}
+use Rattle.rules.specs.Tests.{pick, Need, need, firstUnmet}
+use Rattle.rules.specs.Numbers.{berthCount, fromBerth, mostData, leastBuffer, outOfOrder, wrongStore, wrongIdentifier, tooManyBytes, noSuchBerth, emptyMessage, messageTooLong, alreadySending, shortBuffer}
+use Rattle.rules.specs.Turns.{busy}
+use Rattle.rules.specs.declared.Tx.{Tx}
+
+-- ---- refusals: of a store and a message only the lengths count
+
+-- a store is exactly 10 x A bytes
+abbrev pub isStore : ℕ → ℕ → Bool
+isStore area store = eqb store (berthCount * area)
+
+abbrev pub orderAndStoreNeeds : Bool → ℕ → ℕ → List Need
+orderAndStoreNeeds ordered area store = need outOfOrder ordered ∷ need wrongStore (isStore area store) ∷ []
+
+-- refusals 1 to 4 of a frame; refusal 11 comes after them
+unfoldable pub frameRefusal : Bool → (area store id size : ℕ) → ℕ
+frameRefusal ordered area store id size =
+    firstUnmet
+    (orderAndStoreNeeds ordered area store
+    ++ (need wrongIdentifier (leb fromBerth id && ltb id (fromBerth + berthCount)) ∷ need tooManyBytes (leb size mostData) ∷ []))
+
+unfoldable pub sendRefusal : Bool → ℕ → Tx → (store k length : ℕ) → ℕ
+sendRefusal ordered area tx store k length =
+    firstUnmet
+    (orderAndStoreNeeds ordered area store
+    ++ (need noSuchBerth (ltb k berthCount)
+    ∷ need emptyMessage (ltb 0 length)
+    ∷ need messageTooLong (leb length area)
+    ∷ need alreadySending (not (busy tx))
+    ∷ []))
+
+unfoldable pub turnRefusal : Bool → (area store room : ℕ) → ℕ
+turnRefusal ordered area store room =
+    firstUnmet (orderAndStoreNeeds ordered area store ++ (need shortBuffer (leb leastBuffer room) ∷ []))
+
+unfoldable pub canShow : Bool → (area incoming outgoing k : ℕ) → Bool
+canShow ordered area incoming outgoing k = ordered && (isStore area incoming && (isStore area outgoing && ltb k berthCount))
+
+-- ---- places: berth k stands at place k; one above 9 is refused, so any place will do for it
+
+unfoldable pub placeOf : ℕ → ℕ
+placeOf k = pick (ltb k berthCount) k 0
+
+unfoldable pub placeOfSender : ℕ → ℕ
+placeOfSender id = pick (ltb id fromBerth) 0 (placeOf (id - fromBerth))

@@ -1,0 +1,66 @@
+-- A part of a call is handed a side of one berth, the settings, the berth's place, and what the call was lent. Each record says of
+-- which node these are, and that the call's tests found nothing to refuse: the part's promise holds of every such node.
+use Prim.Native.Nat.{ℕ, _<_}
+use mathlib.Core.Path.{_≡_}
+use mathlib.Core.Bool.{Bool, true, false}
+use mathlib.Core.List.{List}
+use lib.ListN.{length}
+use Rattle.rules.specs.Numbers.{berthCount}
+use Rattle.rules.specs.Tests.{firstUnmet}
+use Rattle.rules.specs.Nodes.{berthAt}
+use Rattle.rules.specs.Ranges.{inOrder}
+use Rattle.rules.specs.Stores.{passedOver, reached}
+use Rattle.rules.specs.Events.{send, turn, senderOf}
+use Rattle.rules.specs.Refusals.{toHear, refusal}
+use Rattle.node.specs.Promises.{lent}
+use Rattle.arrivals.specs.Reading.{isFlow}
+use Rattle.rules.specs.declared.Settings.{Settings}
+use Rattle.rules.specs.declared.Rx.{Rx}
+use Rattle.rules.specs.declared.Tx.{Tx}
+use Rattle.rules.specs.declared.Node.{Node}
+
+-- ---- a frame on an identifier: no refusal below 11 holds it back, and the place is its sender's
+
+pub record Arriving (n : Node) (id at : ℕ) (incoming d : List ℕ) : Type 0 where
+  pub may : firstUnmet (toHear n incoming id d) ≡ 0
+  pub place : at ≡ senderOf id
+
+-- flow control, and the send side
+pub record Telling (n : Node) (id at : ℕ) (tx : Tx) (incoming d : List ℕ) : Type 0 where
+  pub arriving : Arriving n id at incoming d
+  pub side : tx ≡ berthAt n at .tx
+  pub kind : isFlow d ≡ true
+
+-- any other kind with data, and the receive side with the last length
+pub record Hearing (n : Node) (id : ℕ) (s : Settings) (at : ℕ) (rx : Rx) (last : ℕ) (incoming d : List ℕ) : Type 0 where
+  pub arriving : Arriving n id at incoming d
+  pub settings : s ≡ n .settings
+  pub some : 0 < length d
+  pub side : rx ≡ berthAt n at .rx
+  pub length : last ≡ berthAt n at .last
+  pub kind : isFlow d ≡ false
+
+-- ---- a send that is not refused
+
+pub record Sends (n : Node) (area at : ℕ) (outgoing m : List ℕ) : Type 0 where
+  pub may : (incoming : List ℕ) → refusal (lent n incoming outgoing) (send at m) ≡ 0
+  pub size : area ≡ n .settings .area
+
+-- ---- a turn that is not refused, at the berth that is passed to
+
+pub record Turning (n : Node) (s : Settings) (at passed : ℕ) (outgoing buffer : List ℕ) : Type 0 where
+  pub may : (incoming : List ℕ) → refusal (lent n incoming outgoing) (turn buffer) ≡ 0
+  pub settings : s ≡ n .settings
+  pub counted : passed ≡ passedOver n
+  pub some : passed < berthCount
+  pub place : at ≡ reached n
+
+-- ---- a show: of any node, any berth
+
+pub record Showing (n : Node) (ordered : Bool) (area at last : ℕ) (tx : Tx) (k : ℕ) : Type 0 where
+  pub order : ordered ≡ inOrder n
+  pub size : area ≡ n .settings .area
+  pub within : at < berthCount
+  pub place : k < berthCount → at ≡ k
+  pub length : last ≡ berthAt n at .last
+  pub side : tx ≡ berthAt n at .tx

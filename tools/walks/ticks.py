@@ -1,0 +1,136 @@
+"""The plans of the tick's walks (crates/berths/src/ticks.rt)."""
+from loops import BELOW, CODES_USES, NEXT, Loop, USES as LOOP_USES
+from steps import Callee
+
+BERTH = '(getD (h .berths) k fresh)'
+TICK_USES = '''use Rattle.rules.specs.Ticks.{closer, txTicked}
+use Rattle.rules.specs.declared.Sending.{Sending}
+use Rattle.looks.proofs.Variants.{see-rx, rx-seen, rx-as, as-rx-Idle, as-rx-OwesOverflow, as-rx-OwesGo, as-rx-Awaits, see-tx, tx-seen, tx-as, as-tx-Idle, as-tx-SingleDue, as-tx-FirstDue, as-tx-AwaitsFlow, as-tx-Consecutive}
+use Rattle.berths.specs.Ticks.{ReceiveTicked, SendTicked}
+use Rattle.berths.proofs.OneTick.{received, receives-nothing, sends, sends-nothing, gap-code, gap-falls, gap-over, some-left, runs-on, runs-out, next-fits, both}
+'''
+EACH_USES = '''use mathlib.Core.List.{map}
+use Rattle.rules.specs.Ticks.{codesOf, ticked}
+use Rattle.rules.specs.Nodes.{withBerths, withBerth}
+use Rattle.berth.specs.Idle.{idle}
+use Rattle.node.specs.Promises.{tenZeros}
+use Rattle.berths.proofs.EachTick.{tickedTo, codesTo, starts-node, starts-answer, steps-node, steps-answer, ends-node, ends-answer}
+'''
+
+
+def found(kind, variant, count):
+    """The fields of a side whose tag is known, the last of them its timer, and that the side is so."""
+    f = f'(as-{kind.lower()}-{variant} ({BERTH} .{kind.lower()}) tag)'
+    return [f'({f}{" .1" * j} .0)' for j in range(count)], f'({f}{" .1" * count})'
+
+
+LAW = {'Rx': ('ReceiveTicked', 'received', 'receives-nothing'), 'Tx': ('SendTicked', 'sends', 'sends-nothing')}
+
+
+def side_is(kind):
+    return f'(ap (λ (y : Berth). y .{kind.lower()}) (sym (at-is h k)) ∙ within .1)'
+
+
+def state(fn, kind, variant, fields):
+    """One state of a side as a callee: the side of berth k is in it."""
+    def asks(ps):
+        return f'({ps[0]} < berthCount) × (berthAt h {ps[0]} .{kind.lower()} ≡ {kind}.{variant} {" ".join(ps[1:])})'
+    return Callee('berths', f'ticks::{fn}', 'mut', ['usize'] + fields, 'u8', lambda r, z, zs, h, vs: f'{LAW[kind][0]} {h} {vs[0]} {r} {z}', asks=asks)
+
+
+def timed(kind, variant, before, code):
+    """A state whose timer runs: it goes on, or the side ends with a code."""
+    on = f'(λ u. {kind}.{variant} {before} u)'
+
+    def proof(how, test):
+        return f'{LAW[kind][1]} h k {side_is(kind)} ({how} t (λ u. 0) {code} {test}) ({how} t {on} {kind}.Idle {test})'
+    return [('if', ('less', 'over'), [('fits', 'next-fits t less'), ('make', kind, variant), ('return', proof('runs-on', 'less'))], None),
+            ('make', kind, 'Idle'), ('return', proof('runs-out', 'over'))]
+
+
+CLOSER = Callee('berths', 'ticks::closer', None, ['Sending'], 'Sending', lambda r, z, zs, h, vs: f'{r} ≡ closer {vs[0]}', asks=lambda ps: f'0 < {ps[0]} .left')
+
+
+def consecutive():
+    same = side_is('Tx')
+    falls = '(subst (λ (y : Sending). txTicked (Tx.Consecutive o· t) ≡ Tx.Consecutive y t) (sym qe) (gap-falls o· t waits))'
+    gap = ('if', ('waits', 'free'), [('call', CLOSER, 'q·', 'qe', 'q-is', '(some-left (o· .left) waits)', None), ('make', 'Tx', 'Consecutive'),
+                                    ('return', f'sends h k {same} (gap-code o· t waits) {falls}')], None)
+
+    def proof(how, test):
+        over = f'(gap-over o· t free ({how} t (λ u. 0) 2 {test}) ({how} t (λ u. Tx.Consecutive o· u) Tx.Idle {test}))'
+        return f'sends h k {same} ({over} .0) ({over} .1)'
+    return [gap, ('if', ('less', 'over'), [('fits', 'next-fits t less'), ('make', 'Tx', 'Consecutive'), ('return', proof('runs-on', 'less'))], None),
+            ('make', 'Tx', 'Idle'), ('return', proof('runs-out', 'over'))]
+
+
+# function, variant, the fields before the timer with their kinds, the code
+STATES = {
+    'Rx': [('owes_overflow', 'OwesOverflow', [], 2), ('owes_go', 'OwesGo', [('p·', 'Taking')], 2), ('awaits', 'Awaits', [('p·', 'Taking')], 4)],
+    'Tx': [('single_due', 'SingleDue', [('n·', 'u32')], 2), ('first_due', 'FirstDue', [('n·', 'u32')], 2), ('awaits_flow', 'AwaitsFlow', [('o·', 'Sending')], 3),
+           ('consecutive', 'Consecutive', [('o·', 'Sending')], 2)],
+}
+
+
+def callees(kind):
+    return [state(fn, kind, variant, [k for _, k in fields] + ['u16']) for fn, variant, fields, _ in STATES[kind]]
+
+
+def side(kind, states):
+    """The match on a side: nothing where it is idle, else the function of its state."""
+    arms = [[('return', f'{LAW[kind][2]} h k {found(kind, "Idle", 0)[1]}')]]
+    for (_, variant, fields, _), c in zip(STATES[kind], states):
+        there = f'(within, ap (λ (y : Berth). y .{kind.lower()}) (at-is h k) ∙ {found(kind, variant, len(fields) + 1)[1]})'
+        arms.append([('call', c, 'r·', 'e·', 'r-is', there, None), ('return', 'e·')])
+    return arms
+
+
+RECEIVE = Callee('berths', 'ticks::receive', 'mut', ['usize'], 'u8', lambda r, z, zs, h, vs: f'ReceiveTicked {h} {vs[0]} {r} {z}', asks=lambda ps: f'{ps[0]} < berthCount')
+SEND = Callee('berths', 'ticks::send', 'mut', ['usize'], 'u8', lambda r, z, zs, h, vs: f'SendTicked {h} {vs[0]} {r} {z}', asks=lambda ps: f'{ps[0]} < berthCount')
+CODES = Callee('berths', 'ticks::codes', None, ['u8', 'u8'], 'Codes', lambda r, z, zs, h, vs: f'{r} ≡ record {{ receive = {vs[0]}; send = {vs[1]} }}')
+
+
+def at():
+    done = '(both h (zs1 .0) (zs2 .0) k r₁ r₂ (subst (λ m. k < m) (sym (ten-length h was)) within) e₁ e₂)'
+    return [('call', RECEIVE, 'r₁', 'e₁', 'r₁-is', 'within', None), ('call', SEND, 'r₂', 'e₂', 'r₂-is', 'within', None),
+            ('call', CODES, 'r', 'e', 'is', None, None), ('return', f'(e ∙ {done} .0, {done} .1)')]
+
+
+AT = Callee('berths', 'ticks::at', 'mut', ['usize'], 'Codes',
+            lambda r, z, zs, h, vs: f'({r} ≡ codesOf (berthAt {h} {vs[0]})) × ({z} ≡ withBerth {h} {vs[0]} (ticked (berthAt {h} {vs[0]})))', asks=lambda ps: f'{ps[0]} < berthCount')
+QUIET = Callee('berths', 'ticks::quiet', None, ['u8'], 'TickAnswer', lambda r, z, zs, h, vs: f'{r} ≡ record {{ refused = {vs[0]}; codes = tenZeros }}')
+RESTS = lambda h, n: f'({n} ≤ berthCount) × ((k : ℕ) → k < {n} → idle (berthAt {h} k) ≡ true)'
+EACH = Callee('berths', 'ticks::each', 'mut', ['usize'], 'TickAnswer',
+              lambda r, z, zs, h, vs: f'({r} ≡ record {{ refused = 0; codes = map codesOf ({h} .berths) }}) × ({z} ≡ withBerths {h} (map ticked ({h} .berths)))', asks=lambda ps: RESTS('h', ps[0]))
+
+
+def each():
+    ten, args = '(ten-length h was)', 'h (ten-length h was) start (within .0) (within .1)'
+    turn = [('source', 'while i < 10 {'), ('source', 'answer.codes[i] = at(&mut *node, i);'), ('call', AT, 'c·', 'e·', 'c-is', BELOW, None), ('later', 4, 'i += 1;'), NEXT]
+    loop = Loop('_4', lambda i: f'tickedTo h {i}', {'_3': ('TickAnswer', lambda i: f'codesTo h {i}')}, ('start', 'within .0'),
+                (f'starts-node {args}', f'q-says ∙ starts-answer {args}'), turn,
+                (f'e· .1 ∙ steps-node h {ten} (i .0) {BELOW}', f'steps-answer h {ten} (i .0) {BELOW} (e· .0)'))
+    return [('source', 'let mut answer = quiet(0);'), ('call', QUIET, 'q·', 'q-says', 'q-is', None, None), ('later', 1, 'let mut i = from;'), ('loop', loop),
+            ('source', 'answer'), ('return', f'(ends-answer h {ten} (i .0) over, ends-node h {ten} (i .0) over)')]
+
+
+def walks(walk):
+    """Every walk of the tick; `walk` makes one of a path, its parameters, result, `ensures`, plan and the rest."""
+    k = [('k', 'usize')]
+    for kind, name in (('Rx', 'receive'), ('Tx', 'send')):
+        said = LAW[kind][0] + ' h k r h′'
+        for fn, variant, fields, code in STATES[kind]:
+            params = k + fields + [('t', 'u16')]
+            plan = consecutive() if fn == 'consecutive' else timed(kind, variant, ' '.join(p for p, _ in fields), code)
+            asks = f'(k < berthCount) × (berthAt h k .{kind.lower()} ≡ {kind}.{variant} {" ".join(p for p, _ in params[1:])})'
+            yield walk(f'ticks::{fn}', params, 'u8', said, plan, callees=[CLOSER] if fn == 'consecutive' else [], requires=asks, uses=TICK_USES,
+                       inside={'_2': '(within .0)'}, doc='The timer runs on, or the side ends.')
+        states = callees(kind)
+        yield walk(f'ticks::{name}', k, 'u8', said, side(kind, states), callees=states, requires='k < berthCount', uses=TICK_USES,
+                   inside={'_2': 'within'}, doc='A match behind the reference, and the function of the state.')
+    yield walk('ticks::at', k, 'Codes', '(r ≡ codesOf (berthAt h k)) × (h′ ≡ withBerth h k (ticked (berthAt h k)))', at(), callees=[RECEIVE, SEND, CODES],
+               requires='k < berthCount', uses=TICK_USES + 'use Rattle.rules.specs.Ticks.{codesOf, ticked}\nuse Rattle.rules.specs.Nodes.{withBerth}\n',
+               doc='One side, then the other.')
+    yield walk('ticks::each', [('start', 'usize')], 'TickAnswer', '(r ≡ record { refused = 0; codes = map codesOf (h .berths) }) × (h′ ≡ withBerths h (map ticked (h .berths)))', each(),
+               callees=[QUIET, AT], requires=RESTS('h', 'start'), uses=LOOP_USES + CODES_USES + EACH_USES,
+               doc='A loop: in each turn the node is lent on for one berth, whose codes are stored into the answer.')
