@@ -28,10 +28,29 @@ static uint8_t incoming_store[BERTHS * AREA_MAX];
 static uint8_t outgoing_store[BERTHS * AREA_MAX];
 static uint8_t message_bytes[AREA_MAX];
 static uint8_t buffer_bytes[FRAME_BYTES];
+static struct card ten_cards[BERTHS];
 
 static int of_node(const struct node *node)
 {
     return node->served + node->rx[BERTHS - 1].last;
+}
+
+/* A card's counts in their order, each worth twice the next. */
+static uint64_t of_card(const struct card *card)
+{
+    uint64_t all = 0;
+    for (int kind = 0; kind < COUNT_KINDS; kind++)
+        all = 2 * all + card->counts[kind];
+    return all;
+}
+
+/* The lent cards after a call, each worth three times the next. */
+static uint64_t of_cards(void)
+{
+    uint64_t all = 0;
+    for (int berth = 0; berth < BERTHS; berth++)
+        all = 3 * all + of_card(&ten_cards[berth]);
+    return all;
 }
 
 static int of_frame(struct frame_answer a)
@@ -115,11 +134,12 @@ static void lend(struct load *l)
 /* A send answers its refusal, else the berth, which is 0. */
 static int made(const struct load *l, struct node *node)
 {
+    struct cards cards = { ten_cards, BERTHS };
     switch (l->call) {
-    case FRAME: return of_frame(frame_came(node, l->incoming, l->number, l->payload, l->came));
-    case TICK: return of_tick(tick(node));
+    case FRAME: return of_frame(frame_came(node, l->incoming, cards, l->number, l->payload, l->came));
+    case TICK: return of_tick(tick(node, cards));
     case SEND: return send_message(node, l->outgoing, l->number, l->message);
-    case TURN: return of_turn(call_for_frame(node, l->outgoing, l->buffer));
+    case TURN: return of_turn(call_for_frame(node, l->outgoing, cards, l->buffer));
     case SHOW: return (int)show_message(node, l->incoming, l->outgoing, l->number, SHOW_SENDING).length;
     default: return set_up(node, (uint32_t)l->area, 8, (uint32_t)l->number);
     }
@@ -140,6 +160,6 @@ int main(int argc, char **argv)
     lend(&load);
     build_node(&load, &node);
     int answer = made(&load, &node);
-    printf("%016x", (unsigned)(answer + of_node(&node)));
+    printf("%016" PRIx64, (uint64_t)(answer + of_node(&node)) + of_cards());
     return 0;
 }

@@ -3,20 +3,24 @@
  */
 #include <string.h>
 
+#include "cards.h"
 #include "coverage.h"
 #include "outcomes.h"
 
-enum programs { BOTH, ONLY_SCENES };
-enum side { OF_NODE, OF_RECEIVE, OF_SEND };
+enum programs { BOTH, ONLY_SCENES, ONLY_EXERCISER };
+enum side { OF_NODE, OF_RECEIVE, OF_SEND, OF_CARD };
 enum { STATES_MAX = 6 };
 
 #define X_FAULT(id, programs, side, states, sentence) id,
+#define X_COUNT(id, programs, side, states, sentence) id,
 #define AS_ID(id, programs, side, states, sentence) id,
 enum outcome {
     NODE_OUTCOMES(AS_ID) FAULTS(AS_OUTCOME_OF_FAULT) RECEIVE_OUTCOMES(AS_ID) SEND_OUTCOMES(AS_ID)
+    COUNTS(AS_OUTCOME_OF_COUNT)
     OUTCOME_COUNT
 };
 #undef X_FAULT
+#undef X_COUNT
 
 static const struct row {
     enum programs programs;
@@ -25,8 +29,10 @@ static const struct row {
     const char *sentence;
 } rows[] = {
 #define X_FAULT(id, programs, side, states, sentence) { programs, side, states, sentence },
+#define X_COUNT(id, programs, side, states, sentence) { programs, side, states, sentence },
 #define AS_ROW(id, programs, side, states, sentence) { programs, side, states, sentence },
     NODE_OUTCOMES(AS_ROW) FAULTS(AS_OUTCOME_OF_FAULT) RECEIVE_OUTCOMES(AS_ROW) SEND_OUTCOMES(AS_ROW)
+    COUNTS(AS_OUTCOME_OF_COUNT)
 };
 
 static const struct {
@@ -37,6 +43,7 @@ static const struct {
     [OF_NODE] = { "node", "-", { "seen" } },
     [OF_RECEIVE] = { "receive side", "ioga", { "idle", "overflow", "go", "awaits" } },
     [OF_SEND] = { "send side", "isfwcp", { "idle", "single", "first", "flow", "consec", "in gap" } },
+    [OF_CARD] = { "cards", "rtk", { "raised", "to top", "kept" } },
 };
 
 static long counts[OUTCOME_COUNT][STATES_MAX];
@@ -64,8 +71,15 @@ static void cover_order(const struct node *before)
         count(fault_area_small + (fault - area_small));
 }
 
-static void cover_frame_refusal(const struct node *before, int identifier, int refusal)
+/* The outcome for too few cards; the one for too many stands behind it. */
+static void count_not_ten(enum outcome few, const struct world *world)
 {
+    count(few + (world->cards_lent > BERTHS));
+}
+
+static void cover_frame_refusal(const struct world *world, int identifier, int refusal)
+{
+    const struct node *before = &world->node;
     switch (refusal) {
     case 1:
         count(frame_refused_1);
@@ -76,6 +90,9 @@ static void cover_frame_refusal(const struct node *before, int identifier, int r
         break;
     case 3:
         count(frame_refused_3);
+        break;
+    case 12:
+        count_not_ten(frame_refused_12_few, world);
         break;
     default:
         count_receive(frame_refused_4, &before->rx[identifier - FROM_BERTH_0]);
@@ -163,13 +180,24 @@ static void cover_flow_control(const struct node *before, const struct call *cal
     }
 }
 
-static void cover_frame(const struct node *before, const struct call *call, const struct frame_answer *answer)
+/* What an event of a berth did to the counts that it adds to, by the card before it. */
+static void cover_additions(const struct world *before, int berth, struct additions adds)
 {
+    const struct card *card = &before->cards[berth];
+    for (int i = 0; i < COUNT_KINDS; i++)
+        if (adds.counts[i])
+            counts[card_begun + i][frozen(card) ? 2 : card->counts[i] == COUNT_TOP - 1]++;
+}
+
+static void cover_frame(const struct world *world, const struct call *call, const struct frame_answer *answer)
+{
+    const struct node *before = &world->node;
     const struct receive_side *rx = &before->rx[answer->berth];
     if (answer->refusal != 0) {
-        cover_frame_refusal(before, call->identifier, answer->refusal);
+        cover_frame_refusal(world, call->identifier, answer->refusal);
         return;
     }
+    cover_additions(world, answer->berth, frame_adds(rx->state, call->data, answer));
     if (call->length == 0) {
         count_receive(ignored_1, rx);
         return;
@@ -193,8 +221,13 @@ static void cover_frame(const struct node *before, const struct call *call, cons
     }
 }
 
-static void cover_tick(const struct node *before, const struct tick_answer *answer)
+static void cover_tick(const struct world *world, const struct tick_answer *answer)
 {
+    const struct node *before = &world->node;
+    if (answer->refusal == 12) {
+        count_not_ten(tick_refused_12_few, world);
+        return;
+    }
     if (answer->refusal != 0) {
         count(tick_refused_1);
         cover_order(before);
@@ -205,6 +238,7 @@ static void cover_tick(const struct node *before, const struct tick_answer *answ
         count_receive(receive == 0 ? receive_tick : receive == N_TIMEOUT_A ? receive_tick_2 : receive_tick_4,
                       &before->rx[k]);
         count_send(send == 0 ? send_tick : send == N_TIMEOUT_A ? send_tick_2 : send_tick_3, &before->tx[k]);
+        cover_additions(world, k, tick_adds(before->rx[k].state, receive, send));
     }
 }
 
@@ -266,13 +300,20 @@ static void cover_hand_over(const struct node *before, const struct turn_answer 
         count_receive(turn_flow_at_999, rx);
 }
 
-static void cover_turn(const struct node *before, const struct turn_answer *answer)
+static void cover_turn(const struct world *world, const struct answer *all)
 {
+    const struct node *before = &world->node;
+    const struct turn_answer *answer = &all->turn;
     switch (answer->refusal) {
     case 0:
         count((enum outcome)(passed_0 + answer->passed_over));
-        if (!answer->none)
-            cover_hand_over(before, answer);
+        if (answer->none)
+            break;
+        cover_hand_over(before, answer);
+        cover_additions(world, answer->identifier - TO_BERTH_0, turn_adds(all->buffer, answer->code));
+        break;
+    case 12:
+        count_not_ten(turn_refused_12_few, world);
         break;
     case 1:
         count(turn_refused_1);
@@ -324,9 +365,32 @@ static void cover_needs(uint64_t length)
         count(length <= AREA_MAX ? needs_more : needs_none);
 }
 
-void cover(const struct node *before, const struct world *world, const struct call *call,
+static void cover_card(const struct world *world, const struct call *call)
+{
+    count(frozen(&world->cards[call->berth]) ? card_shown_frozen : card_shown);
+    if (call->berth >= world->cards_lent)
+        count(card_shown_unlent);
+}
+
+/* The calls that take no cards must be seen beside a list that is not ten long. */
+static void cover_calls_without_cards(const struct world *world, const struct call *call,
+                                      const struct answer *answer)
+{
+    if (world->cards_lent == BERTHS || answer->refusal != 0)
+        return;
+    if (call->kind == SEND)
+        count(sent_without_cards);
+    else if (call->kind == SHOW && answer->part.length > 0)
+        count(shown_without_cards);
+    else if (call->kind == SET_UP)
+        count(set_up_without_cards);
+}
+
+void cover(const struct world *before, const struct world *world, const struct call *call,
            const struct answer *answer)
 {
+    const struct node *node = &before->node;
+    cover_calls_without_cards(before, call, answer);
     switch (call->kind) {
     case BAD:
         count(record_bad);
@@ -338,20 +402,27 @@ void cover(const struct node *before, const struct world *world, const struct ca
         cover_tick(before, &answer->tick);
         break;
     case SEND:
-        cover_send(before, call->berth, answer->refusal);
+        cover_send(node, call->berth, answer->refusal);
         break;
     case TURN:
-        cover_turn(before, &answer->turn);
+        cover_turn(before, answer);
         break;
     case HEADER:
     case SET_UP:
-        cover_set_up(before, answer->refusal);
+        cover_set_up(node, answer->refusal);
         break;
     case SHOW:
         cover_show(world, call, answer->part.length);
         break;
     case NEEDS:
         cover_needs(call->asked);
+        break;
+    case CARD:
+        cover_card(world, call);
+        break;
+    case LOAD_COUNT:
+        if (call->berth >= world->cards_lent)
+            count(count_loaded_unlent);
         break;
     default:
         break;
@@ -363,11 +434,24 @@ void cover_short(void)
     count(record_short);
 }
 
-static const char *standing(const struct row *row, char letter, enum program program)
+void cover_cards(void)
 {
-    if (strchr(row->wanted, letter) == NULL)
+    count(cards_printed);
+}
+
+/* In the exerciser every card starts at zero, so that none comes near the top. */
+static bool elsewhere(const struct row *row, int state, enum program program)
+{
+    if (program == SCENES)
+        return row->programs == ONLY_EXERCISER;
+    return row->programs == ONLY_SCENES || (row->side == OF_CARD && state > 0);
+}
+
+static const char *standing(const struct row *row, int state, enum program program)
+{
+    if (strchr(row->wanted, sides[row->side].letters[state]) == NULL)
         return "impossible";
-    return row->programs == ONLY_SCENES && program == EXERCISER ? "elsewhere" : "wanted";
+    return elsewhere(row, state, program) ? "elsewhere" : "wanted";
 }
 
 void write_coverage(FILE *file, enum program program)
@@ -376,7 +460,7 @@ void write_coverage(FILE *file, enum program program)
         const struct row *row = &rows[i];
         const char *letters = sides[row->side].letters;
         for (int state = 0; letters[state] != 0; state++)
-            fprintf(file, "%ld\t%s\t%s\t%s\t%s\n", counts[i][state], standing(row, letters[state], program),
+            fprintf(file, "%ld\t%s\t%s\t%s\t%s\n", counts[i][state], standing(row, state, program),
                     sides[row->side].name, row->sentence, sides[row->side].states[state]);
     }
 }

@@ -8,8 +8,8 @@
  */
 #include <string.h>
 
+#include "cards.h"
 #include "mutants.h"
-#include "node.h"
 
 enum kind { SINGLE, FIRST, CONSECUTIVE_FRAME, FLOW_CONTROL };
 
@@ -230,15 +230,37 @@ static struct frame_answer flow_control_came(struct arrival *a)
     return flow_control_obeyed(a);
 }
 
-static int frame_refusal(const struct node *node, struct bytes incoming, int identifier, int length)
+static bool known(int identifier)
 {
+    return identifier >= FROM_BERTH_0 && identifier < FROM_BERTH_0 + BERTHS;
+}
+
+/* Whether the list will do: ten cards, but for the mutants that ask for less. */
+static bool cards_lent(struct cards cards, int identifier, int length)
+{
+    if (mistake(W1g5) && known(identifier))
+        return cards.length > (size_t)(identifier - FROM_BERTH_0);
+    return has_ten_cards(cards) || mistake(W1g1) || (mistake(W1g7) && !known(identifier))
+        || (mistake(W1g8) && length > FRAME_BYTES) || (mistake(W1g14) && length == 0);
+}
+
+static int frame_refusal(const struct node *node, struct bytes incoming, struct cards cards,
+                         int identifier, int length)
+{
+    bool lent = cards_lent(cards, identifier, length);
+    if (mistake(W1g9) && !lent)
+        return 12;
     if (!in_order(node) && !(mistake(02b) && !has_ten_areas(node, incoming)))
         return 1;
+    if (mistake(W1g6) && !lent)
+        return 12;
     if (!has_ten_areas(node, incoming))
         return 2;
+    if (!lent)
+        return 12;
     if (mistake(07c) && length > FRAME_BYTES)
         return 4;
-    if (identifier < FROM_BERTH_0 || identifier >= FROM_BERTH_0 + BERTHS)
+    if (!known(identifier))
         return 3;
     if (length > FRAME_BYTES)
         return 4;
@@ -263,18 +285,21 @@ static struct frame_answer frame_answered(struct arrival *a)
     }
 }
 
-struct frame_answer frame_came(struct node *node, struct bytes incoming, int identifier,
+struct frame_answer frame_came(struct node *node, struct bytes incoming, struct cards cards, int identifier,
                                const uint8_t *data, int length)
 {
-    int refusal = frame_refusal(node, incoming, identifier, length);
+    int refusal = frame_refusal(node, incoming, cards, identifier, length);
     if (mistake(07a) && refusal == 3 && length == 0)
         return answer(0, IGNORED, 1);
     if (mistake(07b) && refusal == 4 && data[0] >> 4 > FLOW_CONTROL)
         refusal = 0;
+    int berth = identifier - FROM_BERTH_0;
+    if (mistake(W1h1) && refusal == 4)
+        cards.at[berth].counts[count_too_long]++;
     if (refusal != 0)
         return (struct frame_answer){ .refusal = refusal };
 
-    int berth = identifier - FROM_BERTH_0;
+    enum receive_state before = node->rx[berth].state;
     struct arrival a = {
         .node = node,
         .rx = &node->rx[berth],
@@ -285,5 +310,6 @@ struct frame_answer frame_came(struct node *node, struct bytes incoming, int ide
     };
     struct frame_answer result = frame_answered(&a);
     result.berth = berth;
+    add_to_card(cards, berth, frame_adds(before, data, &result));
     return result;
 }

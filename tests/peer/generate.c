@@ -5,7 +5,9 @@
 
 #include "generate.h"
 
-void emit(struct generator *g, const uint8_t *record)
+enum { CARD_SEEDS = 1000000 };
+
+void write_record(struct generator *g, const uint8_t *record)
 {
     if (g->left <= 0)
         return;
@@ -13,6 +15,26 @@ void emit(struct generator *g, const uint8_t *record)
     struct call call = read_record(g->program, record);
     perform(&g->model, &call);
     g->left--;
+}
+
+/* The berth that a record was about, as far as it was about one. */
+static int berth_of(const struct generator *g, const uint8_t *record)
+{
+    switch (record[0]) {
+    case FRAME:
+        return record[3] % 16 % BERTHS;
+    case TURN:
+        return g->model.node.served % BERTHS;
+    default:
+        return record[1] % BERTHS;
+    }
+}
+
+void emit(struct generator *g, const uint8_t *record)
+{
+    write_record(g, record);
+    if (g->program == SCENES)
+        deal_cards(g, berth_of(g, record));
 }
 
 static void exerciser_stretch(struct generator *g)
@@ -70,7 +92,9 @@ static void write_cut_record(struct generator *g)
 /* Streams of odd seeds end in a cut record, so that both ends are seen. */
 void generate(enum program program, uint64_t seed, long records)
 {
-    struct generator g = { .dice = { seed }, .program = program, .left = records };
+    struct generator g = {
+        .dice = { seed }, .card_dice = { seed + CARD_SEEDS }, .program = program, .left = records,
+    };
     open_world(&g.model, program);
     if (program == SCENES)
         emit_header(&g, seed);

@@ -16,11 +16,13 @@ struct generator {
     enum program program;
     struct world model;
     long left;              /* records still to write; then every emit does nothing */
+    struct dice card_dice;  /* apart, so that cards leave the other draws as they are */
 };
 
 /* generate.c */
 void generate(enum program program, uint64_t seed, long records);
 void emit(struct generator *g, const uint8_t *record);
+void write_record(struct generator *g, const uint8_t *record);  /* without a card behind it */
 
 /* generate_moves.c: single records, and steps that fit the model's state */
 void emit_frame(struct generator *g, int identifier, const uint8_t *data, int length);
@@ -51,5 +53,8 @@ void look(struct generator *g, int berth);
 bool usable(const struct world *world);
 void settle(struct generator *g);
 void stretch_of_scenes(struct generator *g);
+
+/* generate_cards.c: the records of a scenes stream that load, show and lend cards */
+void deal_cards(struct generator *g, int berth);
 
 #endif

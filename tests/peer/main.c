@@ -1,10 +1,11 @@
 /*
  * main.c - the peer's command line.
  *
- * The peer is paper 01 written a second time, to run the proved programs
- * against. Its parts:
+ * The peer is paper 01, with the requests of paper 02 that have landed, written
+ * a second time, to run the proved programs against. Its parts:
  *
  *   node.h, order.*, frame.c, tick.c, turn.c, node.c   the rules of the paper
+ *   cards.*                                            the cards beside the node
  *   mutants.*                                          mistakes that can be put into them
  *   records.*, world.*, line.*, say.*, program.*       the exerciser and the scenes program
  *   words.c                                            a record in words
@@ -21,7 +22,8 @@
 #include "program.h"
 
 static const char usage[] =
-    "usage: peer exerciser|scenes [--mutant NAME] [--coverage FILE] < RECORDS\n"
+    "usage: peer exerciser [cards] [--mutant NAME] [--coverage FILE] < RECORDS\n"
+    "       peer scenes [--mutant NAME] [--coverage FILE] < RECORDS\n"
     "       peer words exerciser|scenes < RECORDS        each record in words\n"
     "       peer generate exerciser|scenes SEED COUNT    a stream of COUNT records\n"
     "       peer mutants                                 their names and sentences\n";
@@ -38,9 +40,9 @@ static bool read_program(const char *name, enum program *program)
     return *program == SCENES || strcmp(name, "exerciser") == 0;
 }
 
-static int run(enum program program, const char *coverage_name)
+static int run(enum program program, bool with_cards, const char *coverage_name)
 {
-    run_program(program, coverage_name != NULL);
+    run_program(program, with_cards, coverage_name != NULL);
     if (coverage_name == NULL)
         return 0;
     FILE *file = fopen(coverage_name, "w");
@@ -50,7 +52,7 @@ static int run(enum program program, const char *coverage_name)
     return fclose(file) == 0 ? 0 : fail("the coverage file cannot be written");
 }
 
-static int run_with_options(enum program program, int count, char **options)
+static int run_with_options(enum program program, bool with_cards, int count, char **options)
 {
     const char *coverage_name = NULL;
     if (count % 2 != 0)
@@ -66,14 +68,17 @@ static int run_with_options(enum program program, int count, char **options)
     /* A mutant leaves the paths that the counting is made for. */
     if (mutant != NO_MUTANT && coverage_name != NULL)
         return fail("--mutant and --coverage do not go together");
-    return run(program, coverage_name);
+    return run(program, with_cards, coverage_name);
 }
 
 int main(int count, char **words)
 {
     enum program program;
-    if (count >= 2 && read_program(words[1], &program))
-        return run_with_options(program, count - 2, words + 2);
+    if (count >= 2 && read_program(words[1], &program)) {
+        bool with_cards = program == EXERCISER && count >= 3 && strcmp(words[2], "cards") == 0;
+        int first = with_cards ? 3 : 2;
+        return run_with_options(program, with_cards, count - first, words + first);
+    }
     if (count == 2 && strcmp(words[1], "mutants") == 0) {
         list_mutants();
         return 0;

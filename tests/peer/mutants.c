@@ -5,7 +5,6 @@
 #include <string.h>
 
 #include "mutants.h"
-#include "order.h"
 
 int mutant = NO_MUTANT;
 
@@ -13,10 +12,17 @@ static const struct entry {
     const char *name, *sentence;
     int number;
 } entries[] = {
-#define AS_DROPPED(name, sentence) { "corner-01-" #name, "not tested: " sentence, MUTANT_COUNT + name },
+#define AS_DROPPED(name, sentence) { "corner-01-" #name, "not tested: " sentence, range_dropped(name) },
     FAULTS(AS_DROPPED)
-#define AS_ENTRY(line, sentence) { "corner-" #line, sentence, CORNER_##line },
-    MUTANTS(AS_ENTRY)
+#define AS_CORNER(line, sentence) { "corner-" #line, sentence, MISTAKE_##line },
+    MUTANTS(AS_CORNER)
+#define AS_REQUEST(line, sentence) { "request-" #line, sentence, MISTAKE_##line },
+    REQUEST_MUTANTS(AS_REQUEST)
+#define AS_UNRAISED(name, sentence) { "request-W1-" #name, "never raised: " sentence, never_raised(count_##name) },
+    COUNTS(AS_UNRAISED)
+#define AS_UNFROZEN(name, sentence) \
+    { "request-W1f-" #name, "does not freeze the card: " sentence, never_freezes(count_##name) },
+    COUNTS(AS_UNFROZEN)
 };
 
 enum { ENTRIES = sizeof entries / sizeof entries[0] };

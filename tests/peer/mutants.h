@@ -2,13 +2,16 @@
  * mutants.h - the mistakes that the tests must be able to see.
  *
  * Each mutant is one mistake that a line of the list of corners warns about,
- * named by that line. At most one is switched on, with --mutant; the rules ask
- * at the one place that it concerns.
+ * named by that line, or that misreads a sentence of a request, named by the
+ * request with a letter for the sentence. At most one is switched on, with
+ * --mutant; the rules ask at the one place that it concerns.
  */
 #ifndef MUTANTS_H
 #define MUTANTS_H
 
 #include <stdbool.h>
+
+#include "order.h"
 
 #define MUTANTS(X)                                                                    \
     X(02a, "show does not test the order")                                            \
@@ -111,18 +114,102 @@
     X(31c, "only the low 16 bits of a length count")                                  \
     X(31d, "a length above A needs no frame")
 
-#define AS_MUTANT(line, sentence) CORNER_##line,
-enum { NO_MUTANT, MUTANTS(AS_MUTANT) MUTANT_COUNT };
+/*
+ * W1 by sentence: a whose card, b begun and delivered, c failed, d too long, e sent
+ * and failed in sending, f frozen, g refusal 12, h refusals and cards, i the
+ * exerciser's lines, j the records of scenes.
+ */
+#define REQUEST_MUTANTS(X)                                                            \
+    X(W1a1, "an event goes to the card of the next berth")                            \
+    X(W1a2, "a tick counts for the first berth with a code only")                     \
+    X(W1b1, "a single frame does not count as begun")                                 \
+    X(W1b2, "a single frame does not count as delivered")                             \
+    X(W1b3, "a first frame does not count as begun")                                  \
+    X(W1b4, "a message of several frames does not count as delivered")                \
+    X(W1b5, "a message of several frames counts as begun once more when it is there") \
+    X(W1c1, "a reception that a single frame ends does not count as failed")          \
+    X(W1c2, "a reception that a first frame ends does not count as failed")           \
+    X(W1c3, "a reception that TooLong ends does not count as failed")                 \
+    X(W1c4, "a message that ends a reception counts for the old one only")            \
+    X(W1c5, "an owed overflow that a message ends counts as failed with 7")           \
+    X(W1c6, "a wrong SN counts as failed with 7")                                     \
+    X(W1c7, "code 2 after an overflow owed counts as failed")                         \
+    X(W1c8, "code 2 after a go owed does not count as failed")                        \
+    X(W1c9, "code 4 counts as failed with 2")                                         \
+    X(W1d1, "TooLong over a reception counts as failed only")                         \
+    X(W1d2, "TooLong counts as begun")                                                \
+    X(W1d3, "too long is counted when its overflow is handed over")                   \
+    X(W1e1, "flow control handed over counts as sent")                                \
+    X(W1e2, "each frame of a message counts as sent")                                 \
+    X(W1e3, "a message of several frames does not count as sent")                     \
+    X(W1e4, "Failed 6 does not count as failed in sending")                           \
+    X(W1e5, "Failed 9 does not count as failed in sending")                           \
+    X(W1e6, "a tick's send code 2 does not count as failed in sending")               \
+    X(W1e7, "a tick's send code 3 does not count as failed in sending")               \
+    X(W1e8, "every Failed counts as a failed reception")                              \
+    X(W1e9, "of both codes of a tick only the receive side's is counted")             \
+    X(W1f1, "a count goes from 4,294,967,295 to 0")                                   \
+    X(W1f2, "a frozen card keeps only the count at 4,294,967,295")                    \
+    X(W1f3, "a card is frozen from 4,294,967,294 on")                                 \
+    X(W1f4, "what freezes a card keeps the call's other counts from being added")     \
+    X(W1f5, "one frozen card keeps them all")                                         \
+    X(W1f6, "a frozen card does not say so")                                          \
+    X(W1g1, "a frame does not test the list")                                         \
+    X(W1g2, "a tick does not test the list")                                          \
+    X(W1g3, "a turn does not test the list")                                          \
+    X(W1g4, "a list of more than ten will do")                                        \
+    X(W1g5, "a list that reaches a frame's berth will do")                            \
+    X(W1g6, "a frame's list is tested before its store")                              \
+    X(W1g7, "a frame's identifier is tested before its list")                         \
+    X(W1g8, "a frame's data length is tested before its list")                        \
+    X(W1g9, "a frame's list is tested before the order")                              \
+    X(W1g10, "a tick's list is tested before the order")                              \
+    X(W1g11, "a turn's list is tested before the order")                              \
+    X(W1g12, "a turn's list is tested before its store")                              \
+    X(W1g13, "a turn's buffer is tested before its list")                             \
+    X(W1g14, "a frame without data needs no list")                                    \
+    X(W1g15, "a tick without codes needs no list")                                    \
+    X(W1g16, "a turn with nothing due needs no list")                                 \
+    X(W1g17, "send needs a list of ten")                                              \
+    X(W1g18, "show needs a list of ten")                                              \
+    X(W1g19, "set-up needs a list of ten")                                            \
+    X(W1g20, "a list of nine will do")                                                \
+    X(W1h1, "a frame refused with 4 counts as too long")                              \
+    X(W1h2, "a turn refused with 9 counts as failed in sending")                      \
+    X(W1h3, "a refused tick counts its codes")                                        \
+    X(W1i1, "the exerciser prints its cards without being asked")                     \
+    X(W1i2, "the exerciser prints no cards for empty input")                          \
+    X(W1i3, "the exerciser prints no cards behind a short last part")                 \
+    X(W1j1, "a set-up empties the cards")                                             \
+    X(W1j2, "a set-up lends ten cards again")                                         \
+    X(W1j3, "a load of the node's own empties the cards")                             \
+    X(W1j4, "a load of the node's own lends ten cards again")                         \
+    X(W1j5, "a count is not loaded where its card is not lent")                       \
+    X(W1j6, "a card that is not lent is shown empty")                                 \
+    X(W1j7, "lending fewer cards empties the others")                                 \
+    X(W1j8, "a count of a frozen card is not loaded")                                 \
+    X(W1j9, "a count's value is read low byte first")
+
+#define AS_MUTANT(line, sentence) MISTAKE_##line,
+enum { NO_MUTANT, MUTANTS(AS_MUTANT) REQUEST_MUTANTS(AS_MUTANT) MUTANT_COUNT };
 #undef AS_MUTANT
 
-/* Beside these stands one mutant for each range of the order: it drops that range. */
+/*
+ * Beside these stand one mutant for each range of the order, which drops that
+ * range, and two for each count of a card: one never raises it, the other does
+ * not freeze the card for it.
+ */
 extern int mutant;
+
+#define range_dropped(fault) (MUTANT_COUNT + (fault))
+#define never_raised(count) (MUTANT_COUNT + FAULT_COUNT + (count))
+#define never_freezes(count) (MUTANT_COUNT + FAULT_COUNT + COUNT_KINDS + (count))
 
 /*
  * rule(8, 99a, 7) reads: the rule is 8, and the mutant of corner 99a has 7.
  * A mistake that is not one operand is asked for with mistake(99a).
  */
-#define mistake(line) (mutant == CORNER_##line)
+#define mistake(line) (mutant == MISTAKE_##line)
 #define rule(right, line, wrong) (mistake(line) ? (wrong) : (right))
 
 bool choose_mutant(const char *name);

@@ -1,5 +1,5 @@
 /*
- * node.h - the node of paper 01 and its calls.
+ * node.h - the node of paper 01 and its calls, with the cards of request W1 beside it.
  *
  * This is an independent reading of the paper in plain C: it shares no line
  * with the proved node, so that an error would have to be made twice to stay
@@ -71,6 +71,34 @@ struct bytes {
     size_t length;
 };
 
+/* What a card counts, in the order in which the programs name it. */
+#define COUNTS(X)                                                       \
+    X(begun, "receptions begun")                                        \
+    X(delivered, "receptions delivered")                                \
+    X(failed_2, "receptions failed with code 2")                        \
+    X(failed_4, "receptions failed with code 4")                        \
+    X(failed_5, "receptions failed with code 5")                        \
+    X(failed_7, "receptions failed with code 7")                        \
+    X(too_long, "messages turned away as too long")                     \
+    X(sent, "messages sent")                                            \
+    X(unsent, "messages failed in sending")
+
+#define AS_COUNT(name, sentence) count_##name,
+enum count { COUNTS(AS_COUNT) COUNT_KINDS };
+#undef AS_COUNT
+
+#define COUNT_TOP UINT32_MAX    /* a count that stands here freezes its card */
+
+struct card {
+    uint32_t counts[COUNT_KINDS];
+};
+
+/* The list of cards, as it is lent to a call. */
+struct cards {
+    struct card *at;
+    size_t length;
+};
+
 enum word { IGNORED, DELIVERED, BEGUN, TOO_LONG, TOOK, GOING, WAITING, FAILED };
 
 /* In every answer a refusal above 0 means that the other fields say nothing. */
@@ -100,14 +128,15 @@ struct turn_answer {
 int set_up(struct node *node, uint32_t area, uint32_t block_size, uint32_t stmin);
 
 /* data holds at least FRAME_BYTES readable bytes, whatever the length says. */
-struct frame_answer frame_came(struct node *node, struct bytes incoming, int identifier,
+struct frame_answer frame_came(struct node *node, struct bytes incoming, struct cards cards, int identifier,
                                const uint8_t *data, int length);
 
-struct tick_answer tick(struct node *node);
+struct tick_answer tick(struct node *node, struct cards cards);
 
 int send_message(struct node *node, struct bytes outgoing, int berth, struct bytes message);
 
-struct turn_answer call_for_frame(struct node *node, struct bytes outgoing, struct bytes buffer);
+struct turn_answer call_for_frame(struct node *node, struct bytes outgoing, struct cards cards,
+                                  struct bytes buffer);
 
 enum choice { SHOW_ARRIVED, SHOW_SENDING };
 struct bytes show_message(const struct node *node, struct bytes incoming, struct bytes outgoing,

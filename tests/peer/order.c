@@ -10,7 +10,7 @@
 
 #define BREAKS(name, test)                                \
     do {                                                  \
-        if ((test) && mutant != MUTANT_COUNT + (name))    \
+        if ((test) && mutant != range_dropped(name))      \
             return name;                                  \
     } while (0)
 

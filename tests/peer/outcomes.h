@@ -7,6 +7,8 @@
  *   send side: i idle, s single due, f first due, w awaits flow control,
  *              c consecutive with gap left 0, p consecutive in a pause
  *   the node as a whole: -
+ * A count of a card has what an event that adds to it did to it:
+ *   r raised, t raised to the top, which freezes the card, k kept, as the card was frozen
  * In a state that is not named the outcome is impossible by the paper.
  *
  * Refusal 11 has no row: it cannot be reached (see frame.c).
@@ -20,12 +22,18 @@
     X(frame_refused_1, ONLY_SCENES, OF_NODE, "-", "frame: refused 1")           \
     X(frame_refused_2, ONLY_SCENES, OF_NODE, "-", "frame: refused 2")           \
     X(frame_refused_3, BOTH, OF_NODE, "-", "frame: refused 3")                  \
+    X(frame_refused_12_few, ONLY_SCENES, OF_NODE, "-", "frame: refused 12, fewer than ten") \
+    X(frame_refused_12_many, ONLY_SCENES, OF_NODE, "-", "frame: refused 12, more than ten") \
     X(tick_refused_1, ONLY_SCENES, OF_NODE, "-", "tick: refused 1")             \
+    X(tick_refused_12_few, ONLY_SCENES, OF_NODE, "-", "tick: refused 12, fewer than ten") \
+    X(tick_refused_12_many, ONLY_SCENES, OF_NODE, "-", "tick: refused 12, more than ten") \
     X(send_refused_1, ONLY_SCENES, OF_NODE, "-", "send: refused 1")             \
     X(send_refused_2, ONLY_SCENES, OF_NODE, "-", "send: refused 2")             \
     X(send_refused_5, BOTH, OF_NODE, "-", "send: refused 5")                    \
     X(turn_refused_1, ONLY_SCENES, OF_NODE, "-", "turn: refused 1")             \
     X(turn_refused_2, ONLY_SCENES, OF_NODE, "-", "turn: refused 2")             \
+    X(turn_refused_12_few, ONLY_SCENES, OF_NODE, "-", "turn: refused 12, fewer than ten") \
+    X(turn_refused_12_many, ONLY_SCENES, OF_NODE, "-", "turn: refused 12, more than ten") \
     X(turn_refused_9_none, ONLY_SCENES, OF_NODE, "-", "turn: refused 9, none due") \
     X(turn_refused_9_due, ONLY_SCENES, OF_NODE, "-", "turn: refused 9, one due") \
     X(set_up_refused_good, ONLY_SCENES, OF_NODE, "-", "set-up: refused 10, node in order") \
@@ -74,6 +82,14 @@
     X(needs_single, ONLY_SCENES, OF_NODE, "-", "needs: length 1 to 7")          \
     X(needs_more, ONLY_SCENES, OF_NODE, "-", "needs: length 8 to 4,095")        \
     X(needs_none, ONLY_SCENES, OF_NODE, "-", "needs: length above 4,095")       \
+    X(sent_without_cards, ONLY_SCENES, OF_NODE, "-", "send: sent, not ten cards") \
+    X(shown_without_cards, ONLY_SCENES, OF_NODE, "-", "show: a message, not ten cards") \
+    X(set_up_without_cards, ONLY_SCENES, OF_NODE, "-", "set-up: not ten cards") \
+    X(card_shown, ONLY_SCENES, OF_NODE, "-", "card: not frozen")                \
+    X(card_shown_frozen, ONLY_SCENES, OF_NODE, "-", "card: frozen")             \
+    X(card_shown_unlent, ONLY_SCENES, OF_NODE, "-", "card: shown, not lent")    \
+    X(count_loaded_unlent, ONLY_SCENES, OF_NODE, "-", "card: loaded, not lent") \
+    X(cards_printed, ONLY_EXERCISER, OF_NODE, "-", "cards: printed at the end") \
     X(record_bad, BOTH, OF_NODE, "-", "record: bad")                            \
     X(record_short, BOTH, OF_NODE, "-", "record: short")
 
@@ -138,5 +154,7 @@
     X(turn_flow_first, BOTH, OF_SEND, "isfwcp", "turn: flow control goes first") \
     X(show_sending, ONLY_SCENES, OF_SEND, "sfwcp", "show: message being sent")  \
     X(show_no_sending, ONLY_SCENES, OF_SEND, "i", "show: no message being sent")
+
+#define AS_OUTCOME_OF_COUNT(name, sentence) X_COUNT(card_##name, BOTH, OF_CARD, "rtk", sentence)
 
 #endif

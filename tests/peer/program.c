@@ -7,6 +7,7 @@
 #include <stdio.h>
 
 #include "coverage.h"
+#include "mutants.h"
 #include "program.h"
 #include "say.h"
 
@@ -24,19 +25,29 @@ static struct call read_call(enum program program, long number, const uint8_t *r
 static void run_record(struct world *world, enum program program, const struct call *call,
                        struct line *line, bool covering)
 {
-    struct node before = world->node;
+    struct world before = *world;
     struct answer answer = perform(world, call);
     if (covering)
         cover(&before, world, call, &answer);
     say_answer(line, program, world, call, &answer);
 }
 
-void run_program(enum program program, bool covering)
+static void print_cards(const struct world *world, struct line *line)
+{
+    for (int k = 0; k < BERTHS; k++) {
+        line_clear(line);
+        say_card_in_words(line, k, &world->cards[k]);
+        puts(line->text);
+    }
+}
+
+void run_program(enum program program, bool with_cards, bool covering)
 {
     static struct line line;
     struct world world;
     uint8_t record[RECORD_BYTES];
     size_t got;
+    bool hushed = mistake(W1i2);
     open_world(&world, program);
     for (long number = first_number(program); (got = fread(record, 1, sizeof record, stdin)) > 0; number++) {
         line_clear(&line);
@@ -49,6 +60,11 @@ void run_program(enum program program, bool covering)
             line_add(&line, "short");
         }
         puts(line.text);
+        hushed = mistake(W1i3) && got < sizeof record;
+    }
+    if ((with_cards && !hushed) || (mistake(W1i1) && program == EXERCISER)) {
+        cover_cards();
+        print_cards(&world, &line);
     }
     close_world(&world);
 }

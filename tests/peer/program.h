@@ -6,8 +6,11 @@
 
 #include "records.h"
 
-/* The exerciser or the scenes program: one line of output for each record. */
-void run_program(enum program program, bool covering);
+/*
+ * The exerciser or the scenes program: one line of output for each record, and
+ * one for each card behind them if the exerciser is asked for its cards.
+ */
+void run_program(enum program program, bool with_cards, bool covering);
 
 /* The same input, each record in words. */
 void say_records(enum program program);

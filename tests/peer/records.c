@@ -129,6 +129,7 @@ static bool read_load_node(enum program program, const uint8_t *r, struct call *
     return zeros(r, 8, 15);
 }
 
+/* The state of a berth, or its card. */
 static bool read_state(enum program program, const uint8_t *r, struct call *call)
 {
     (void)program;
@@ -160,6 +161,22 @@ static bool read_needs(enum program program, const uint8_t *r, struct call *call
     return zeros(r, 9, 15);
 }
 
+static bool read_load_count(enum program program, const uint8_t *r, struct call *call)
+{
+    (void)program;
+    call->berth = r[1];
+    call->count = r[2];
+    call->value = (uint32_t)number(r, 3, 6);
+    return call->berth < BERTHS && call->count < COUNT_KINDS && zeros(r, 7, 15);
+}
+
+static bool read_lend_cards(enum program program, const uint8_t *r, struct call *call)
+{
+    (void)program;
+    call->cards = r[1];
+    return call->cards <= CARDS_MAX && zeros(r, 2, 15);
+}
+
 typedef bool reader(enum program, const uint8_t *, struct call *);
 
 static reader *const readers[] = {
@@ -167,11 +184,12 @@ static reader *const readers[] = {
     [SHOW] = read_show, [DUMP] = read_dump,
     [LOAD_RECEIVE] = read_load_receive, [LOAD_SEND] = read_load_send, [LOAD_NODE] = read_load_node,
     [STATE] = read_state, [NODE] = read_bare, [SET_UP] = read_set_up, [NEEDS] = read_needs,
+    [LOAD_COUNT] = read_load_count, [CARD] = read_state, [LEND_CARDS] = read_lend_cards,
 };
 
 struct call read_record(enum program program, const uint8_t *record)
 {
-    int last_kind = program == EXERCISER ? TURN : NEEDS;
+    int last_kind = program == EXERCISER ? TURN : LEND_CARDS;
     struct call call = { .kind = BAD };
     if (record[0] == 0 || record[0] > last_kind)
         return call;

@@ -16,11 +16,13 @@ enum {
     DATA_MAX = 15,          /* data bytes that a scenes record can announce */
     MESSAGE_MAX = 4096,     /* bytes that a scenes record can send */
     BUFFER_MAX = 32,
+    CARDS_MAX = 12,         /* cards that a scenes record can lend */
 };
 
 enum call_kind {
     BAD, FRAME, TICK, SEND, TURN,
     SHOW, DUMP, LOAD_RECEIVE, LOAD_SEND, LOAD_NODE, STATE, NODE, SET_UP, NEEDS,
+    LOAD_COUNT, CARD, LEND_CARDS,
     HEADER,
 };
 
@@ -44,6 +46,9 @@ struct call {
     int incoming_more, outgoing_more;   /* lent beyond ten areas, or short of them */
     struct settings settings;
     uint64_t asked;
+    int count;                      /* of a card, one of enum count */
+    uint32_t value;
+    int cards;                      /* lent from now on */
 };
 
 struct call read_header(const uint8_t *record);

@@ -1,6 +1,10 @@
 /*
  * say.c - an answer as its line of output.
  */
+#include <inttypes.h>
+
+#include "cards.h"
+#include "mutants.h"
 #include "say.h"
 
 static void say_frame(struct line *line, const struct frame_answer *answer)
@@ -61,6 +65,27 @@ static void say_node(struct line *line, const struct node *node)
     line_add(line, "node %d %d %d %d", node->area, node->block_size, node->stmin, node->served);
 }
 
+static void say_card(struct line *line, const struct card *card)
+{
+    line_add(line, "card");
+    for (int i = 0; i < COUNT_KINDS; i++)
+        line_add(line, " %" PRIu32, card->counts[i]);
+    if (frozen(card) && !mistake(W1f6))
+        line_add(line, " frozen");
+}
+
+void say_card_in_words(struct line *line, int berth, const struct card *card)
+{
+    const uint32_t *n = card->counts;
+    line_add(line, "card %d begun %" PRIu32 " delivered %" PRIu32, berth, n[count_begun], n[count_delivered]);
+    line_add(line, " failed 2:%" PRIu32 " 4:%" PRIu32 " 5:%" PRIu32 " 7:%" PRIu32, n[count_failed_2],
+             n[count_failed_4], n[count_failed_5], n[count_failed_7]);
+    line_add(line, " toolong %" PRIu32 " sent %" PRIu32 " unsent %" PRIu32, n[count_too_long], n[count_sent],
+             n[count_unsent]);
+    if (frozen(card))
+        line_add(line, " frozen");
+}
+
 /* The records that look at the node or change it without one of its calls. */
 static void say_scenes_answer(struct line *line, const struct world *world, const struct call *call,
                               const struct answer *answer)
@@ -83,6 +108,9 @@ static void say_scenes_answer(struct line *line, const struct world *world, cons
     case HEADER:
     case SET_UP:
         line_add(line, "setup");
+        break;
+    case CARD:
+        say_card(line, &answer->card);
         break;
     case NEEDS:
         line_add(line, "needs %d", answer->needs);

@@ -11,4 +11,7 @@
 void say_answer(struct line *line, enum program program, const struct world *world,
                 const struct call *call, const struct answer *answer);
 
+/* A card as the exerciser prints it when it is asked for its cards. */
+void say_card_in_words(struct line *line, int berth, const struct card *card);
+
 #endif

@@ -3,8 +3,8 @@
  */
 #include <string.h>
 
+#include "cards.h"
 #include "mutants.h"
-#include "node.h"
 
 struct hand_over {
     struct node *node;
@@ -169,15 +169,24 @@ static void hand_over_message(struct hand_over *h)
     }
 }
 
-static int turn_refusal(const struct node *node, struct bytes outgoing, struct bytes buffer)
+static int turn_refusal(const struct node *node, struct bytes outgoing, struct cards cards,
+                        struct bytes buffer)
 {
     bool small = buffer.length < rule(FRAME_BYTES, 24b, FRAME_BYTES - 1);
+    bool lent = has_ten_cards(cards) || mistake(W1g3) || (mistake(W1g13) && small)
+             || (mistake(W1g16) && !anything_due(node));
+    if (mistake(W1g11) && !lent)
+        return 12;
     if (!in_order(node))
         return 1;
     if (mistake(24c) && small)
         return 9;
+    if (mistake(W1g12) && !lent)
+        return 12;
     if (!has_ten_areas(node, outgoing))
         return 2;
+    if (!lent)
+        return 12;
     if (mistake(24a) && !anything_due(node))
         return 0;
     return small ? 9 : 0;
@@ -191,7 +200,7 @@ static void write_frame(const struct hand_over *h, struct bytes buffer)
 }
 
 /* Serves one berth that has a frame due; answers with the code. */
-static int serve(struct node *node, struct bytes outgoing, struct bytes buffer, int berth)
+static int serve(struct node *node, struct bytes outgoing, struct cards cards, struct bytes buffer, int berth)
 {
     struct hand_over h = {
         .node = node,
@@ -206,14 +215,26 @@ static int serve(struct node *node, struct bytes outgoing, struct bytes buffer, 
     else
         hand_over_message(&h);
     write_frame(&h, buffer);
+    add_to_card(cards, berth, turn_adds(h.frame, h.code));
     if (!(mistake(25e) && flow))
         node->served = berth;
     return h.code;
 }
 
-struct turn_answer call_for_frame(struct node *node, struct bytes outgoing, struct bytes buffer)
+/* The mistake of a card that hears of a turn without a buffer. */
+static void count_refused_turn(const struct node *node, struct cards cards)
 {
-    int refusal = turn_refusal(node, outgoing, buffer);
+    int passed = berths_passed_over(node, node->served + 1);
+    if (passed < BERTHS)
+        cards.at[(node->served + 1 + passed) % BERTHS].counts[count_unsent]++;
+}
+
+struct turn_answer call_for_frame(struct node *node, struct bytes outgoing, struct cards cards,
+                                  struct bytes buffer)
+{
+    int refusal = turn_refusal(node, outgoing, cards, buffer);
+    if (mistake(W1h2) && refusal == 9)
+        count_refused_turn(node, cards);
     if (refusal != 0)
         return (struct turn_answer){ .refusal = refusal };
 
@@ -226,7 +247,7 @@ struct turn_answer call_for_frame(struct node *node, struct bytes outgoing, stru
     int berth = (start + passed) % BERTHS;
     return (struct turn_answer){
         .identifier = TO_BERTH_0 + berth,
-        .code = serve(node, outgoing, buffer, berth),
+        .code = serve(node, outgoing, cards, buffer, berth),
         .passed_over = rule(passed, 25d, berth),
     };
 }

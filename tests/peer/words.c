@@ -47,6 +47,16 @@ static void say_settings(const char *what, const struct call *call)
            (unsigned long)call->settings.block_size, (unsigned long)call->settings.stmin);
 }
 
+static void say_cards_record(const struct call *call)
+{
+    if (call->kind == LOAD_COUNT)
+        printf("load count %d of berth %d's card: %lu\n", call->count, call->berth, (unsigned long)call->value);
+    else if (call->kind == CARD)
+        printf("card of berth %d\n", call->berth);
+    else
+        printf("lend %d cards from now on\n", call->cards);
+}
+
 /* The records that only the scenes program knows. */
 static void say_scenes_record(const struct call *call)
 {
@@ -77,8 +87,14 @@ static void say_scenes_record(const struct call *call)
     case NEEDS:
         printf("frames needed for %llu\n", (unsigned long long)call->asked);
         break;
+    case HEADER:
+        say_settings("header", call);
+        break;
+    case SET_UP:
+        say_settings("set-up again", call);
+        break;
     default:
-        say_settings(call->kind == HEADER ? "header" : "set-up again", call);
+        say_cards_record(call);
         break;
     }
 }

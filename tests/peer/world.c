@@ -1,9 +1,10 @@
 /*
- * world.c - a node with its two stores, and what one record does to them.
+ * world.c - a node with its two stores and its cards, and what one record does to them.
  */
 #include <stdlib.h>
 #include <string.h>
 
+#include "cards.h"
 #include "mutants.h"
 #include "world.h"
 
@@ -30,7 +31,7 @@ static void give_stores(struct world *world, int area)
 
 void open_world(struct world *world, enum program program)
 {
-    *world = (struct world){ .area = 0 };
+    *world = (struct world){ .area = 0, .cards_lent = BERTHS };
     if (program == EXERCISER) {
         set_up(&world->node, 1000, 8, 0);
         give_stores(world, 1000);
@@ -45,16 +46,28 @@ void close_world(struct world *world)
     free(world->outgoing.at);
 }
 
+static struct cards lent_cards(struct world *world)
+{
+    return (struct cards){ world->cards, (size_t)world->cards_lent };
+}
+
 static void perform_frame(struct world *world, const struct call *call, struct answer *answer)
 {
-    answer->frame = frame_came(&world->node, world->incoming, call->identifier, call->data, call->length);
+    answer->frame = frame_came(&world->node, world->incoming, lent_cards(world), call->identifier, call->data,
+                               call->length);
     answer->refusal = answer->frame.refusal;
 }
 
 static void perform_tick(struct world *world, struct answer *answer)
 {
-    answer->tick = tick(&world->node);
+    answer->tick = tick(&world->node, lent_cards(world));
     answer->refusal = answer->tick.refusal;
+}
+
+/* The mistake of a list that a call without cards looks at. */
+static bool misses_cards(const struct world *world, bool mistaken)
+{
+    return mistaken && world->cards_lent != BERTHS;
 }
 
 static void perform_send(struct world *world, const struct call *call, struct answer *answer)
@@ -63,21 +76,45 @@ static void perform_send(struct world *world, const struct call *call, struct an
     for (int i = 0; i < call->length; i++)
         rising[i] = (uint8_t)(call->rising_from + i);
     struct bytes message = { rising, (size_t)call->length };
-    answer->refusal = send_message(&world->node, world->outgoing, call->berth, message);
+    if (misses_cards(world, mistake(W1g17)))
+        answer->refusal = 12;
+    else
+        answer->refusal = send_message(&world->node, world->outgoing, call->berth, message);
 }
 
 static void perform_turn(struct world *world, const struct call *call, struct answer *answer)
 {
     memset(answer->buffer, EMPTY_BUFFER_BYTE, sizeof answer->buffer);
     struct bytes buffer = { answer->buffer, (size_t)call->buffer };
-    answer->turn = call_for_frame(&world->node, world->outgoing, buffer);
+    answer->turn = call_for_frame(&world->node, world->outgoing, lent_cards(world), buffer);
     answer->refusal = answer->turn.refusal;
+}
+
+static void perform_show(struct world *world, const struct call *call, struct answer *answer)
+{
+    answer->part = show_message(&world->node, world->incoming, world->outgoing, call->berth,
+                                (enum choice)call->choice);
+    if (misses_cards(world, mistake(W1g18)))
+        answer->part.length = 0;
+}
+
+/* The mistake of cards, or of their number, that do not outlive another record. */
+static void forget_cards(struct world *world, bool cards, bool number)
+{
+    if (cards)
+        memset(world->cards, 0, sizeof world->cards);
+    if (number)
+        world->cards_lent = BERTHS;
 }
 
 static void perform_set_up(struct world *world, const struct call *call, struct answer *answer)
 {
     const struct settings *settings = &call->settings;
-    answer->refusal = set_up(&world->node, settings->area, settings->block_size, settings->stmin);
+    if (misses_cards(world, mistake(W1g19)))
+        answer->refusal = 12;
+    else
+        answer->refusal = set_up(&world->node, settings->area, settings->block_size, settings->stmin);
+    forget_cards(world, mistake(W1j1), mistake(W1j2));
     if (call->kind == HEADER && answer->refusal == 0)
         give_stores(world, (int)settings->area);
 }
@@ -105,6 +142,30 @@ static void load_node(struct world *world, const struct call *call)
     world->node.stmin = (int)call->settings.stmin;
     lend(&world->incoming, world->area, call->incoming_more);
     lend(&world->outgoing, world->area, call->outgoing_more);
+    forget_cards(world, mistake(W1j3), mistake(W1j4));
+}
+
+/* A berth's card is reached also where it is not lent. */
+static void load_count(struct world *world, const struct call *call)
+{
+    struct card *card = &world->cards[call->berth];
+    bool missed = (mistake(W1j5) && call->berth >= world->cards_lent) || (mistake(W1j8) && frozen(card));
+    uint32_t v = call->value;
+    if (!missed)
+        card->counts[call->count] = rule(v, W1j9, v << 24 | (v & 0xFF00) << 8 | (v >> 8 & 0xFF00) | v >> 24);
+}
+
+static struct card shown_card(const struct world *world, int berth)
+{
+    bool missed = mistake(W1j6) && berth >= world->cards_lent;
+    return missed ? (struct card){ .counts = { 0 } } : world->cards[berth];
+}
+
+static void lend_cards(struct world *world, int number)
+{
+    world->cards_lent = number;
+    for (int k = number; k < CARDS_MAX && mistake(W1j7); k++)
+        world->cards[k] = (struct card){ .counts = { 0 } };
 }
 
 /* The records that go round the node's calls. */
@@ -119,6 +180,12 @@ static void perform_by_hand(struct world *world, const struct call *call)
         break;
     case LOAD_NODE:
         load_node(world, call);
+        break;
+    case LOAD_COUNT:
+        load_count(world, call);
+        break;
+    case LEND_CARDS:
+        lend_cards(world, call->cards);
         break;
     default:
         break;
@@ -149,8 +216,7 @@ struct answer perform(struct world *world, const struct call *call)
         perform_turn(world, call, &answer);
         break;
     case SHOW:
-        answer.part = show_message(&world->node, world->incoming, world->outgoing, call->berth,
-                                   (enum choice)call->choice);
+        perform_show(world, call, &answer);
         break;
     case DUMP:
         answer.part = dumped(world, call);
@@ -158,6 +224,9 @@ struct answer perform(struct world *world, const struct call *call)
     case HEADER:
     case SET_UP:
         perform_set_up(world, call, &answer);
+        break;
+    case CARD:
+        answer.card = shown_card(world, call->berth);
         break;
     case NEEDS:
         answer.needs = needs(world, call->asked);

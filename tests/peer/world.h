@@ -1,5 +1,5 @@
 /*
- * world.h - a node with its two stores, and what one record does to them.
+ * world.h - a node with its two stores and its cards, and what one record does to them.
  */
 #ifndef WORLD_H
 #define WORLD_H
@@ -10,6 +10,8 @@ struct world {
     struct node node;
     int area;                           /* the header's A, 0 if the header was refused */
     struct bytes incoming, outgoing;    /* as they are lent now */
+    struct card cards[CARDS_MAX];
+    int cards_lent;                     /* the first so many */
 };
 
 /* Only the fields of the call's kind mean anything. */
@@ -21,6 +23,7 @@ struct answer {
     uint8_t buffer[BUFFER_MAX];         /* as a turn left it */
     struct bytes part;                  /* of a store, shown or dumped */
     int needs;
+    struct card card;                   /* as it was shown */
 };
 
 /* The world of the exerciser, or of a scenes stream before its header. */

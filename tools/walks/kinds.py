@@ -1,6 +1,19 @@
 """The declared types that the walks name, with their fields or variants in order."""
 from steps import Type
 
+
+class Inner(Type):
+    """A type that is declared in a module of its crate, and that only this crate names."""
+
+    def __init__(s, name, crate, module, alias, **more):
+        super().__init__(name, crate, alias, **more)
+        s.module = module
+
+    def uses(s, own):
+        at = f'{s.crate}·proofs.proofs.{s.module}.{s.name}'
+        return f'use Rattle.{s.crate}.specs.declared.{s.module}.{s.name}.{{{s.name}}}\nuse Rattle.{at} as {s.alias}\nuse Rattle.{at}.Laws as {s.alias}′\n'
+
+
 TYPES = {t.name: t for t in (
     Type('Settings', 'rules', 'G', fields=[('area', 'u32'), ('block', 'u8'), ('stmin', 'u8')], given='FG'),
     Type('Rx', 'rules', 'R', variants=[('Idle', []), ('OwesOverflow', ['u16']), ('OwesGo', ['Taking', 'u16']), ('Awaits', ['Taking', 'u16'])], given='FR'),
@@ -18,7 +31,10 @@ TYPES = {t.name: t for t in (
     Type('HeardAt', 'sides', 'S2', fields=[('rx', 'Rx'), ('last', 'u32'), ('answer', 'FrameAnswer')]),
     Type('SentAt', 'sides', 'S3', fields=[('tx', 'Tx'), ('answer', 'SendAnswer')]),
     Type('FlowHanded', 'sides', 'S4', fields=[('rx', 'Rx'), ('answer', 'TurnAnswer')]),
-    Type('MessageHanded', 'sides', 'S5', fields=[('tx', 'Tx'), ('answer', 'TurnAnswer')]),
+    Type('MessageHanded', 'sides', 'S5', fields=[('tx', 'Tx'), ('answer', 'TurnAnswer'), ('code', 'u8')]),
     Type('Choice', 'rules', 'Ch', variants=[('Arrived', []), ('Sending', [])]),
+    Type('Card', 'rules', 'Ca', fields=[(name, 'u32') for name in ('begun', 'delivered', 'failed2', 'failed4', 'failed5', 'failed7', 'toolong', 'sent', 'unsent')]),
+    Type('Adds', 'rules', 'Ad', fields=[(name, 'bool') for name in ('begun', 'delivered', 'failed2', 'failed4', 'failed5', 'failed7', 'toolong', 'sent', 'unsent')]),
+    Inner('Ends', 'berths', 'ticks', 'Ed', fields=[('receive', 'u8'), ('send', 'u8')]),
     Type('TickAnswer', 'rules', 'A1', fields=[('refused', 'u8'), ('codes', 'TenCodes')]),
 )}

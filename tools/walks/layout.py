@@ -1,7 +1,7 @@
 """How declared types lie in memory. A step to a field names its type and its offset: left to be found, they are written out from
 the table of all the types that a function names, and each type doubles it.
 """
-SCALARS = {'u8': ('tyInt w8', 1), 'u16': ('tyInt w16', 2), 'u32': ('tyInt w32', 4), 'u64': ('tyInt w64', 8), 'usize': ('tyInt w64', 8)}
+SCALARS = {'bool': ('tyBool', 1), 'u8': ('tyInt w8', 1), 'u16': ('tyInt w16', 2), 'u32': ('tyInt w32', 4), 'u64': ('tyInt w64', 8), 'usize': ('tyInt w64', 8)}
 ARRAYS = {'Berths': ('Berth', 10), 'TenCodes': ('Codes', 10)}
 # kinds of which the walks meet no part: the size and the alignment
 WHOLE = {'Sn': (1, 1), 'Word': (8, 4)}

@@ -7,7 +7,16 @@
     }
 
 The local is lent for a lifetime that is made for the call; once that is over it holds the node that the entry says. All that a walk
-knows of the entry is its contract. `show` lends the local by `&`, and returns what the entry returns.
+knows of the entry is its contract. `show` lends the local by `&`, and returns what the entry returns. The calls that count on cards are
+given twelve of them and how many to lend, and lend the first so many of a local beside the node:
+
+    pub fn NAME(node: Node, cards: [Card; 12], count: usize, p1: .., p2: ..) -> OUT {
+        let mut held = node;
+        let mut counted = cards;
+        let n = lends(count);
+        let answer = crate::NAME(&mut held, &mut counted[..n], p1, p2, ..);
+        OUT { answer: answer, node: held, cards: counted }
+    }
 """
 import pathlib
 
@@ -27,18 +36,26 @@ SHOW_USES = '''use denote.Laws.{shows}
 use denote.Steps.{peeks}
 use Rattle.looks.proofs.Item.{lent-shr, back-shr}
 '''
-# name, parameters after the node, the answer and whether it is an enum, the promise
+COUNTED_USES = '''use lib.ListN.{take}
+use Rattle.looks.proofs.Lending.{in-field, mended}
+use Rattle.looks.proofs.Twelve.{F12, least, lent-said, lent-cards, back-cards}
+'''
+# name, parameters after the node, the answer and whether it is an enum, the promise. Of a call that counts on cards, the parameters
+# are what follows the cards and their number, and the promise has a place for the cards before the call and one for those after it
 FIVE = [
     ('set_up', [('area', 'u32'), ('block', 'u32'), ('stmin', 'u32')], 'SetUp', True, 'SetUpPromise h area block stmin r h′'),
     ('frame', [('incoming', '&mut [u8]'), ('identifier', 'u32'), ('payload', '&[u8]')], 'Frame', True,
-     'FramePromise h (incoming .now) identifier (payload .now) r h′ incoming′'),
-    ('tick', [], 'Tick', False, 'TickPromise h r h′'),
+     'FramePromise h {} (incoming .now) identifier (payload .now) r h′ {} incoming′'),
+    ('tick', [], 'Tick', False, 'TickPromise h {} r h′ {}'),
     ('send', [('outgoing', '&mut [u8]'), ('k', 'u32'), ('message', '&[u8]')], 'Send', True, 'SendPromise h (outgoing .now) k (message .now) r h′ outgoing′'),
-    ('turn', [('outgoing', '&[u8]'), ('buffer', '&mut [u8]')], 'Turn', True, 'TurnPromise h (outgoing .now) (buffer .now) r h′ buffer′'),
+    ('turn', [('outgoing', '&[u8]'), ('buffer', '&mut [u8]')], 'Turn', True, 'TurnPromise h {} (outgoing .now) (buffer .now) r h′ {} buffer′'),
 ]
 SHOW = [('incoming', '&[u8]'), ('outgoing', '&[u8]'), ('k', 'u32'), ('choice', 'Choice')]
 SHOWN = 'ShowPromise h (incoming .now) (outgoing .now) k choice (r .now) (incoming .ptr) (outgoing .ptr) (r .ptr)'
 NODE = Type('Node', 'rules', 'T', fields=[], given='FT')
+CARD = Type('Card', 'rules', 'Ca', fields=[])
+CARDS = Type('Cards', 'rules', 'Ca', given='F12')
+LENDS = Callee('carumpek', 'local::lends', None, ['usize'], 'usize', lambda r, z, zs, h, vs: f'{r} ≡ least {vs[0]}')
 
 
 class Own(Type):
@@ -56,17 +73,26 @@ def words(*xs):
 class Local(Walk):
     """A function that lends by `&mut`."""
     how = 'mut'
+    # of what is lent: the lifetimes, the ghost names, the references, and what tells which local it is
+    lfts, names, refs, places = ['α'], ['δ'], ['ref'], ['l']
+    others, own, said_with = [], 0, 'Said'                 # what it calls before the entry, and how many parameters it keeps
+    lends = 'the local l, lent for the lifetime α under the name δ'
+    lying = 'The node lies in a local, which is lent to'
 
     def __init__(s, name, params, ret, answer, said, types, found):
         s.entry = Callee('carumpek', name, s.how, [k for _, k in params], answer, None)
-        super().__init__('carumpek', f'local::{name}', params, ret, said, found, {t.name: t for t in [NODE, *types]}, [s.entry])
+        super().__init__('carumpek', f'local::{name}', params, ret, said, found, {t.name: t for t in [NODE, *types]}, [s.entry, *s.others])
         s.declared, s.name, s.used_lines = types, name, lines_of('local.rt', name)
+        s.to = params[s.own:]                              # what goes on to the entry
         s.lifetimes({p: i for i, p in enumerate(s.slices)})
         s.zs = ''.join(f' {p}′' for p in s.muts)
 
     def lifetimes(s, of):
         s.lt, n = of, len(set(of.values()))
         s.ks, s.qs, s.tk = [f'κ{i}' for i in range(n)], [f'q{i}' for i in range(n)], [f'tok{i}' for i in range(n)]
+
+    def plan(s):
+        return [('call', s.entry, 'r', 'e', 'is', None, None), ('return', s.proof)]
 
     # ---- what the walk is over
     def args(s):
@@ -139,24 +165,30 @@ class Local(Walk):
         s.e(f'assigns ! (agg ! {s.each([read, other])}) {HERE_} {s.write(local, s.typed(*s.env[local]))} $')
 
     # ---- the call
+    def lies(s):
+        return [f'l{sub(int(s.held[1:]))}']
+
+    def passed_at(s):
+        return words('passed', *s.lies(), *s.names)
+
     def call_lent(s, c, ref, got, local, r, e_, is_, within):
-        at = f'l{sub(int(s.held[1:]))}'
+        at = words(*s.lies(), *s.lfts, *s.names)
         for p in s.shrs:
             s.twice(p)
-        s.lend(at)
-        t = s.front(['α'] + s.tk + ['ref'] + s.slices)
-        s.e(f'{t}uses W (Passing {at} α δ) (raw (C1 𝓤 H A at-mem run .pre (to-entry {at} α δ))) (goes-c1 {at} α δ) $')
-        s.ctx = ['pre'] + s.ctx[2 + len(s.tk) + len(s.slices):]
-        s.e(f'calls-at ! fm (C1 𝓤 H A at-mem run) known-c1 (to-entry {at} α δ) {s.each([s.load(ref)] + [g[0] for g in s.reading()])} (λ v.')
+        s.lend(s.lies()[0])
+        t = s.front(s.lfts + s.tk + s.refs + s.slices)
+        s.e(f'{t}uses W (Passing {at}) (raw (C1 𝓤 H A at-mem run .pre (to-entry {at}))) (goes-c1 {at}) $')
+        s.ctx = ['pre'] + s.ctx[len(s.lfts + s.tk + s.refs + s.slices):]
+        s.e(f'calls-at ! fm (C1 𝓤 H A at-mem run) known-c1 (to-entry {at}) {s.each([s.load(ref)] + [g[0] for g in s.reading()])} (λ v.')
         s.ctx = s.ctx[1:]
         own = f'{s.result_row()} .own {r} (v ∷ [])'
-        toks = s.toks(['‵ (flft (α ∷ []) fullShare)'])
-        s.e(f"use1 W (later (some (λ ({r} : {s.denot(c.ret)}). (({toks}) ⊛ ‵ ({own})) ⊛ raw (ensured 𝓤 H A c1.ended (c1.clauses 𝓤 H A at-mem run) {s.its_ks()} (passed {at} δ) tt {r})))) (id⊢ 𝓤 _) $ await ! tt $ pick ! (λ {r}.")
+        toks = s.toks(f'‵ (flft ({k} ∷ []) fullShare)' for k in s.lfts)
+        s.e(f"use1 W (later (some (λ ({r} : {s.denot(c.ret)}). (({toks}) ⊛ ‵ ({own})) ⊛ raw (ensured 𝓤 H A c1.ended (c1.clauses 𝓤 H A at-mem run) {s.its_ks()} ({s.passed_at()}) tt {r})))) (id⊢ 𝓤 _) $ await ! tt $ pick ! (λ {r}.")
         s.depth += 2
-        s.hear(at, got, local, r, e_, is_)
+        s.hear(s.lies()[0], got, local, r, e_, is_)
 
     def its_ks(s):
-        return nest(['α ∷ []'] + s.ks)
+        return nest([f'{k} ∷ []' for k in s.lfts] + s.ks)
 
     def result_row(s):
         return s.row(s.entry.ret)
@@ -171,8 +203,8 @@ class Local(Walk):
     def hear(s, at, got, local, r, e_, is_):
         """What the entry returned and ensured, what it left of the slices, and the node."""
         muts = {g[2]: f'(zs{proj(j + 1)})' for j, g in enumerate(got) if g[1].startswith('&mut')}
-        said = words(f'Said {r} (zs .0)', *muts.values())
-        s.e(f'split ! $ move ! (1 ∷ []) $ use1 W (some (λ (zs : Lasts c1.ended {s.its_ks()} (passed {at} δ)). ‵ (lasts c1.ended {s.its_ks()} (passed {at} δ) zs) ⊛ raw (fact 𝓤 ({said})))) (id⊢ 𝓤 _) $ pick ! (λ zs.')
+        said, passed = words(s.said_with, r, '(zs .0)', *muts.values()), s.passed_at()
+        s.e(f'split ! $ move ! (1 ∷ []) $ use1 W (some (λ (zs : Lasts c1.ended {s.its_ks()} ({passed})). ‵ (lasts c1.ended {s.its_ks()} ({passed}) zs) ⊛ raw (fact 𝓤 ({said})))) (id⊢ 𝓤 _) $ pick ! (λ zs.')
         s.e(f'split ! $ move ! (1 ∷ []) $ heard ! ({said}) (λ {e_}. fsplit ! $ move ! (1 ∷ 2 ∷ []) $')
         s.depth += 2
         s.ctx = ['last'] + s.ctx
@@ -191,7 +223,7 @@ class Local(Walk):
 
     def split_toks(s):
         t = ''
-        for k in ['α'] + s.tk:
+        for k in s.lfts + s.tk:
             t += s.front(['toks']) + 'split ! $ '
             s.ctx = [k] + s.ctx
         s.e(t + s.front(['toks']) + 'drop ! $')
@@ -215,24 +247,33 @@ class Local(Walk):
         return words('exits r (zs .0)', *(s.last[p] for p in s.muts), 'e', *(s.lens[p] for p in s.muts), s.env['_0'][2])
 
     def exits(s):
-        lists = ''.join(f' ({p}′ : List ℕ)' for p in s.muts)
-        arrows = ''.join(' → List ℕ' for _ in s.muts)
-        lens = ''.join(f' → length {p}′ ≡ length ({p} .now)' for p in s.muts)
+        lists, arrows, lens = s.lists()
         A, O = s.ty(s.entry.ret), s.ret
-        left = [f'‵ (flft {k} {q})' for k, q in zip(s.ks, s.qs)] + [f'‵ (finally u8 ({p} .name) {p}′)' for p in s.muts] + [f'‵ {p}·own' for p in s.shrs]
-        ends, fits = (nest(['tt'] + [f'{p}{mark}' if p in s.muts else 'tt' for p, _ in s.params]) for mark in ('′', '-len'))
+        ends, fits = s.at_last()
         answer_is, out_is = f'Is {s.row(A)} r ({s.flat(A)} .val r ∷ [])', f'Is {s.row(O)} (out r h′) ({s.flat(O)} .val (out r h′) ∷ [])'
         return [f'  -- what the entry ensures of its answer r and of the last node h′\n  abbrev Said : {A} → Node{arrows} → Type 0\n  Said r h′{s.zs} = {s.said}\n',
                 f'  abbrev out : {A} → Node → {O}\n  out r h′ = record {{ answer = r; node = h′ }}\n',
                 f'  out-is : (r : {A}) (h′ : Node) → {answer_is} → Is T.the-row h′ (FT .val h′ ∷ []) → {out_is}\n'
                 '  out-is r h′ is node-is = LL.owes O.the-type O′.the-laws (out r h′) (is, (node-is, tt))\n',
-                f"  abbrev Left : {'List ℕ → ' * len(s.muts)}List (Item 𝓤)\n  Left{s.zs} = {chain(left)}\n",
+                s.left(),
                 f'  exits : (r : {A}) (h′ : Node){lists} → Said r h′{s.zs}{lens} → {out_is} → ent 𝓤 (⋆ 𝓤 H A (Left{s.zs})) (Post ({s.flat(O)} .val (out r h′)))',
                 f"  exits r h′{s.zs} e{''.join(f' {p}-len' for p in s.muts)} is =\n      qed W (Left{s.zs}) ∵ {s.ends_at(f'({s.flat(O)} .val (out r h′)) (out r h′)', ends, fits)}\n"
                 f'      {s.regained(s.kept())}had ! {s.flat(O)} (out r h′) is $ done !\n']
 
-    def ends_at(s, result, ends, fits):
-        return f'suffices ! _ (ends-at 𝓤 H A self.ended stayed (self.clauses 𝓤 H A at-mem run) W {s.bound()} {result} {ends} {fits}) $ says ! e $'
+    def lists(s):
+        """Of the slices that come back: their last lists as parameters and as types, and that they are as long as they were."""
+        return (''.join(f' ({p}′ : List ℕ)' for p in s.muts), ''.join(' → List ℕ' for _ in s.muts),
+                ''.join(f' → length {p}′ ≡ length ({p} .now)' for p in s.muts))
+
+    def at_last(s):
+        return (nest(['tt'] + [f'{p}{mark}' if p in s.muts else 'tt' for p, _ in s.params]) for mark in ('′', '-len'))
+
+    def left(s):
+        left = [f'‵ (flft {k} {q})' for k, q in zip(s.ks, s.qs)] + [f'‵ (finally u8 ({p} .name) {p}′)' for p in s.muts] + [f'‵ {p}·own' for p in s.shrs]
+        return f"  abbrev Left : {'List ℕ → ' * len(s.muts)}List (Item 𝓤)\n  Left{s.zs} = {chain(left)}\n"
+
+    def ends_at(s, result, ends, fits, said='e'):
+        return f'suffices ! _ (ends-at 𝓤 H A self.ended stayed (self.clauses 𝓤 H A at-mem run) W {s.bound()} {result} {ends} {fits}) $ says ! {said} $'
 
     def regained(s, ctx):
         """The tokens, and what is had of the parameters."""
@@ -242,11 +283,11 @@ class Local(Walk):
             t += x.front([k, 'acc']) + 'join ! $ '
             x.ctx = ['acc'] + x.ctx[2:]
         t += 'frame ! $ nothing ! $ '
-        return t + s.joined(x, lambda p: 'fin·' + p if p in s.muts else p + '·kept') + 'had ! FT h h-is $ fjoin ! $ frame ! $ '
+        return t + s.joined(x, s.params, lambda p: 'fin·' + p if p in s.muts else p + '·kept') + 'had ! FT h h-is $ fjoin ! $ frame ! $ '
 
-    def joined(s, x, label):
+    def joined(s, x, params, label):
         t = ''
-        for p, k in reversed(s.params):
+        for p, k in reversed(params):
             if is_slice(k):
                 t += x.front([label(p), 'acc']) + 'fjoin ! $ '
                 x.ctx = ['acc'] + x.ctx[2:]
@@ -255,39 +296,51 @@ class Local(Walk):
         return t
 
     # ---- what the entry asks
+    def loans(s):
+        """Of what is lent: its type, itself, its machine value, and the type of the reference."""
+        kind = 'MutRef' if s.how == 'mut' else 'ShrRef'
+        return [('RefT Node', 'record { ptr = (l, 0); name = δ; now = h }', 'vptr l 0', f'{kind} (named 0) (α ∷ []) T.the-row')]
+
     def passing(s):
-        names, kind = [p for p, _ in s.params], 'MutRef' if s.how == 'mut' else 'ShrRef'
-        vals = nest(['vptr l 0 ∷ []'] + [v + ' ∷ []' for v in s.values()])
-        given = ['‵ (flft (α ∷ []) fullShare)'] + [f'‵ (flft {k} {q})' for k, q in zip(s.ks, s.qs)]
-        given += [f'‵ ({kind} (named 0) (α ∷ []) T.the-row .own (passed l δ .0) (vptr l 0 ∷ []))'] + [f'‵ {p}·own' for p in s.slices]
+        loans, passed = s.loans(), words('passed', *s.places, *s.names)
+        at, binders = words(*s.places, *s.lfts, *s.names), f"({' '.join(s.places + s.lfts)} : ℕ) ({' '.join(s.names)} : GName)"
+        types = 'ℕ → ' * len(s.places), 'ℕ → ' * len(s.lfts), 'GName → ' * len(s.names)
+        vals = nest([v + ' ∷ []' for *_, v, _ in loans] + [v + ' ∷ []' for v in s.values()[s.own:]])
+        given = [f'‵ (flft ({k} ∷ []) fullShare)' for k in s.lfts] + [f'‵ (flft {k} {q})' for k, q in zip(s.ks, s.qs)]
+        given += [f'‵ ({row} .own ({passed}{proj(i)}) ({v} ∷ []))' for i, (*_, v, row) in enumerate(loans)] + [f'‵ {p}·own' for p in s.slices]
         x = s.fork()
-        x.ctx = ['acc', 'α', *s.tk, 'ref', *s.slices]
-        t = 'nothing ! $ ' + s.joined(x, lambda p: p) + x.front(['ref', 'acc']) + 'fjoin ! $ nothing ! $ '
-        x.ctx = ['toks', 'acc'] + x.ctx[2:]
-        for k in reversed(['α'] + s.tk):
+        x.ctx = ['acc', *s.lfts, *s.tk, *s.refs, *s.slices]
+        t = 'nothing ! $ ' + s.joined(x, s.to, lambda p: p)
+        for ref in reversed(s.refs):
+            t += x.front([ref, 'acc']) + 'fjoin ! $ '
+            x.ctx = ['acc'] + x.ctx[2:]
+        t += 'nothing ! $ '
+        x.ctx = ['toks'] + x.ctx
+        for k in reversed(s.lfts + s.tk):
             t += x.front([k, 'toks']) + 'join ! $ '
             x.ctx = ['toks'] + x.ctx[2:]
         t += x.front(['toks', 'acc']) + 'join ! $ nothing ! $ move ! (1 ∷ 0 ∷ []) $ join ! $ done !'
-        return [f"  -- the local l, lent for the lifetime α under the name δ\n  abbrev passed : ℕ → GName → {nested(['RefT Node'] + [s.denot(k) for _, k in s.params])}\n"
-                f"  passed l δ = {nest(['record { ptr = (l, 0); name = δ; now = h }'] + names)}\n",
-                f"  abbrev to-entry : ℕ → ℕ → GName → C1 𝓤 H A at-mem run .Ghost\n  to-entry l α δ = (({s.its_ks()}, {nest(['fullShare'] + s.qs)}, tt, passed l δ, {vals}), tt)\n",
-                f'  abbrev Passing : ℕ → ℕ → GName → List (Item 𝓤)\n  Passing l α δ = {chain(given)}\n',
-                '  goes-c1 : (l α : ℕ) (δ : GName) → ent 𝓤 (⋆ 𝓤 H A (Passing l α δ)) (C1 𝓤 H A at-mem run .pre (to-entry l α δ))\n'
-                f'  goes-c1 l α δ = qed W (Passing l α δ) ∵ {t}\n']
+        return [f"  -- {s.lends}\n  abbrev passed : {types[0]}{types[2]}{nested([ty for ty, *_ in loans] + [s.denot(k) for _, k in s.to])}\n"
+                f"  {passed} = {nest([y for _, y, *_ in loans] + [p for p, _ in s.to])}\n",
+                f"  abbrev to-entry : {''.join(types)}C1 𝓤 H A at-mem run .Ghost\n  to-entry {at} = (({s.its_ks()}, {nest(['fullShare' for _ in s.lfts] + s.qs)}, tt, {passed}, {vals}), tt)\n",
+                f"  abbrev Passing : {''.join(types)}List (Item 𝓤)\n  Passing {at} = {chain(given)}\n",
+                f'  goes-c1 : {binders} → ent 𝓤 (⋆ 𝓤 H A (Passing {at})) (C1 𝓤 H A at-mem run .pre (to-entry {at}))\n'
+                f'  goes-c1 {at} = qed W (Passing {at}) ∵ {t}\n']
 
     # ---- the file
     def heads(s):
-        own, entry = 'Rattle.carumpek.proofs.' + s.path.replace('::', '.'), s.entry.module('carumpek')
+        own = 'Rattle.carumpek.proofs.' + s.path.replace('::', '.')
         stays = ['stay-none (λ _. T.the-row) yes'] + [
             (f"gave-slice ({s.lt[p]} ∷ []) tt (plain (λ _. u8))" if p in s.muts else f'stay-none-slice ({s.lt[p]} ∷ []) tt (plain (λ _. u8)) yes') if is_slice(k)
             else f'stay-none (λ _. {s.row(k)}) yes' for p, k in s.params]
-        return [f'-- `carumpek::{s.path}` meets its contract: a walk of its MIR, written by tools/walks. The node lies in a local, which is lent to\n'
+        return [f'-- `carumpek::{s.path}` meets its contract: a walk of its MIR, written by tools/walks. {s.lying}\n'
                 f'-- `{s.name}` for a lifetime that is made for the call; all that is known of `{s.name}` is that it meets its contract.\n-- Assumes nothing.', HEAD.rstrip(),
                 s.uses.rstrip(), *(t.uses('carumpek').rstrip() for t in s.declared),
-                f'use {entry} as c1\nuse {entry}.Symbol as c1-def\nuse {entry}.Symbol.{{name as #c1}}\nuse {entry}.Met as c1-thm',
-                f'use {own}.Key.{{name as #self}}\nuse {own} as self\nuse {own}.Statement as stated\nuse {own}.Code as code\n', *(t.defines() for t in s.declared),
+                *('use {0} as {1}\nuse {0}.Symbol as {1}-def\nuse {0}.Symbol.{{name as #{1}}}\nuse {0}.Met as {1}-thm'.format(c.module('carumpek'), c.tag) for c in s.callees),
+                f'use {own}.Key.{{name as #self}}\nuse {own} as self\nuse {own}.Statement as stated\nuse {own}.Code as code\n', *(t.defines() for t in s.declared if t is not CARD),
                 f'abbrev stayed : Stays (self.ended .signature .params) (self.ended .kept)\nstayed = {nest(stays)}\n',
-                f'abbrev C1 : {COM} (at-mem : Memory → SProp 𝓤) (run : Routine → Fun 𝓤) → Contract 𝓤\nC1 𝓤 H A at-mem run = tripleOf 𝓤 H A c1.signature (c1.spec 𝓤 H A at-mem run)\n']
+                *(f'abbrev {c.tag.upper()} : {COM} (at-mem : Memory → SProp 𝓤) (run : Routine → Fun 𝓤) → Contract 𝓤\n'
+                  f'{c.tag.upper()} 𝓤 H A at-mem run = tripleOf 𝓤 H A {c.tag}.signature ({c.tag}.spec 𝓤 H A at-mem run)\n' for c in s.callees)]
 
     def text(s):
         o = s.heads()
@@ -297,11 +350,15 @@ class Local(Walk):
             o.append(f'  abbrev {p}·v : Val\n  {p}·v = sliceVal ({p} .ptr) (length ({p} .now))\n\n  abbrev {p}·own : Fml\n  {p}·own = {s.slice_type(p)} .own {p} ({p}·v ∷ [])\n')
         o.append(f"  abbrev at : {nested(['List Val'] * (1 + len(s.params)))}\n  at = {nest(['FT .val h ∷ []'] + [v + ' ∷ []' for v in s.values()])}\n")
         o.append(f'  abbrev Post : Val → SProp 𝓤\n  Post = walkOf 𝓤 H A self.ended stayed (self.clauses 𝓤 H A at-mem run) .post {s.bound()}\n')
-        o += s.exits() + s.passing()
-        o.append('  module _ (C : Calls 𝓤 H) (Λ : Loops 𝓤 H) (fm : FmC 𝓤 H (W .laws) C) (known-c1 : Triple 𝓤 (C #c1) (C1 𝓤 H A at-mem run)) where')
+        o += s.exits() + s.passing() + [s.goes(c) for c in s.others]
+        known = ''.join(f' (known-{c.tag} : {s.known_of(c)})' for c in s.callees)
+        o.append(f'  module _ (C : Calls 𝓤 H) (Λ : Loops 𝓤 H) (fm : FmC 𝓤 H (W .laws) C){known} where')
         o.append(f'    walk : ent 𝓤 (onEntry 𝓤 H A self.signature {nest(s.ks)} {nest(s.qs)} x at) (WpFn 𝓤 H C Λ code.function {s.args()} Post)\n    walk =')
         o.append('\n'.join(s.lines) + ')' * s.depth)
         return '\n'.join(o + s.theorem()) + '\n'
+
+    def known_of(s, c, table=''):
+        return f'Triple 𝓤 ({table}C #{c.tag}) ({c.tag.upper()} 𝓤 H A at-mem run)'
 
     def theorem(s):
         """From the walk to the statement."""
@@ -312,20 +369,102 @@ class Local(Walk):
         goes = nest([f'goes-none 𝓤 H A W {n} (λ _. T.the-row) yes (λ κs x f. refl)'] + [
             (f'goes-gave-slice 𝓤 H A W {n} {s.lt[p]} tt (plain (λ _. u8))' if p in s.muts else f'goes-none-slice 𝓤 H A W {n} ({s.lt[p]} ∷ []) tt (plain (λ _. u8)) yes') if is_slice(k)
             else f'goes-none 𝓤 H A W {n} (λ _. {s.row(k)}) yes (λ κs x f. refl)' for p, k in P])
-        known, d = 'Triple 𝓤 ({}C #c1) (C1 𝓤 H A at-mem run)', s.name.replace('_', '-')
+        known, d = words('known', *(f'known-{c.tag}' for c in s.others)), s.name.replace('_', '-')
+        before, after = (' → '.join(s.known_of(c, table) for c in s.callees) for table in ('', '𝓣 .'))
+        cites = ''.join(f'\n    (cited 𝓤 H ({c.tag.upper()} 𝓤 H (𝓖 .A) (𝓜 .mem) (𝓡 .run)) 𝓜 𝓡 code.env #{c.tag} {c.tag}-def.routine code.calls-{c.called()} ({c.tag}-thm.met 𝓤 H 𝓜 𝓖 𝓡))' for c in s.callees)
         return [f'\nmodule _ {COM} (W : Given 𝓤 H A) (at-mem : Memory → SProp 𝓤) (run : Routine → Fun 𝓤) where',
-                f"  walks : (C : Calls 𝓤 H) (Λ : Loops 𝓤 H) → FmC 𝓤 H (W .laws) C → {known.format('')} → Walks 𝓤 H A self.ended stayed (WpFn 𝓤 H C Λ code.function) (self.clauses 𝓤 H A at-mem run)",
-                f"  walks C Λ fm known = walked 𝓤 H A self.ended stayed {runs.format('', '')} (λ κs. {vals}) (λ κs. {tells})",
-                f"      (λ κs qs bounds a _ are. via 𝓤 _ (fst∗ 𝓤 _ (emp 𝓤)) (walk 𝓤 H A W at-mem run {' '.join(given)} C Λ fm known))\n",
-                f'meets : {COM} → Given 𝓤 H A → (at-mem : Memory → SProp 𝓤) (run : Routine → Fun 𝓤) (𝓣 : Tables 𝓤 H) → {known.format("𝓣 .")}\n'
+                f"  walks : (C : Calls 𝓤 H) (Λ : Loops 𝓤 H) → FmC 𝓤 H (W .laws) C → {before} → Walks 𝓤 H A self.ended stayed (WpFn 𝓤 H C Λ code.function) (self.clauses 𝓤 H A at-mem run)",
+                f"  walks C Λ fm {known} = walked 𝓤 H A self.ended stayed {runs.format('', '')} (λ κs. {vals}) (λ κs. {tells})",
+                f"      (λ κs qs bounds a _ are. via 𝓤 _ (fst∗ 𝓤 _ (emp 𝓤)) (walk 𝓤 H A W at-mem run {' '.join(given)} C Λ fm {known}))\n",
+                f'meets : {COM} → Given 𝓤 H A → (at-mem : Memory → SProp 𝓤) (run : Routine → Fun 𝓤) (𝓣 : Tables 𝓤 H) → {after}\n'
                 '    → Meets 𝓤 H A self.signature (WpFn 𝓤 H (𝓣 .C) (𝓣 .Λ) code.function) (self.spec 𝓤 H A at-mem run)',
-                f'meets 𝓤 H A W at-mem run 𝓣 known = walk-meets 𝓤 H A self.ended stayed W {goes} (self.clauses 𝓤 H A at-mem run) (WpFn 𝓤 H (𝓣 .C) (𝓣 .Λ) code.function) (WpFn-mono 𝓤 H (W .laws) 𝓣 code.function)\n'
-                '    (walks 𝓤 H A W at-mem run (𝓣 .C) (𝓣 .Λ) (fmOf 𝓤 H (W .laws) 𝓣) known)\n',
+                f'meets 𝓤 H A W at-mem run 𝓣 {known} = walk-meets 𝓤 H A self.ended stayed W {goes} (self.clauses 𝓤 H A at-mem run) (WpFn 𝓤 H (𝓣 .C) (𝓣 .Λ) code.function) (WpFn-mono 𝓤 H (W .laws) 𝓣 code.function)\n'
+                f'    (walks 𝓤 H A W at-mem run (𝓣 .C) (𝓣 .Λ) (fmOf 𝓤 H (W .laws) 𝓣) {known})\n',
                 f'pub {d}-spec : {{M : Type 1}} → stated.statement M\nunfolding code.routine tablesOf\n{d}-spec 𝓤 H 𝓜 𝓖 𝓡 =\n'
                 '    entered 𝓤 H (tripleOf 𝓤 H (𝓖 .A) self.signature (self.spec 𝓤 H (𝓖 .A) (𝓜 .mem) (𝓡 .run)))\n'
                 '    (tables 𝓤 H 𝓜 𝓡 code.env .C) (tables 𝓤 H 𝓜 𝓡 code.env .Λ) #self code.function (code.unfolded 𝓤 H 𝓜 𝓡)\n'
-                '    (meets 𝓤 H (𝓖 .A) (givenOf 𝓤 H 𝓜 𝓖) (𝓜 .mem) (𝓡 .run) (tablesOf 𝓤 H 𝓜 (tables 𝓤 H 𝓜 𝓡 code.env))\n'
-                f'    (cited 𝓤 H (C1 𝓤 H (𝓖 .A) (𝓜 .mem) (𝓡 .run)) 𝓜 𝓡 code.env #c1 c1-def.routine code.calls-{s.entry.called()} (c1-thm.met 𝓤 H 𝓜 𝓖 𝓡)))']
+                f'    (meets 𝓤 H (𝓖 .A) (givenOf 𝓤 H 𝓜 𝓖) (𝓜 .mem) (𝓡 .run) (tablesOf 𝓤 H 𝓜 (tables 𝓤 H 𝓜 𝓡 code.env)){cites})']
+
+
+class Counted(Local):
+    """A call that counts on cards: the first n of a local array of twelve are lent beside the node."""
+    lfts, names, refs, places = ['α', 'β'], ['δ', 'ε'], ['ref', 'part'], ['l', 'k', 'n']
+    others, own, said_with = [LENDS], 2, 'Said n'
+    lends = 'the local l and the first n of the local k, lent for the lifetimes α and β under the names δ and ε'
+    lying = 'The node and twelve cards lie in locals; the node and the first so many cards are lent to'
+
+    def __init__(s, name, params, ret, answer, said, types, found):
+        super().__init__(name, [('cards', 'Cards'), ('count', 'usize'), *params], ret, answer, said, [CARD, *types], found)
+        s.types['Cards'], s.kind['part'] = CARDS, '&mut [Card]'
+
+    def plan(s):
+        return [('call', LENDS, 'n', 'en', 'n-is', None, None), *super().plan()]
+
+    def ty(s, kind):
+        return 'List Card' if kind == 'Cards' else super().ty(kind)
+
+    # ---- the cards in their local
+    def lies(s):
+        return super().lies() + [f'l{sub(int(s.counted[1:]))}', 'n']
+
+    def address(s, local, place):
+        if place[2] == 'lnil' and s.env['_' + place[1]][0] == 'Cards':
+            s.counted, s.env[local] = '_' + place[1], ('front', 'part', None)
+            s.e(f"assigns ! (addr ! {HERE_}) {HERE_} {s.write(local, '(tt, tt)')} $")
+        else:
+            super().address(local, place)
+
+    def make(s, local, parts, plan):
+        first = s.env['_' + parts[0][1][1]]
+        if first[:2] == ('front', 'part'):
+            reads = [s.load('_' + parts[0][1][1]), s.operand(parts[1])[0]]
+            s.e(f"assigns ! (agg ! {s.each(reads)}) {HERE_} {s.write(local, '(tt, (tt, (record { fits = n-is .1 }, tt)))')} $")
+            s.env[local] = ('slice', 'part', None)
+        elif first[0] == 'front':
+            super().make(local, parts, plan)
+        else:
+            got = [s.operand(x) for x in parts]
+            out = words(*(x for _, _, x, _ in got))
+            s.env[local] = (s.ret, f'(out {out})', f'(out-is {out} {words(*(is_ for *_, is_ in got))})')
+            s.e(f'assigns ! (agg ! {s.each([read for read, *_ in got])}) {HERE_} {s.write(local, s.typed(*s.env[local]))} $')
+
+    def lend(s, at):
+        super().lend(at)
+        s.e(f'{s.front([s.counted])}lent-cards ! tt count n en cards {s.lies()[1]} 0 cards-is (λ β ε.')
+        s.depth += 1
+        s.ctx = ['β', 'part', 'kept'] + s.ctx[1:]
+
+    def hear(s, at, got, local, r, e_, is_):
+        super().hear(at, got, local, r, e_, is_)
+        t = s.front(['β', 'kept', 'fin·part'])
+        s.e(f'{t}back-cards ! tt count n en cards (zs .1 .0) {s.lies()[1]} 0 cards-is part-len (λ left-is.')
+        s.depth += 1
+        s.ctx = [s.counted] + s.ctx[3:]
+        s.env[s.counted] = ('Cards', '(mended n (zs .1 .0) cards)', 'left-is')
+
+    def loans(s):
+        return [*super().loans(), ('RefT (List Card)', 'record { ptr = (k, 0); name = ε; now = take n cards }', 'sliceVal (k, 0) n', 'MutSlice (named 1) (β ∷ []) Ca.the-row')]
+
+    # ---- the end
+    def proof(s):
+        return words('exits n r (zs .0) (zs .1 .0)', *(s.last[p] for p in s.muts), 'en part-len e', *(s.lens[p] for p in s.muts), s.env['_0'][2])
+
+    def exits(s):
+        lists, arrows, lens = s.lists()
+        A, O, whole = s.ty(s.entry.ret), s.ret, '(mended n cards′ cards)'
+        ends, fits = s.at_last()
+        answer_is, result = f'Is {s.row(A)} r ({s.flat(A)} .val r ∷ [])', f'({s.flat(O)} .val (out r h′ {whole}))'
+        out_is, whole_is = (f'Is {s.row(O)} (out r h′ {c}) ({s.flat(O)} .val (out r h′ {c}) ∷ [])' for c in ('cards′', whole))
+        said = f"(lent-said (λ xs ys. {s.said.format('xs', 'ys')}) count n en cards cards′ cards-is len e)"
+        return [f'  -- what the entry ensures of its answer r, of the last node h′ and of what it left of the first n cards\n  abbrev Said : ℕ → {A} → Node → List Card{arrows} → Type 0\n'
+                f"  Said n r h′ cards′{s.zs} = {s.said.format('(take n cards)', 'cards′')}\n",
+                f'  abbrev out : {A} → Node → List Card → {O}\n  out r h′ cards′ = record {{ answer = r; node = h′; cards = cards′ }}\n',
+                f'  out-is : (r : {A}) (h′ : Node) (cards′ : List Card) → {answer_is} → Is T.the-row h′ (FT .val h′ ∷ []) → Is (F12 .row) cards′ (F12 .val cards′ ∷ []) → {out_is}\n'
+                '  out-is r h′ cards′ is node-is left-is = LL.owes O.the-type O′.the-laws (out r h′ cards′) (is, (node-is, (in-field Ca.the-type Ca′.the-laws Ca′.the-plain 12 cards′ _ left-is, tt)))\n',
+                s.left(),
+                f'  exits : (n : ℕ) (r : {A}) (h′ : Node) (cards′ : List Card){lists} → n ≡ least count → length cards′ ≡ length (take n cards) → Said n r h′ cards′{s.zs}{lens} → {whole_is} → ent 𝓤 (⋆ 𝓤 H A (Left{s.zs})) (Post {result})',
+                f"  exits n r h′ cards′{s.zs} en len e{''.join(f' {p}-len' for p in s.muts)} is =\n      qed W (Left{s.zs}) ∵ {s.ends_at(f'{result} (out r h′ {whole})', ends, fits, said)}\n"
+                f'      {s.regained(s.kept())}had ! {s.flat(O)} (out r h′ {whole}) is $ done !\n']
 
 
 class LocalShow(Local):
@@ -340,7 +479,7 @@ class LocalShow(Local):
         return s.part
 
     def hear(s, at, got, local, r, e_, is_):
-        ensured = f'(lasts c1.ended {s.its_ks()} (passed {at} δ) ws)'
+        ensured = f'(lasts c1.ended {s.its_ks()} ({s.passed_at()}) ws)'
         s.e(f'split ! $ move ! (1 ∷ []) $ use1 W (raw (fact 𝓤 (Said {r}))) (exE 𝓤 _ (λ ws. snd∗ 𝓤 (sem 𝓤 H A {ensured}) (fact 𝓤 (Said {r})))) $ heard ! (Said {r}) (λ {e_}. split ! $ move ! (1 ∷ []) $')
         s.e(f'peeks ! ({s.part}) (Is ({s.part})) (shows 𝓤 H A ({s.part})) {r} (v ∷ []) (λ {is_}.')
         s.depth += 2
@@ -372,10 +511,10 @@ def walks(found):
     made = []
     for name, params, answer, an_enum, said in FIVE:
         types = [Own(f'{answer}Out', 'carumpek', 'O', fields=[]), Type(f'{answer}Answer', 'rules', 'A1', variants=[] if an_enum else None)]
-        made.append(Local(name, params, f'{answer}Out', f'{answer}Answer', said, types, found[f'local::{name}']))
+        made.append((Counted if '{}' in said else Local)(name, params, f'{answer}Out', f'{answer}Answer', said, types, found[f'local::{name}']))
     made.append(LocalShow('show', SHOW, '&[u8]', '&[u8]', SHOWN, [Type('Choice', 'rules', 'Ch', variants=[])], found['local::show']))
     for w in made:
-        w.uses = USES.format(promise=w.said.split()[0]) + (SHOW_USES if w.how == 'shr' else '')
+        w.uses = USES.format(promise=w.said.split()[0]) + (SHOW_USES if w.how == 'shr' else COUNTED_USES if w.others else '')
         w.begin()
-        follow(w, mir.statements(w.body), [('call', w.entry, 'r', 'e', 'is', None, None), ('return', w.proof)], w.used_lines)
+        follow(w, mir.statements(w.body), w.plan(), w.used_lines)
         yield pathlib.Path('crates/carumpek/proofs/local') / w.name / 'Proof.antt', w.text()

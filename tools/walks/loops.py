@@ -5,7 +5,7 @@ In its invariant the borrow stays open: the node, and each local that lives from
 import layout
 import steps
 from mir import items, statements
-from steps import HERE_, chain, sub
+from steps import HERE_, chain, is_slice, nest, proj, sub
 
 USES = '''use mathlib.Core.WellFounded.{WellFounded}
 use lib.Dec.{ltb→lt}
@@ -59,22 +59,117 @@ TURNS = '''    -- how far the loop is, and that what there is by then has its ty
 class Loop:
     """What a plan says of a loop. `counter` is its local; `node` gives the node after i turns; `kept` gives, of each other local that
     lives from turn to turn, its kind and its value after i turns. `start` is the first i and that it is at most 10; `first` says why the
-    node (None: by definition) and each kept local are so at the start, and `more` why they are so after one more turn. `turn` is the
-    plan of a turn, with the source line of the loop's test first."""
+    node (None: by definition), each kept local and each slice are so at the start. `turn` is the plan of a turn, with the source line of
+    the loop's test first; it ends with ('more', why they are so after one more turn), in each arm where it branches. `slices` gives, of each
+    `&mut` slice, what it is after i turns, and that it is as long as at first."""
 
-    def __init__(s, counter, node, kept, start, first, turn, more):
-        s.counter, s.node, s.kept, s.start, s.first, s.turn, s.more = counter, node, kept, start, first, turn, more
+    def __init__(s, counter, node, kept, start, first, turn, slices=None):
+        s.counter, s.node, s.kept, s.start, s.first, s.turn, s.slices = counter, node, kept, start, first, turn, slices or {}
 
 
 class Walk(steps.Walk):
     def __init__(s, *words, **more):
         super().__init__(*words, **more)
-        s.array = {}
+        s.array, s.lists = {}, {}
 
     def fork(s):
         other = super().fork()
-        other.array = dict(s.array)
+        other.array, other.lists = dict(s.array), dict(s.lists)
         return other
+
+    # ---- a slice that is lent on more than once: what it is now, and that it is as long as at first
+    def slice_at(s, p, name, now):
+        return f'(at·{p} ({name}) {now})'
+
+    def held(s, p):
+        return s.slice_at(p, f'{p} .name', s.lists[p][0]) if p in s.lists else p
+
+    def owned(s, p, lifetime, name, now, count):
+        return f'‵ (MutSlice (named {s.lt[p]}) {lifetime} {s.each_row(p)} .own {s.slice_at(p, name, now)} (sliceVal ({p} .ptr) ({count}) ∷ []))'
+
+    def lists_at(s, p, now, length):
+        s.lists[p] = (now, length)
+        s.last[p], s.lens[p] = now, length
+
+    def call_plain(s, c, got, local, r, e_, is_, within):
+        again = [g[2] for g in got if is_slice(g[1]) and g[2] in s.lists]
+        if not again:
+            super().call_plain(c, got, local, r, e_, is_, within)
+            return
+        p, = again
+        n, (now, length) = s.fresh(), s.lists[p]
+        s.lend_on(p, n, now, length)
+        s.call_again(c, p, n, got, local, r, e_, is_, within)
+        s.had_back(p, n, now, length)
+
+    def borrow(s, p):
+        return f'{s.each_row(p)} κ{s.lt[p]} (ν{{n}} ∷ []) q{s.lt[p]} ({p} .name) ({p} .ptr .0) ({p} .ptr .1)'
+
+    def lend_on(s, p, n, now, length):
+        """A lifetime is made for the call, and the slice lent for it."""
+        s.e(f'lft-new ! tt (λ ν{n}.')
+        s.depth += 1
+        s.ctx = ['ltok'] + s.ctx
+        t = s.front([p, f'tok{s.lt[p]}'])
+        own, again = (lambda m: s.owned(p, f'(ν{n} ∷ [])', f'δ{n}', now, m)), f'‵ (LentAgain {s.borrow(p).format(n=n)} δ{n} {now})'
+        s.e(f"{t}rewrite ! 0 (λ (m : ℕ). {s.owned(p, f'κ{s.lt[p]}', f'{p} .name', now, 'm')}) (sym {length}) refl $")
+        s.e(f"use2 W (later (some (λ (δ{n} : GName). {own(f'length {now}')} ⊛ {again}))) (lends-again {s.borrow(p).format(n=n)} 𝓤 H A W (named {s.lt[p]}) (named {s.lt[p]}) {now}) $ await ! tt $ pick ! (λ δ{n}. split ! $")
+        s.depth += 1
+        s.e(f"rewrite ! 0 (λ (m : ℕ). {own('m')}) {length} refl $")
+        s.ctx = [p, 'again'] + s.ctx[2:]
+
+    def call_again(s, c, p, n, got, local, r, e_, is_, within):
+        v, zs, now = f'v{n}', f'zs{n}', s.lists[p][0]
+        rec = s.slice_at(p, f'δ{n}', now)
+        plain = [g for g in got if not is_slice(g[1])]
+        kap, passing = nest([f'ν{n} ∷ []']), nest(rec if is_slice(g[1]) else g[2] for g in got)
+        vals = [f'{p}·v ∷ []' if is_slice(g[1]) else f'{s.flat(g[1])} .val {g[2]} ∷ []' for g in got]
+        ghost = f'(({kap}, {nest(["fullShare"])}, tt, {passing}, {nest(vals)}), tt)'
+        words = [f'ν{n}', f'δ{n}', now] + [g[2] for g in plain] + [g[3] for g in plain] + ([within] if c.asks else [])
+        t = s.front(['ltok', p])
+        given = [f'‵ (flft (ν{n} ∷ []) fullShare)', s.owned(p, f'(ν{n} ∷ [])', f'δ{n}', now, f'length ({p} .now)')]
+        pre = f'(raw ({c.tag.upper()} 𝓤 H A at-mem run .pre {ghost}))'
+        s.e(f'{t}uses W ({chain(given)}) {pre} (goes-{c.tag} {" ".join(words)}) $')
+        s.ctx = s.ctx[2:]
+        s.e(f'calls-at ! fm ({c.tag.upper()} 𝓤 H A at-mem run) known-{c.tag} {ghost} {s.each([g[0] for g in s.under()])} (λ {v}.')
+        s.e(f'use1 W (later (some (λ ({r} : {s.ty(c.ret)}). ((‵ (flft (ν{n} ∷ []) fullShare) ⊛ ‵ ftrue) ⊛ ‵ ({s.row(c.ret)} .own {r} ({v} ∷ []))) ⊛ raw (ensured 𝓤 H A {c.tag}.ended ({c.tag}.clauses 𝓤 H A at-mem run) {kap} {passing} tt {r})))) (id⊢ 𝓤 _) $ await ! tt $ pick ! (λ {r}.')
+        s.depth += 2
+        muts = {g[2]: f'({zs}{proj(j)})' for j, g in enumerate(got) if g[1].startswith('&mut')}
+        said = c.said(r, None, muts, None, [rec if is_slice(g[1]) else g[2] for g in got])
+        s.told(c, r, v, e_, is_, said, kap, passing, zs, got, muts)
+        s.e(f'land ! {HERE_} {s.write(local, s.typed(c.ret, r, is_))} $')
+        s.tokens(['ltok'])
+
+    def had_back(s, p, n, now, length):
+        """The lifetime is over, and the slice is had back at its last list."""
+        last = f'(zs{n} .0)'
+        t = s.front(['ltok'])
+        s.e(f'{t}lft-end ! tt $')
+        t = s.front(['ltok', 'again', 'fin·' + p])
+        own = (lambda m: s.owned(p, f'κ{s.lt[p]}', f'{p} .name', last, m))
+        s.e(f"{t}use3 W (later ({own(f'length {now}')} ⊛ ‵ (flft κ{s.lt[p]} q{s.lt[p]}))) (comes-back {s.borrow(p).format(n=n)} 𝓤 H A W (named {s.lt[p]}) (named {s.lt[p]}) {now} δ{n} {last} "
+            f"(subst (Room {s.each_row(p)}) (sym {length}) ({p}-is .0 .1)) {p}-len) $ await ! tt $ split ! $ rewrite ! 0 (λ (m : ℕ). {own('m')}) {length} refl $")
+        s.ctx = [p, f'tok{s.lt[p]}'] + s.ctx[3:]
+        s.lists_at(p, last, f'({p}-len ∙ {length})')
+
+    def goes(s, c):
+        """What a callee asks that is lent a slice on: for any lifetime, name and list."""
+        if not c.again:
+            return super().goes(c)
+        p = next(k.split(':')[1] for k in c.params if is_slice(k))
+        names = [s.slice_at(p, 'δ', 'ys') if is_slice(k) else f'a{sub(i)}' for i, k in enumerate(c.params)]
+        plain = [(a, k) for a, k in zip(names, c.params) if not is_slice(k)]
+        binders = f' (ν : ℕ) (δ : GName) (ys : {s.list_of(p)})' + ''.join(f' ({a} : {s.ty(k)})' for a, k in plain) + ''.join(f' ({a}-is : Is {s.row(k)} {a} ({s.flat(k)} .val {a} ∷ []))' for a, k in plain)
+        asks = ' → ' + c.asks(names) if c.asks else ''
+        words = ['ν', 'δ', 'ys'] + [a for a, _ in plain] + [a + '-is' for a, _ in plain] + (['rq'] if c.asks else [])
+        vals = [f'{p}·v ∷ []' if is_slice(k) else f'{s.flat(k)} .val {a} ∷ []' for a, k in zip(names, c.params)]
+        given = f"(‵ (flft (ν ∷ []) fullShare) ∷ {s.owned(p, '(ν ∷ [])', 'δ', 'ys', f'length ({p} .now)')} ∷ [])"
+        ghost = f'((({nest(["ν ∷ []"])}), {nest(["fullShare"])}, tt, {nest(names)}, {nest(vals)}), tt)'
+        has = ''.join(f'had ! {s.flat(k)} {a} {a}-is $ fjoin ! $ ' for a, k in reversed(plain))
+        says = 'says ! rq $ nothing ! $ ' if c.asks else 'nothing ! $ '
+        end = 'done !' if c.asks else 'nothing ! $ move ! (1 ∷ 0 ∷ []) $ join ! $ done !'
+        return (f'  goes-{c.tag} :{binders}{asks} → ent 𝓤 (⋆ 𝓤 H A {given}) ({c.tag.upper()} 𝓤 H A at-mem run .pre {ghost})\n'
+                f'  goes-{c.tag} {" ".join(words)} = qed W {given} ∵ {says}{has}move ! (2 ∷ 0 ∷ []) $ fjoin ! $ nothing ! $ move ! (2 ∷ 0 ∷ []) $ join ! $ move ! (0 ∷ 1 ∷ []) $ join ! $ {end}\n')
 
     def operand(s, term):
         return ('(unit-lit !)', 'unit', 'tt', 'refl') if term == 'unit' else super().operand(term)
@@ -147,11 +242,12 @@ class Walk(steps.Walk):
         good = s.becomes(loop, loop.first)
         s.empty(loop)
         cells = ' '.join(s.cell(l) for l in s.all_locals())
-        s.e(f"keep ! ({chain(str(s.p(l)) for l in s.start())}) $ first ! $ blocks ! $ loops ! 𝓣 Nearer Nearer-wf (At was {cells}) (turns was {cells}) ({', '.join([*loop.start, *good])})")
+        s.e(f"keep ! ({chain(str(s.p(l)) for l in s.start(loop))}) $ first ! $ blocks ! $ loops ! 𝓣 Nearer Nearer-wf (At was {cells}) (turns was {cells}) ({', '.join([*loop.start, *good])})")
 
     def becomes(s, loop, why):
         """The node and the kept locals are written as the loop has them, and why; gives that they have their types."""
-        node_is, *kept_are = why
+        node_is, *are = why
+        kept_are, lists_are = are[:len(loop.kept)], are[len(loop.kept):]
         good = [s.was]
         if node_is:
             s.e(f"rewrite ! {s.p('cell')} (λ (g : Node). ‵ (fat fullShare T′.mir b o (FT .val g))) ({node_is}) refl $")
@@ -160,12 +256,16 @@ class Walk(steps.Walk):
             t, F = s.types[kind], s.flat(kind)
             s.e(f"rewrite ! {s.p(local)} (λ (y : {kind}). ‵ (fat fullShare {t.alias}′.mir {s.cell(local)} 0 ({F} .val y))) ({same}) refl $")
             good.append(f'subst (λ (y : {kind}). Is {s.row(kind)} y ({F} .val y ∷ [])) ({same}) {s.env[local][2]}')
+        for p, same in zip(loop.slices, lists_are):
+            s.e(f"rewrite ! {s.p(p)} (λ (ys : {s.list_of(p)}). {s.owned(p, f'κ{s.lt[p]}', f'{p} .name', 'ys', f'length ({p} .now)')}) ({same}) refl $")
         return good
 
     def turns_of(s, loop, turn, at, rest, plan):
         """One turn after i of them: the test, then the body and the next turn, or what follows the loop."""
         t = s.fork()
-        t.ctx, t.full, t.indent = s.start(), s.live(loop), 8
+        t.ctx, t.full, t.indent = s.start(loop), s.live(loop), 8
+        for p, (value, length) in loop.slices.items():
+            t.lists_at(p, f'({value("(i .0)")})', f'({length("(i .0)")})')
         t.node, t.was = f'({loop.node("(i .0)")})', '(i .2)'
         t.env[loop.counter] = ('usize', '(i .0)', '(refl, fits i)')
         t.inside[loop.counter] = BELOW
@@ -176,7 +276,8 @@ class Walk(steps.Walk):
         more, over = t.fork(), t.fork()
         more.e('(λ less. skips ! $ exec ! C Λ En (rest-of (rest-of body.turn-1)) (anyQ (Turned i)) $')
         more.depth += 1
-        more.run(turn[2:], loop.turn[1:], within=True, then=lambda w, _: w.once_more(loop), base=2)
+        more.place, more.after = 'body.turn-1', '(anyQ (Turned i))'
+        more.run(turn[2:], list(loop.turn[1:]), within=True, then=lambda w, plan: w.once_more(loop, plan.pop(0)[1]), base=2)
         t.take(more, '')
         over.e(f'(λ over. jumps ! $ exec ! C Λ En body.t-{at + 2} (atRet En Post) $')
         over.depth += 1
@@ -184,11 +285,11 @@ class Walk(steps.Walk):
         t.take(over, '')
         s.turns = s.turns_text(loop, at, t.lines)
 
-    def once_more(s, loop):
-        good = s.becomes(loop, loop.more)
+    def once_more(s, loop, why):
+        good = s.becomes(loop, why)
         s.empty(loop)
         following = ', '.join(['i .0 + 1', f'add-one-le {BELOW}'] + good)
-        s.e(f"keep ! ({chain(str(s.p(l)) for l in s.start())}) $ again ! Nearer At i ({following}) (add-one-dec 10 (i .0) {BELOW})")
+        s.e(f"keep ! ({chain(str(s.p(l)) for l in s.start(loop))}) $ again ! Nearer At i ({following}) (add-one-dec 10 (i .0) {BELOW})")
 
     def empty(s, loop):
         """The locals that do not live from turn to turn hold nothing."""
@@ -200,8 +301,8 @@ class Walk(steps.Walk):
     def all_locals(s):
         return [f'_{i}' for i in range(s.locals)]
 
-    def start(s):
-        return sum([[l, l + '†'] for l in reversed(s.all_locals())], []) + BORROW
+    def start(s, loop):
+        return sum([[l, l + '†'] for l in reversed(s.all_locals())], []) + BORROW + sum([[p, f'tok{s.lt[p]}'] for p in loop.slices], [])
 
     def live(s, loop):
         return {'_1', loop.counter} | {f'_{j + 2}' for j in range(len(s.params))} | set(loop.kept)
@@ -215,6 +316,8 @@ class Walk(steps.Walk):
             held += [f'‵ (fat fullShare {ty} {l} 0 ({values[local]}))' if local in values else f'‵ (froom {ty} {l} 0)', f'‵ (fdies {ty} {l})']
         held += [f'‵ (fat fullShare T′.mir b o (FT .val ({loop.node("(i .0)")})))', '‵ (fobor κ q (Body (mem T.the-row) b o γ))',
                  '‵ (fobs γ (T.the-row .coded .code h))', '‵ (fauth γ (T.the-row .coded .code h))']
+        for p, (value, _) in loop.slices.items():
+            held += [s.owned(p, f'κ{s.lt[p]}', f'{p} .name', f'({value("(i .0)")})', f'length ({p} .now)'), f'‵ (flft κ{s.lt[p]} q{s.lt[p]})']
         good = [f'Good ({loop.node("i")})'] + [f'Is {s.row(kind)} ({value("i")}) ({s.flat(kind)} .val ({value("i")}) ∷ [])' for kind, value in loop.kept.values()]
         cells = [s.cell(l) for l in s.all_locals()]
         return TURNS.format(good=' × '.join(good), cells=' '.join(cells), env=chain(cells), items=chain(held), tail=f't-{at + 2}', lines='\n'.join(lines))

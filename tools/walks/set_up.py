@@ -22,8 +22,8 @@ CLEAR = Callee('berths', 'clear', 'mut', [], 'unit', lambda r, z, zs, h, vs: f'{
 
 def clear():
     ten = '(ten-length h was)'
-    turn = [('source', 'while i < 10 {'), ('source', 'node.berths[i] = Berth::fresh();'), ('call', FRESH, 'f·', 'e·', 'f-is', None, None), ('later', 4, 'i += 1;'), NEXT]
-    loop = Loop('_2', lambda i: f'clearTo h {i}', {}, ('0', 'zero-le'), (None,), turn, (f'clears h {ten} (i .0) {BELOW} e·',))
+    turn = [('source', 'while i < 10 {'), ('source', 'node.berths[i] = Berth::fresh();'), ('call', FRESH, 'f·', 'e·', 'f-is', None, None), ('later', 4, 'i += 1;'), NEXT, ('more', (f'clears h {ten} (i .0) {BELOW} e·',))]
+    loop = Loop('_2', lambda i: f'clearTo h {i}', {}, ('0', 'zero-le'), (None,), turn)
     return [('source', 'let mut i: usize = 0;'), ('loop', loop), ('return', f'cleared h {ten} (i .0) over')]
 
 

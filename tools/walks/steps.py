@@ -90,6 +90,11 @@ def is_slice(kind):
     return kind.startswith('&')
 
 
+def element(kind):
+    """What a slice is of."""
+    return re.search(r'\[(\w+)\]', kind).group(1)
+
+
 class Type:
     """A declared type: the crate it stands in, how a walk names it, and its fields (of a struct) or variants (of an enum)."""
 
@@ -111,10 +116,11 @@ class Type:
 
 class Callee:
     """A function that is called. `ref` is None, 'shr' or 'mut' (the node is its first parameter); params are kinds; `said` gives what
-    it ensures from its result, the node and the slices after it, the node before it and its arguments; `asks` its `requires`."""
+    it ensures from its result, the node and the slices after it, the node before it and its arguments; `asks` its `requires`; `again`: its
+    slice is lent on to it more than once."""
 
-    def __init__(s, home, path, ref, params, ret, said, asks=None):
-        s.home, s.path, s.ref, s.params, s.ret, s.said, s.asks = home, path, ref, params, ret, said, asks
+    def __init__(s, home, path, ref, params, ret, said, asks=None, again=False):
+        s.home, s.path, s.ref, s.params, s.ret, s.said, s.asks, s.again = home, path, ref, params, ret, said, asks, again
 
     def module(s, own):
         base = f'Rattle.{own}.proofs.' if s.home == own else f'Rattle.{s.home}.proofs.'
@@ -148,6 +154,14 @@ class Walk:
             c.tag = f'c{i + 1}'
 
     # ---- kinds
+    def each_row(s, p):
+        """The row of an element of a slice, and the type of the list that the slice is."""
+        kind = element(s.kind[p])
+        return kind if kind in WIDTH else f'{s.types[kind].alias}.the-row'
+
+    def list_of(s, p):
+        return f'List {s.ty(element(s.kind[p]))}' if element(s.kind[p]) in WIDTH else f'List {element(s.kind[p])}'
+
     def flat(s, kind):
         if kind in WIDTH:
             return f'(uint {WIDTH[kind]})'
@@ -433,6 +447,10 @@ class Walk:
         if inside:
             s.inside[local] = inside
 
+    def held(s, p):
+        """A slice of its own as it is now."""
+        return p
+
     def slice_of(s, arg):
         return arg[0] == 'copy' and not items(arg[1][2]) and s.env.get('_' + arg[1][1], ('',))[0] == 'slice'
 
@@ -567,7 +585,7 @@ class Walk:
 
     def twice(s, p):
         t = s.front([p + '·kept'])
-        s.e(f'{t}use1 W (‵ {p}·own ⊛ ‵ {p}·own) (shr-slice-copy 𝓤 H A W (named {s.lt[p]}) κ{s.lt[p]} u8 .twice {p} ({p}·v ∷ [])) $ split ! $')
+        s.e(f'{t}use1 W (‵ {p}·own ⊛ ‵ {p}·own) (shr-slice-copy 𝓤 H A W (named {s.lt[p]}) κ{s.lt[p]} {s.each_row(p)} .twice {p} ({p}·v ∷ [])) $ split ! $')
         s.ctx = [p, p + '·kept'] + s.ctx[1:]
 
     # ---- branches
@@ -645,7 +663,7 @@ class Walk:
         for p in s.muts:
             if 'fin·' + p not in s.ctx:                    # never passed on: given up as it came
                 t = s.front([p])
-                s.e(f'{t}given-up ! u8 {p} ({p}·v ∷ []) $')
+                s.e(f'{t}given-up ! {s.each_row(p)} {s.held(p)} ({p}·v ∷ []) $')
                 s.ctx = ['fin·' + p] + s.ctx[1:]
         kind, x, is_ = s.env['_0']
         t = s.front(['cell', 'obor', 'obs', 'auth'])
@@ -669,7 +687,7 @@ class Walk:
 
     # ---- the start
     def slice_type(s, p):
-        return f"{'MutSlice' if p in s.muts else 'ShrSlice'} (named {s.lt[p]}) κ{s.lt[p]} u8"
+        return f"{'MutSlice' if p in s.muts else 'ShrSlice'} (named {s.lt[p]}) κ{s.lt[p]} {s.each_row(p)}"
 
     def values(s):
         return [f'{p}·v' if is_slice(k) else f'{s.flat(k)} .val {p}' for p, k in s.params]
@@ -710,7 +728,7 @@ class Walk:
             local = f'_{j + 2}'
             if is_slice(k):
                 law = 'mut' if p in s.muts else 'shr'
-                t += f'pass1 ! {s.write(local, f"({law}-slice-lawful 𝓤 H A W (named {s.lt[p]}) κ{s.lt[p]} u8 .typed {p} ({p}·v ∷ []) {p}-is .0)")} $ '
+                t += f'pass1 ! {s.write(local, f"({law}-slice-lawful 𝓤 H A W (named {s.lt[p]}) κ{s.lt[p]} {s.each_row(p)} .typed {p} ({p}·v ∷ []) {p}-is .0)")} $ '
                 s.env[local] = ('slice', p, None)
             else:
                 t += f'pass1 ! {s.write(local, s.typed(k, p, p + "-is"))} $ '
@@ -768,14 +786,14 @@ class Walk:
     # ---- the file
     def exits(s):
         R, F = s.ty(s.ret), s.flat(s.ret)
-        zt = ''.join(' → List ℕ' for _ in s.muts)
+        zt = ''.join(f' → {s.list_of(p)}' for p in s.muts)
         zn = ''.join(f' {p}′' for p in s.muts)
-        zb = ''.join(f' ({p}′ : List ℕ)' for p in s.muts)
+        zb = ''.join(f' ({p}′ : {s.list_of(p)})' for p in s.muts)
         y = f'(({nest(s.ks)}, {nest(s.qs)}, tt, x, at), tt)'
         out = [f'  abbrev Post : Val → SProp 𝓤\n  Post = walkOf 𝓤 H A self.ended stayed (self.clauses 𝓤 H A at-mem run) .post {y}\n',
                f'  abbrev Ensured : {R} → Node{zt} → Type 0\n  Ensured r h′{zn} = {s.said}\n']
         left = (['‵ (fobs γ (T.the-row .coded .code h′))', '‵ (fbor κ (Body (mem T.the-row) b o γ))'] + [f'‵ (flft {k} {q})' for k, q in zip(s.ks, s.qs)]
-                + [f'‵ (finally u8 ({p} .name) {p}′)' for p in s.muts] + [f'‵ {p}·own' for p in s.shrs])
+                + [f'‵ (finally {s.each_row(p)} ({p} .name) {p}′)' for p in s.muts] + [f'‵ {p}·own' for p in s.shrs])
         out.append(f'  abbrev Left : Node{zt} → List (Item 𝓤)\n  Left h′{zn} = {chain(left)}\n')
         x = s.fork()
         x.ctx = ['obs', 'bor'] + s.tk + ['fin·' + p for p in s.muts] + s.shrs
@@ -814,18 +832,20 @@ class Walk:
         o.append(f'use {own}.Key.{{name as #self}}\nuse {own} as self\nuse {own}.Statement as stated\nuse {own}.Code as code\nuse {own}.Code.Mir as body\n')
         o += [t.defines() for t in declared]
         stays = ['stay-ref (0 ∷ []) tt (plain (λ _. T.the-row))'] + [
-            (f'gave-slice ({s.lt[p]} ∷ []) tt (plain (λ _. u8))' if p in s.muts else f'stay-none-slice ({s.lt[p]} ∷ []) tt (plain (λ _. u8)) yes') if is_slice(k)
+            (f'gave-slice ({s.lt[p]} ∷ []) tt (plain (λ _. {s.each_row(p)}))' if p in s.muts else f'stay-none-slice ({s.lt[p]} ∷ []) tt (plain (λ _. {s.each_row(p)})) yes') if is_slice(k)
             else f'stay-none (λ _. {s.row(k)}) yes' for p, k in P]
         o.append(f'abbrev stayed : Stays (self.ended .signature .params) (self.ended .kept)\nstayed = {nest(stays)}\n')
         for c in s.callees:
             o.append(f'abbrev {c.tag.upper()} : {COM} (at-mem : Memory → SProp 𝓤) (run : Routine → Fun 𝓤) → Contract 𝓤\n{c.tag.upper()} 𝓤 H A at-mem run = tripleOf 𝓤 H A {c.tag}.signature ({c.tag}.spec 𝓤 H A at-mem run)\n')
         if s.defs:
             o.append(s.defs.rstrip() + '\n')
-        tys = ['RefT (List ℕ)' if is_slice(k) else s.ty(k) for _, k in P]
+        tys = [f'RefT ({s.list_of(p)})' if is_slice(k) else s.ty(k) for p, k in P]
         iss = ' '.join(f'({p}-is : Is ({s.slice_type(p)}) {p} (sliceVal ({p} .ptr) (length ({p} .now)) ∷ []))' if is_slice(k) else f'({p}-is : Is {s.row(k)} {p} ({s.flat(k)} .val {p} ∷ []))' for p, k in P)
         asked = f' (within : {s.requires})' if s.requires else ''
         o.append(f"module _ {COM} (W : Given 𝓤 H A) (at-mem : Memory → SProp 𝓤) (run : Routine → Fun 𝓤) ({' '.join(s.ks)} : Lft) ({' '.join(s.qs)} : Share) (b o : ℕ) (γ : GName) (h : Node) {' '.join(f'({p} : {t})' for (p, _), t in zip(P, tys))} {iss}{asked} where")
         o.append(f"  abbrev x : {nested(['RefT Node'] + tys)}\n  x = {nest(['record { ptr = (b, o); name = γ; now = h }'] + [p for p, _ in P])}\n")
+        for p in s.muts if any(c.again for c in s.callees) else ():
+            o.append(f'  -- the slice under another name, and with another list\n  abbrev at·{p} : GName → {s.list_of(p)} → RefT ({s.list_of(p)})\n  at·{p} name now = record {{ ptr = {p} .ptr; name = name; now = now }}\n')
         for p in s.slices:
             o.append(f'  abbrev {p}·v : Val\n  {p}·v = sliceVal ({p} .ptr) (length ({p} .now))\n\n  abbrev {p}·own : Fml\n  {p}·own = {s.slice_type(p)} .own {p} ({p}·v ∷ [])\n')
         o.append(f"  abbrev at : {nested(['List Val'] * (1 + len(P)))}\n  at = {nest(['vptr b o ∷ []'] + [v + ' ∷ []' for v in s.values()])}\n")
@@ -842,7 +862,7 @@ class Walk:
         o.append(f'\nmodule _ {COM} (W : Given 𝓤 H A) (at-mem : Memory → SProp 𝓤) (run : Routine → Fun 𝓤) where')
         o.append(f'  walks : (𝓣 : Tables 𝓤 H) → FmC 𝓤 H (W .laws) (𝓣 .C){knT} → Walks 𝓤 H A self.ended stayed (WpFn 𝓤 H (𝓣 .C) (𝓣 .Λ) code.function) (self.clauses 𝓤 H A at-mem run)')
         vals = nest(['ptr-vals'] + ['slice-vals' if is_slice(k) else f'λ y. {s.flat(k)} .val y ∷ []' for _, k in P])
-        tells = nest(['mut-tells (named 0) (κs .0) T.the-row'] + [f"{'mut' if p in s.muts else 'shr'}-slice-tells (named {s.lt[p]}) (κs{proj(s.lt[p])}) u8" if is_slice(k) else f'{s.flat(k)} .tells' for p, k in P])
+        tells = nest(['mut-tells (named 0) (κs .0) T.the-row'] + [f"{'mut' if p in s.muts else 'shr'}-slice-tells (named {s.lt[p]}) (κs{proj(s.lt[p])}) {s.each_row(p)}" if is_slice(k) else f'{s.flat(k)} .tells' for p, k in P])
         o.append(f'  walks 𝓣 fm{knN} = walked 𝓤 H A self.ended stayed (self.clauses 𝓤 H A at-mem run) (WpFn 𝓤 H (𝓣 .C) (𝓣 .Λ) code.function) (λ κs. {vals}) (λ κs. {tells})')
         n = len(s.ks)
         words = ([f'(κs{proj(i)})' for i in range(n)] + [f'(qs{proj(i)})' for i in range(n)] + ['(a .0 .ptr .0)', '(a .0 .ptr .1)', '(a .0 .name)', '(a .0 .now)']
@@ -853,7 +873,7 @@ class Walk:
         else:
             o.append(f'      (λ κs qs bounds a _ are. via 𝓤 _ (fst∗ 𝓤 _ (emp 𝓤)) ({call}))')
         goes = nest([f'goes-ref 𝓤 H A W {n} 0 tt (plain (λ _. T.the-row))'] + [
-            (f'goes-gave-slice 𝓤 H A W {n} {s.lt[p]} tt (plain (λ _. u8))' if p in s.muts else f'goes-none-slice 𝓤 H A W {n} ({s.lt[p]} ∷ []) tt (plain (λ _. u8)) yes') if is_slice(k)
+            (f'goes-gave-slice 𝓤 H A W {n} {s.lt[p]} tt (plain (λ _. {s.each_row(p)}))' if p in s.muts else f'goes-none-slice 𝓤 H A W {n} ({s.lt[p]} ∷ []) tt (plain (λ _. {s.each_row(p)})) yes') if is_slice(k)
             else f'goes-none 𝓤 H A W {n} (λ _. {s.row(k)}) yes (λ κs x f. refl)' for p, k in P])
         o.append(f'\nmeets : {COM} → Given 𝓤 H A → (at-mem : Memory → SProp 𝓤) (run : Routine → Fun 𝓤) (𝓣 : Tables 𝓤 H){knT} → Meets 𝓤 H A self.signature (WpFn 𝓤 H (𝓣 .C) (𝓣 .Λ) code.function) (self.spec 𝓤 H A at-mem run)')
         o.append(f'meets 𝓤 H A W at-mem run 𝓣{knN} = walk-meets 𝓤 H A self.ended stayed W {goes} (self.clauses 𝓤 H A at-mem run) (WpFn 𝓤 H (𝓣 .C) (𝓣 .Λ) code.function) (WpFn-mono 𝓤 H (W .laws) 𝓣 code.function)\n    (walks 𝓤 H A W at-mem run 𝓣 (fmOf 𝓤 H (W .laws) 𝓣){knN})')
@@ -864,7 +884,7 @@ class Walk:
         return '\n'.join(o) + '\n'
 
     def used(s, t):
-        words = ' '.join(s.lines) + s.said + ' '.join(s.ty(c.ret) + ' ' + ' '.join(c.params) for c in s.callees) + s.ret
+        words = ' '.join(s.lines) + s.said + ' '.join(s.ty(c.ret) + ' ' + ' '.join(c.params) for c in s.callees) + s.ret + ' '.join(k for _, k in s.params)
         return t.name in words or f'F·{t.alias} ' in words or f'{t.alias}.the-type' in words
 
     def asked(s):

@@ -1,4 +1,5 @@
 """The plans of the tick's walks (crates/berths/src/ticks.rt)."""
+import cards
 from loops import BELOW, CODES_USES, NEXT, Loop, USES as LOOP_USES
 from steps import Callee
 
@@ -14,7 +15,15 @@ use Rattle.rules.specs.Ticks.{codesOf, ticked}
 use Rattle.rules.specs.Nodes.{withBerths, withBerth}
 use Rattle.berth.specs.Idle.{idle}
 use Rattle.node.specs.Promises.{tenZeros}
-use Rattle.berths.proofs.EachTick.{tickedTo, codesTo, starts-node, starts-answer, steps-node, steps-answer, ends-node, ends-answer}
+use types.Kit.{use2, use3}
+use types.Tokens.{lft-new, lft-end}
+use denote.Slice.{Room}
+use Rattle.rules.specs.Cards.{addedAt, tickedCards}
+use Rattle.cards.specs.Counting.{endAdds}
+use Rattle.looks.proofs.Again.{LentAgain, lends-again, comes-back}
+use Rattle.berths.specs.Ticks.{endsOf, anyEnd, endCodes}
+use Rattle.berths.proofs.CardTick.{cardsTo, starts-cards, cards-length}
+use Rattle.berths.proofs.EachTick.{tickedTo, codesTo, starts-node, starts-answer, steps-node, ended-codes, quiet-answer, ended-cards, quiet-cards, ends-node, ends-answer, last-cards}
 '''
 
 
@@ -66,7 +75,7 @@ def consecutive():
 
 # function, variant, the fields before the timer with their kinds, the code
 STATES = {
-    'Rx': [('owes_overflow', 'OwesOverflow', [], 2), ('owes_go', 'OwesGo', [('p·', 'Taking')], 2), ('awaits', 'Awaits', [('p·', 'Taking')], 4)],
+    'Rx': [('owes_overflow', 'OwesOverflow', [], 1), ('owes_go', 'OwesGo', [('p·', 'Taking')], 2), ('awaits', 'Awaits', [('p·', 'Taking')], 4)],
     'Tx': [('single_due', 'SingleDue', [('n·', 'u32')], 2), ('first_due', 'FirstDue', [('n·', 'u32')], 2), ('awaits_flow', 'AwaitsFlow', [('o·', 'Sending')], 3),
            ('consecutive', 'Consecutive', [('o·', 'Sending')], 2)],
 }
@@ -87,31 +96,46 @@ def side(kind, states):
 
 RECEIVE = Callee('berths', 'ticks::receive', 'mut', ['usize'], 'u8', lambda r, z, zs, h, vs: f'ReceiveTicked {h} {vs[0]} {r} {z}', asks=lambda ps: f'{ps[0]} < berthCount')
 SEND = Callee('berths', 'ticks::send', 'mut', ['usize'], 'u8', lambda r, z, zs, h, vs: f'SendTicked {h} {vs[0]} {r} {z}', asks=lambda ps: f'{ps[0]} < berthCount')
-CODES = Callee('berths', 'ticks::codes', None, ['u8', 'u8'], 'Codes', lambda r, z, zs, h, vs: f'{r} ≡ record {{ receive = {vs[0]}; send = {vs[1]} }}')
+ENDS = Callee('berths', 'ticks::both_ends', None, ['u8', 'u8'], 'Ends', lambda r, z, zs, h, vs: f'{r} ≡ record {{ receive = {vs[0]}; send = {vs[1]} }}')
+ANY = Callee('berths', 'ticks::any', None, ['Ends'], 'bool', lambda r, z, zs, h, vs: f'{r} ≡ anyEnd {vs[0]}')
+CODES = Callee('berths', 'ticks::codes', None, ['Ends'], 'Codes', lambda r, z, zs, h, vs: f'{r} ≡ endCodes {vs[0]}')
+ADDS = Callee('berths', 'ticks::adds', None, ['Ends'], 'Adds', lambda r, z, zs, h, vs: f'{r} ≡ endAdds ({vs[0]} .receive) ({vs[0]} .send)')
 
 
 def at():
     done = '(both h (zs1 .0) (zs2 .0) k r₁ r₂ (subst (λ m. k < m) (sym (ten-length h was)) within) e₁ e₂)'
     return [('call', RECEIVE, 'r₁', 'e₁', 'r₁-is', 'within', None), ('call', SEND, 'r₂', 'e₂', 'r₂-is', 'within', None),
-            ('call', CODES, 'r', 'e', 'is', None, None), ('return', f'(e ∙ {done} .0, {done} .1)')]
+            ('call', ENDS, 'r', 'e', 'is', None, None), ('return', f'(e ∙ {done} .0, {done} .1)')]
 
 
-AT = Callee('berths', 'ticks::at', 'mut', ['usize'], 'Codes',
-            lambda r, z, zs, h, vs: f'({r} ≡ codesOf (berthAt {h} {vs[0]})) × ({z} ≡ withBerth {h} {vs[0]} (ticked (berthAt {h} {vs[0]})))', asks=lambda ps: f'{ps[0]} < berthCount')
+AT = Callee('berths', 'ticks::at', 'mut', ['usize'], 'Ends',
+            lambda r, z, zs, h, vs: f'({r} ≡ endsOf (berthAt {h} {vs[0]})) × ({z} ≡ withBerth {h} {vs[0]} (ticked (berthAt {h} {vs[0]})))', asks=lambda ps: f'{ps[0]} < berthCount')
 QUIET = Callee('berths', 'ticks::quiet', None, ['u8'], 'TickAnswer', lambda r, z, zs, h, vs: f'{r} ≡ record {{ refused = {vs[0]}; codes = tenZeros }}')
-RESTS = lambda h, n: f'({n} ≤ berthCount) × ((k : ℕ) → k < {n} → idle (berthAt {h} k) ≡ true)'
-EACH = Callee('berths', 'ticks::each', 'mut', ['usize'], 'TickAnswer',
-              lambda r, z, zs, h, vs: f'({r} ≡ record {{ refused = 0; codes = map codesOf ({h} .berths) }}) × ({z} ≡ withBerths {h} (map ticked ({h} .berths)))', asks=lambda ps: RESTS('h', ps[0]))
+RESTS = lambda h, cards, n: f'({n} ≤ berthCount) × ((k : ℕ) → k < {n} → idle (berthAt {h} k) ≡ true) × (length ({cards} .now) ≡ berthCount)'
+EACH = Callee('berths', 'ticks::each', 'mut', ['&mut [Card]:cards', 'usize'], 'TickAnswer',
+              lambda r, z, zs, h, vs: f'({r} ≡ record {{ refused = 0; codes = map codesOf ({h} .berths) }}) × ({z} ≡ withBerths {h} (map ticked ({h} .berths))) '
+                                      f'× ({zs["cards"]} ≡ tickedCards ({h} .berths) (cards .now))', asks=lambda ps: RESTS('h', ps[0], ps[1]))
+PUT_CARD = cards.callee('card', again=True)
 
 
 def each():
     ten, args = '(ten-length h was)', 'h (ten-length h was) start (within .0) (within .1)'
-    turn = [('source', 'while i < 10 {'), ('source', 'answer.codes[i] = at(&mut *node, i);'), ('call', AT, 'c·', 'e·', 'c-is', BELOW, None), ('later', 4, 'i += 1;'), NEXT]
-    loop = Loop('_4', lambda i: f'tickedTo h {i}', {'_3': ('TickAnswer', lambda i: f'codesTo h {i}')}, ('start', 'within .0'),
-                (f'starts-node {args}', f'q-says ∙ starts-answer {args}'), turn,
-                (f'e· .1 ∙ steps-node h {ten} (i .0) {BELOW}', f'steps-answer h {ten} (i .0) {BELOW} (e· .0)'))
-    return [('source', 'let mut answer = quiet(0);'), ('call', QUIET, 'q·', 'q-says', 'q-is', None, None), ('later', 1, 'let mut i = from;'), ('loop', loop),
-            ('source', 'answer'), ('return', f'(ends-answer h {ten} (i .0) over, ends-node h {ten} (i .0) over)')]
+    here = f'h {ten} (i .0) {BELOW}'
+    cards_here = f'{here} (cards .now) (within .2) (e· .0)'
+    node, none = f'e· .1 ∙ steps-node {here}', '(sym ef ∙ is-false f· is-other)'
+    after = [('source', 'i += 1;', 1), NEXT]
+    counted = [('source', 'crate::put::card(&mut *cards, i, adds(ends));', 4), ('call', ADDS, 'a·', 'ea', 'a-is', None, None),
+               ('call', PUT_CARD, 'u·', 'eu', 'u-is', f'(subst (λ (m· : ℕ). i .0 < m·) (sym (cards-length h (cards .now) (i .0) ∙ within .2)) {BELOW})', None),
+               ('source', 'answer.codes[i] = codes(ends);', 5), ('call', CODES, 'q·', 'qe', 'q-is', None, None), *after,
+               ('more', (node, f'ended-codes {here} (e· .0) qe', f'ended-cards {cards_here} ea eu'))]
+    turn = [('source', 'while i < 10 {'), ('source', 'let ends = at(&mut *node, i);', 2), ('call', AT, 'c·', 'e·', 'c-is', BELOW, None),
+            ('source', 'if any(ends) {', 2), ('call', ANY, 'f·', 'ef', 'f-is', None, None), ('if', ('is-one', 'is-other'), counted, None), *after,
+            ('more', (node, f'quiet-answer {here} (e· .0) {none}', f'quiet-cards {cards_here} {none}'))]
+    loop = Loop('_5', lambda i: f'tickedTo h {i}', {'_4': ('TickAnswer', lambda i: f'codesTo h {i}')}, ('start', 'within .0'),
+                (f'starts-node {args}', f'q-says ∙ starts-answer {args}', 'starts-cards h (cards .now) start (within .1)'), turn,
+                slices={'cards': (lambda i: f'cardsTo h (cards .now) {i}', lambda i: f'cards-length h (cards .now) {i}')})
+    return [('source', 'let mut answer = quiet(0);', 2), ('call', QUIET, 'q·', 'q-says', 'q-is', None, None), ('source', 'let mut i = from;', 1), ('loop', loop),
+            ('source', 'answer', 2), ('return', f'(ends-answer h {ten} (i .0) over, ends-node h {ten} (i .0) over, last-cards h {ten} (i .0) over (cards .now))')]
 
 
 def walks(walk):
@@ -128,9 +152,10 @@ def walks(walk):
         states = callees(kind)
         yield walk(f'ticks::{name}', k, 'u8', said, side(kind, states), callees=states, requires='k < berthCount', uses=TICK_USES,
                    inside={'_2': 'within'}, doc='A match behind the reference, and the function of the state.')
-    yield walk('ticks::at', k, 'Codes', '(r ≡ codesOf (berthAt h k)) × (h′ ≡ withBerth h k (ticked (berthAt h k)))', at(), callees=[RECEIVE, SEND, CODES],
-               requires='k < berthCount', uses=TICK_USES + 'use Rattle.rules.specs.Ticks.{codesOf, ticked}\nuse Rattle.rules.specs.Nodes.{withBerth}\n',
+    yield walk('ticks::at', k, 'Ends', '(r ≡ endsOf (berthAt h k)) × (h′ ≡ withBerth h k (ticked (berthAt h k)))', at(), callees=[RECEIVE, SEND, ENDS],
+               requires='k < berthCount', uses=TICK_USES + 'use Rattle.rules.specs.Ticks.{ticked}\nuse Rattle.rules.specs.Nodes.{withBerth}\nuse Rattle.berths.specs.Ticks.{endsOf}\n',
                doc='One side, then the other.')
-    yield walk('ticks::each', [('start', 'usize')], 'TickAnswer', '(r ≡ record { refused = 0; codes = map codesOf (h .berths) }) × (h′ ≡ withBerths h (map ticked (h .berths)))', each(),
-               callees=[QUIET, AT], requires=RESTS('h', 'start'), uses=LOOP_USES + CODES_USES + EACH_USES,
-               doc='A loop: in each turn the node is lent on for one berth, whose codes are stored into the answer.')
+    yield walk('ticks::each', [('cards', '&mut [Card]'), ('start', 'usize')], 'TickAnswer',
+               '(r ≡ record { refused = 0; codes = map codesOf (h .berths) }) × (h′ ≡ withBerths h (map ticked (h .berths))) × (cards′ ≡ tickedCards (h .berths) (cards .now))', each(),
+               callees=[QUIET, AT, ANY, CODES, ADDS, PUT_CARD], requires=RESTS('h', 'cards', 'start'), uses=LOOP_USES + CODES_USES + EACH_USES,
+               doc='A loop: in each turn the node is lent on for one berth; where a side ended its codes are stored into the answer, and the cards are lent on.')

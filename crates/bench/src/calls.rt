@@ -1,7 +1,16 @@
-// One call each, of the entry that users call: the node is a local, which carumpek::local lends. The sum of what came of it.
+// One call each, of the entry that users call: the node and the cards are locals, which carumpek::local lends. The sum of what
+// came of it.
 use crate::sums;
+use rules::Card;
 use rules::Choice;
 use rules::Node;
+
+// Of twelve cards, all at zero, those of the berths are lent.
+const LENT: usize = 10;
+
+fn cards() -> [Card; 12] {
+    [Card::zero(); 12]
+}
 
 pub(crate) fn set_up(node: Node, area: u32, stmin: u32) -> u64 {
     let out = carumpek::local::set_up(node, area, 8, stmin);
@@ -11,17 +20,25 @@ pub(crate) fn set_up(node: Node, area: u32, stmin: u32) -> u64 {
 }
 
 pub(crate) fn frame(node: Node, incoming: &mut [u8], identifier: u32, payload: &[u8]) -> u64 {
-    let out = carumpek::local::frame(node, incoming, identifier, payload);
+    let out = carumpek::local::frame(node, cards(), LENT, incoming, identifier, payload);
     let answer = out.answer;
     let after = out.node;
-    sums::add(sums::of_frame(answer), sums::of_node(after))
+    let counted = out.cards;
+    sums::add(
+        sums::of_frame(answer),
+        sums::add(sums::of_node(after), sums::of_cards(counted)),
+    )
 }
 
 pub(crate) fn tick(node: Node) -> u64 {
-    let out = carumpek::local::tick(node);
+    let out = carumpek::local::tick(node, cards(), LENT);
     let answer = out.answer;
     let after = out.node;
-    sums::add(sums::of_tick(answer), sums::of_node(after))
+    let counted = out.cards;
+    sums::add(
+        sums::of_tick(answer),
+        sums::add(sums::of_node(after), sums::of_cards(counted)),
+    )
 }
 
 pub(crate) fn send(node: Node, outgoing: &mut [u8], berth: u32, message: &[u8]) -> u64 {
@@ -32,10 +49,14 @@ pub(crate) fn send(node: Node, outgoing: &mut [u8], berth: u32, message: &[u8]) 
 }
 
 pub(crate) fn turn(node: Node, outgoing: &[u8], buffer: &mut [u8]) -> u64 {
-    let out = carumpek::local::turn(node, outgoing, buffer);
+    let out = carumpek::local::turn(node, cards(), LENT, outgoing, buffer);
     let answer = out.answer;
     let after = out.node;
-    sums::add(sums::of_turn(answer), sums::of_node(after))
+    let counted = out.cards;
+    sums::add(
+        sums::of_turn(answer),
+        sums::add(sums::of_node(after), sums::of_cards(counted)),
+    )
 }
 
 // The message now being sent.

@@ -1,11 +1,12 @@
 -- A tick of every berth. The first i berths and codes are those after the tick, the others as they were; a berth that is idle is as
--- it was and has two codes of 0, so that it makes no difference where the first of the others begins.
+-- it was and has two codes of 0, so that it makes no difference where the first of the others begins. The cards follow (CardTick).
 use mathlib.Core.Path.{_≡_, sym, ap, _∙_}
-use mathlib.Core.Bool.{true, not}
+use mathlib.Core.Bool.{true, false, not}
 use mathlib.Core.List.{List, map}
 use Prim.Native.Nat.{ℕ, _+_, _<_, _≤_}
 use native.Mathlib.Omega.{arith}
 use lib.ListN.{length, getD, set, length-replicate}
+use lib.Seq.{set-getD}
 use lib.Dec.{T, ltb, nltb→le}
 use Rattle.rules.specs.Numbers.{berthCount}
 use Rattle.rules.specs.Nodes.{fresh, berthAt, withBerths, withBerth}
@@ -14,6 +15,8 @@ use Rattle.rules.specs.Calls.{done}
 use Rattle.rules.specs.declared.Rx.{Rx}
 use Rattle.rules.specs.declared.Tx.{Tx}
 use Rattle.rules.specs.declared.Berth.{Berth}
+use Rattle.rules.specs.declared.Card.{Card}
+use Rattle.rules.specs.declared.Adds.{Adds}
 use Rattle.rules.specs.declared.Codes.{Codes}
 use Rattle.rules.specs.declared.Node.{Node}
 use Rattle.rules.specs.declared.TickAnswer.{TickAnswer}
@@ -22,6 +25,11 @@ use Rattle.node.specs.Promises.{tenZeros}
 use Rattle.looks.proofs.Ordered.{rx-idle, tx-idle}
 use Rattle.looks.proofs.Filled.{filled, filled-more, filled-next, filled-all, filled-none, same-at}
 use Rattle.looks.proofs.Codes.{zeros, put-codes}
+use Rattle.rules.specs.Cards.{addedAt, tickedCards}
+use Rattle.cards.specs.Counting.{endAdds}
+use Rattle.berths.specs.Ticks.{endsOf, anyEnd, endCodes}
+use Rattle.berths.specs.declared.ticks.Ends.{Ends}
+use Rattle.berths.proofs.CardTick.{tickOf, end-codes, end-adds, quiet-codes, quiet-adds, cardsTo, steps-cards, skips-card, ends-cards}
 
 -- the node and the answer when the berths before i are done
 abbrev pub tickedTo : Node → ℕ → Node
@@ -73,7 +81,35 @@ module _ (h : Node) (ten : length (h .berths) ≡ berthCount) where
     steps-answer e = ap (put-codes (codesTo h i) i) (e ∙ ap codesOf there)
         ∙ ap (λ (cs : List Codes). record { refused = 0; codes = cs }) (filled-more codesOf (h .berths) tenZeros i fresh (omega (arith, within, ten)) (omega (arith, within, zeros-length)))
 
+    -- berth i as its tick finds it
+    abbrev found : Berth
+    found = berthAt (tickedTo h i) i
+
+    pub ended-codes : {e : Ends} {r : Codes} → e ≡ endsOf found → r ≡ endCodes e → put-codes (codesTo h i) i r ≡ codesTo h (i + 1)
+    ended-codes ends codes = steps-answer (codes ∙ ap endCodes ends ∙ end-codes found)
+
+    pub quiet-answer : {e : Ends} → e ≡ endsOf found → anyEnd e ≡ false → codesTo h i ≡ codesTo h (i + 1)
+    quiet-answer ends none =
+        let next = filled-next codesOf (h .berths) tenZeros i zeros (omega (arith, within, ten)) (omega (arith, within, zeros-length)) in
+        let l = filled codesOf (h .berths) tenZeros i in
+        ap (λ (cs : List Codes). record { refused = 0; codes = cs }) (sym (set-getD l i zeros) ∙ ap (set l i) (next ∙ same-at zeros berthCount i))
+        ∙ steps-answer (sym (quiet-codes found (ap anyEnd (sym ends) ∙ none)))
+
+    module _ (cards : List Card) (ten-cards : length cards ≡ berthCount) where
+      pub ended-cards : {e : Ends} {a : Adds} {z : List Card} → e ≡ endsOf found → a ≡ endAdds (e .receive) (e .send)
+          → z ≡ addedAt (cardsTo h cards i) i a → z ≡ cardsTo h cards (i + 1)
+      ended-cards ends adds is = is
+          ∙ ap (addedAt (cardsTo h cards i) i) (adds ∙ ap (λ (y : Ends). endAdds (y .receive) (y .send)) ends ∙ end-adds found ∙ ap tickOf there)
+          ∙ steps-cards h cards i (omega (arith, within, ten)) (omega (arith, within, ten-cards))
+
+      pub quiet-cards : {e : Ends} → e ≡ endsOf found → anyEnd e ≡ false → cardsTo h cards i ≡ cardsTo h cards (i + 1)
+      quiet-cards ends none = skips-card h cards i (omega (arith, within, ten)) (omega (arith, within, ten-cards))
+          (sym (ap tickOf there) ∙ quiet-adds found (ap anyEnd (sym ends) ∙ none))
+
   module _ (i : ℕ) (over : T (not (ltb i 10))) where
+    pub last-cards : (cards : List Card) → cardsTo h cards i ≡ tickedCards (h .berths) cards
+    last-cards cards = let l = nltb→le i 10 over in ends-cards h cards i (omega (arith, l, ten))
+
     pub ends-node : tickedTo h i ≡ withBerths h (map ticked (h .berths))
     ends-node = let l = nltb→le i 10 over in
         ap (withBerths h) (filled-all ticked (h .berths) (h .berths) i (omega (arith, l, ten)) (omega (arith, l, ten)))

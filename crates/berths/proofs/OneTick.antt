@@ -11,13 +11,13 @@ use lib.Dec.{T, ltb, eqb, ltb→lt, nltb→le}
 use borrow.Author.Tests.{lt-ltb, le-ltb}
 use Rattle.rules.specs.Numbers.{timeout}
 use Rattle.rules.specs.Nodes.{fresh, berthAt, withRx, withBerth}
-use Rattle.rules.specs.Ticks.{ran, rxTicked, rxCode, closer, txTicked, txCode, ticked, codesOf}
+use Rattle.rules.specs.Ticks.{ran, rxTicked, closer, txTicked, txCode, ticked}
 use Rattle.rules.specs.Tests.{pick}
 use Rattle.rules.specs.declared.Sending.{Sending}
 use Rattle.rules.specs.declared.Rx.{Rx}
 use Rattle.rules.specs.declared.Tx.{Tx}
 use Rattle.rules.specs.declared.Node.{Node}
-use Rattle.berths.specs.Ticks.{ReceiveTicked, SendTicked}
+use Rattle.berths.specs.Ticks.{rxEnd, ReceiveTicked, SendTicked, endsOf}
 use Rattle.looks.proofs.Bodies.{not-not}
 use Rattle.rules.proofs.Cases.{is-false}
 use Rattle.looks.proofs.Item.{set-same}
@@ -32,13 +32,13 @@ pub runs-out : {X : Type 0} (t : ℕ) (on : ℕ → X) (ended : X) → T (not (l
 unfolding ran
 runs-out t on ended over = let l = nltb→le t 999 over in simp (le-ltb (t + 1) timeout (omega (arith, l)))
 
-pub received : (h : Node) (k : ℕ) {y y′ : Rx} {c : ℕ} → getD (h .berths) k fresh .rx ≡ y → rxCode y ≡ c → rxTicked y ≡ y′ → ReceiveTicked h k c (put-rx h k y′)
+pub received : (h : Node) (k : ℕ) {y y′ : Rx} {c : ℕ} → getD (h .berths) k fresh .rx ≡ y → rxEnd y ≡ c → rxTicked y ≡ y′ → ReceiveTicked h k c (put-rx h k y′)
 unfolding berthAt withBerth
-received h k is code after = (sym (ap rxCode is ∙ code), ap (put-rx h k) (sym (ap rxTicked is ∙ after)))
+received h k is code after = (sym (ap rxEnd is ∙ code), ap (put-rx h k) (sym (ap rxTicked is ∙ after)))
 
 pub receives-nothing : (h : Node) (k : ℕ) → getD (h .berths) k fresh .rx ≡ Rx.Idle → ReceiveTicked h k 0 h
 unfolding berthAt withBerth
-receives-nothing h k is = (sym (ap rxCode is), sym (ap (put-rx h k) (ap rxTicked is ∙ sym is) ∙ ap (λ bs. record { settings = h .settings; served = h .served; berths = bs }) (set-same (h .berths) k fresh)))
+receives-nothing h k is = (sym (ap rxEnd is), sym (ap (put-rx h k) (ap rxTicked is ∙ sym is) ∙ ap (λ bs. record { settings = h .settings; served = h .served; berths = bs }) (set-same (h .berths) k fresh)))
 
 pub sends : (h : Node) (k : ℕ) {y y′ : Tx} {c : ℕ} → getD (h .berths) k fresh .tx ≡ y → txCode y ≡ c → txTicked y ≡ y′ → SendTicked h k c (put-tx h k y′)
 unfolding berthAt withBerth
@@ -65,8 +65,8 @@ some-left (suc n) some = omega arith
 
 -- both sides, one after the other
 pub both : (h h₁ h₂ : Node) (k r s : ℕ) → k < length (h .berths) → ReceiveTicked h k r h₁ → SendTicked h₁ k s h₂
-    → (record { receive = r; send = s } ≡ codesOf (berthAt h k)) × (h₂ ≡ withBerth h k (ticked (berthAt h k)))
-unfolding berthAt withBerth ticked codesOf
+    → (record { receive = r; send = s } ≡ endsOf (berthAt h k)) × (h₂ ≡ withBerth h k (ticked (berthAt h k)))
+unfolding berthAt withBerth ticked
 both h h₁ h₂ k r s within e f =
     let b = getD (h .berths) k fresh in
     let there : getD (h₁ .berths) k fresh ≡ withRx b (rxTicked (b .rx)) (b .last)

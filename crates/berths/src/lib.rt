@@ -1,4 +1,5 @@
-// All ten berths of a lent node, where they lie: a tick of each (ticks), one side stored back (put), and every one fresh.
+// All ten berths of a lent node, where they lie: a tick of each (ticks), one side or
+// one card stored back (put), and every one fresh.
 pub mod put;
 pub mod ticks;
 

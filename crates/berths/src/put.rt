@@ -1,9 +1,14 @@
-// One side of a berth stored back where it lies.
+// One side of a berth stored back where it lies, and one card of the list.
 ghost use mathlib.Core.Path.{_≡_};
-ghost use Prim.Native.Nat.{_<_};
+ghost use Prim.Native.Nat.{ℕ, _<_};
 ghost use Rattle.rules.specs.Numbers.{berthCount};
 ghost use Rattle.rules.specs.Nodes.{berthAt, withRx, withTx, withBerth};
 ghost use Rattle.rules.specs.Stores.{servedNode};
+ghost use Rattle.rules.specs.Cards.{addedAt, frameAdds};
+ghost use Rattle.rules.specs.declared.Word.the-variants.{Delivered};
+ghost use lib.ListN.{length};
+use rules::Adds;
+use rules::Card;
 use rules::Node;
 use rules::Rx;
 use rules::Tx;
@@ -39,4 +44,20 @@ pub fn served_tx(node: &mut Node, at: usize, tx: Tx)
 {
     node.served = at as u8;
     node.berths[at].tx = tx;
+}
+
+// The card at a place, with what is added.
+pub fn card(cards: &mut [Card], at: usize, adds: Adds)
+    requires { ⌜ at < length (now cards) ⌝ }
+    ensures { λ r. ⌜ now (cards .exit) ≡ addedAt (now (cards .entry)) at adds ⌝ }
+{
+    cards[at] = cards::added(cards[at], adds);
+}
+
+// The same for Delivered, the most frequent.
+pub fn delivered(cards: &mut [Card], at: usize, single: bool, old: u8)
+    requires { ⌜ at < length (now cards) ⌝ }
+    ensures { λ r. ⌜ ((n : ℕ) → now (cards .exit) ≡ addedAt (now (cards .entry)) at (frameAdds single old (Delivered n))) ⌝ }
+{
+    cards[at] = cards::delivered(cards[at], single, old);
 }

@@ -10,7 +10,13 @@ ghost use mathlib.Core.Bool.{true};
 ghost use Rattle.berth.specs.Idle.{idle};
 ghost use Rattle.node.specs.Promises.{tenZeros};
 ghost use Rattle.rules.specs.Ticks.{closer, ticked, codesOf};
-ghost use Rattle.berths.specs.Ticks.{ReceiveTicked, SendTicked};
+ghost use Rattle.rules.specs.Cards.{tickedCards};
+ghost use Rattle.cards.specs.Counting.{endAdds};
+ghost use lib.ListN.{length};
+ghost use Rattle.berths.specs.Ticks.{ReceiveTicked, SendTicked, anyEnd, endCodes, endsOf};
+ghost use Rattle.berths.specs.declared.ticks.Ends.{Ends};
+use rules::Adds;
+use rules::Card;
 use rules::Codes;
 use rules::Node;
 use rules::Rx;
@@ -21,6 +27,9 @@ use rules::Tx;
 
 // The timer at which the next tick ends a side.
 const LAST: u16 = rules::TIMEOUT - 1;
+
+// How a receive side ended is told by its code, but for an overflow owed: its code is that of a go owed, and no reception failed.
+const OVERFLOW: u8 = 1;
 
 // ---- the receive side of berth k, in each of its states, and its code
 
@@ -33,7 +42,7 @@ fn owes_overflow(node: &mut Node, k: usize, t: u16) -> u8
         return 0;
     }
     node.berths[k].rx = Rx::Idle;
-    rules::N_TIMEOUT_A
+    OVERFLOW
 }
 
 fn owes_go(node: &mut Node, k: usize, p: Taking, t: u16) -> u8
@@ -152,23 +161,55 @@ fn send(node: &mut Node, k: usize) -> u8
 
 // ---- the berth
 
-fn codes(receive: u8, send: u8) -> Codes
+// How the two sides of a berth ended, 0 for not.
+struct Ends {
+    receive: u8,
+    send: u8,
+}
+
+fn both_ends(receive: u8, send: u8) -> Ends
     ensures { λ r. ⌜ r ≡ record { receive = receive; send = send } ⌝ }
 {
-    Codes {
+    Ends {
         receive: receive,
         send: send,
     }
 }
 
-// Both sides of berth k, and their codes.
-fn at(node: &mut Node, k: usize) -> Codes
+fn any(ends: Ends) -> bool
+    ensures { λ r. ⌜ r ≡ anyEnd ends ⌝ }
+{
+    (ends.receive != 0) | (ends.send != 0)
+}
+
+fn codes(ends: Ends) -> Codes
+    ensures { λ r. ⌜ r ≡ endCodes ends ⌝ }
+{
+    let receive = if ends.receive == OVERFLOW {
+        rules::N_TIMEOUT_A
+    } else {
+        ends.receive
+    };
+    Codes {
+        receive: receive,
+        send: ends.send,
+    }
+}
+
+fn adds(ends: Ends) -> Adds
+    ensures { λ r. ⌜ r ≡ endAdds (ends .receive) (ends .send) ⌝ }
+{
+    cards::of_tick(ends.receive, ends.send)
+}
+
+// Both sides of berth k, and how they ended.
+fn at(node: &mut Node, k: usize) -> Ends
     requires { ⌜ k < berthCount ⌝ }
-    ensures { λ r. ⌜ (r ≡ codesOf (berthAt (now (node .entry)) k)) × (now (node .exit) ≡ withBerth (now (node .entry)) k (ticked (berthAt (now (node .entry)) k))) ⌝ }
+    ensures { λ r. ⌜ (r ≡ endsOf (berthAt (now (node .entry)) k)) × (now (node .exit) ≡ withBerth (now (node .entry)) k (ticked (berthAt (now (node .entry)) k))) ⌝ }
 {
     let receives = receive(&mut *node, k);
     let sends = send(&mut *node, k);
-    codes(receives, sends)
+    both_ends(receives, sends)
 }
 
 // ---- the node
@@ -187,14 +228,18 @@ pub fn quiet(refused: u8) -> TickAnswer
 }
 
 // A tick of each berth from one on, of a node in order; those before it are idle.
-pub fn each(node: &mut Node, from: usize) -> TickAnswer
-    requires { ⌜ (from ≤ berthCount) × ((k : ℕ) → k < from → idle (berthAt (now node) k) ≡ true) ⌝ }
-    ensures { λ r. ⌜ (r ≡ record { refused = 0; codes = map codesOf (now (node .entry) .berths) }) × (now (node .exit) ≡ withBerths (now (node .entry)) (map ticked (now (node .entry) .berths))) ⌝ }
+pub fn each(node: &mut Node, cards: &mut [Card], from: usize) -> TickAnswer
+    requires { ⌜ (from ≤ berthCount) × ((k : ℕ) → k < from → idle (berthAt (now node) k) ≡ true) × (length (now cards) ≡ berthCount) ⌝ }
+    ensures { λ r. ⌜ (r ≡ record { refused = 0; codes = map codesOf (now (node .entry) .berths) }) × (now (node .exit) ≡ withBerths (now (node .entry)) (map ticked (now (node .entry) .berths))) × (now (cards .exit) ≡ tickedCards (now (node .entry) .berths) (now (cards .entry))) ⌝ }
 {
     let mut answer = quiet(0);
     let mut i = from;
     while i < 10 {
-        answer.codes[i] = at(&mut *node, i);
+        let ends = at(&mut *node, i);
+        if any(ends) {
+            crate::put::card(&mut *cards, i, adds(ends));
+            answer.codes[i] = codes(ends);
+        }
         i += 1;
     }
     answer

@@ -27,8 +27,8 @@ module _ (h : Node) (area block stmin : ℕ) {allowed : Bool} (said : allowed �
   pub sets-up : T allowed → {s : Settings} {h′ : Node} → s ≡ record { area = area; block = block; stmin = stmin }
       → h′ ≡ withBerths (put-served (put-settings h s) 9) (replicate berthCount fresh) → SetUpPromise h area block stmin SetUpAnswer.Ready h′
   unfolding setUpOutcome setUpRefusal setUpSays setUpNode
-  sets-up t is e = λ incoming outgoing. rw (← meets _ _ (may-set t) all-met, e, is) (agrees refl)
+  sets-up t is e = λ cards incoming outgoing. rw (← meets _ _ (may-set t) all-met, e, is) (agrees refl)
 
   pub refuses-settings : T (not allowed) → SetUpPromise h area block stmin (SetUpAnswer.Refused badSetting) h
   unfolding setUpOutcome setUpRefusal setUpSays refusedOutcome
-  refuses-settings t = λ incoming outgoing. rw (← unmet _ _ (sym said ∙ is-false allowed t)) (agrees refl)
+  refuses-settings t = λ cards incoming outgoing. rw (← unmet _ _ (sym said ∙ is-false allowed t)) (agrees refl)

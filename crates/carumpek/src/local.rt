@@ -1,6 +1,12 @@
 // The same calls for a program whose node is a local: each lends it to the entry and gives it back beside the answer, so that
-// the program's own proof needs no walk.
+// the program's own proof needs no walk. The calls that count on cards take twelve of them and how many to lend: the first so many, or all
+// where that is above twelve. The others stay as they are.
+ghost use mathlib.Core.Path.{_≡_};
+ghost use lib.Dec.{ltb};
+ghost use lib.ListN.{take, drop};
+ghost use Rattle.rules.specs.Tests.{pick};
 ghost use Rattle.node.specs.Promises.{SetUpPromise, FramePromise, TickPromise, SendPromise, TurnPromise, ShowPromise};
+use rules::Card;
 use rules::Choice;
 use rules::FrameAnswer;
 use rules::Node;
@@ -25,35 +31,60 @@ pub fn set_up(node: Node, area: u32, block: u32, stmin: u32) -> SetUpOut
     }
 }
 
+// How many of twelve cards are lent where so many are to be.
+fn lends(count: usize) -> usize
+    ensures { λ r. ⌜ r ≡ pick (ltb count 12) count 12 ⌝ }
+{
+    if count < 12 {
+        return count;
+    }
+    12
+}
+
 pub struct FrameOut {
     pub answer: FrameAnswer,
     pub node: Node,
+    pub cards: [Card; 12],
 }
 
-pub fn frame(node: Node, incoming: &mut [u8], identifier: u32, payload: &[u8]) -> FrameOut
-    ensures { λ r. ⌜ FramePromise node (now (incoming .entry)) identifier (now (payload .entry)) (r .answer) (r .node) (now (incoming .exit)) ⌝ }
+pub fn frame(
+    node: Node,
+    cards: [Card; 12],
+    count: usize,
+    incoming: &mut [u8],
+    identifier: u32,
+    payload: &[u8],
+) -> FrameOut
+    ensures { λ r. ⌜ FramePromise node (take count cards) (now (incoming .entry)) identifier (now (payload .entry)) (r .answer) (r .node) (take count (r .cards)) (now (incoming .exit)) × (drop count (r .cards) ≡ drop count cards) ⌝ }
 {
     let mut held = node;
-    let answer = crate::frame(&mut held, incoming, identifier, payload);
+    let mut counted = cards;
+    let n = lends(count);
+    let answer = crate::frame(&mut held, &mut counted[..n], incoming, identifier, payload);
     FrameOut {
         answer: answer,
         node: held,
+        cards: counted,
     }
 }
 
 pub struct TickOut {
     pub answer: TickAnswer,
     pub node: Node,
+    pub cards: [Card; 12],
 }
 
-pub fn tick(node: Node) -> TickOut
-    ensures { λ r. ⌜ TickPromise node (r .answer) (r .node) ⌝ }
+pub fn tick(node: Node, cards: [Card; 12], count: usize) -> TickOut
+    ensures { λ r. ⌜ TickPromise node (take count cards) (r .answer) (r .node) (take count (r .cards)) × (drop count (r .cards) ≡ drop count cards) ⌝ }
 {
     let mut held = node;
-    let answer = crate::tick(&mut held);
+    let mut counted = cards;
+    let n = lends(count);
+    let answer = crate::tick(&mut held, &mut counted[..n]);
     TickOut {
         answer: answer,
         node: held,
+        cards: counted,
     }
 }
 
@@ -76,16 +107,26 @@ pub fn send(node: Node, outgoing: &mut [u8], berth: u32, message: &[u8]) -> Send
 pub struct TurnOut {
     pub answer: TurnAnswer,
     pub node: Node,
+    pub cards: [Card; 12],
 }
 
-pub fn turn(node: Node, outgoing: &[u8], buffer: &mut [u8]) -> TurnOut
-    ensures { λ r. ⌜ TurnPromise node (now (outgoing .entry)) (now (buffer .entry)) (r .answer) (r .node) (now (buffer .exit)) ⌝ }
+pub fn turn(
+    node: Node,
+    cards: [Card; 12],
+    count: usize,
+    outgoing: &[u8],
+    buffer: &mut [u8],
+) -> TurnOut
+    ensures { λ r. ⌜ TurnPromise node (take count cards) (now (outgoing .entry)) (now (buffer .entry)) (r .answer) (r .node) (take count (r .cards)) (now (buffer .exit)) × (drop count (r .cards) ≡ drop count cards) ⌝ }
 {
     let mut held = node;
-    let answer = crate::turn(&mut held, outgoing, buffer);
+    let mut counted = cards;
+    let n = lends(count);
+    let answer = crate::turn(&mut held, &mut counted[..n], outgoing, buffer);
     TurnOut {
         answer: answer,
         node: held,
+        cards: counted,
     }
 }
 

@@ -4,14 +4,16 @@ use mathlib.Core.Path.{_≡_}
 use mathlib.Core.List.{List, [], _∷_}
 use lib.ListN.{length, take, drop, replicate}
 use lib.Dec.{ltb}
-use Rattle.rules.specs.Numbers.{frameSize}
+use Rattle.rules.specs.Numbers.{berthCount, frameSize}
 use Rattle.rules.specs.Tests.{pick}
 use Rattle.rules.specs.Nodes.{Held}
+use Rattle.rules.specs.Cards.{zeroCard}
 use Rattle.rules.specs.Stores.{setUpNode}
 use Rattle.rules.specs.Answers.{Answer}
 use Rattle.rules.specs.Events.{Call, frame, tick, send, turn}
 use Rattle.rules.specs.Calls.{outcome, answers, final}
 use Rattle.rules.specs.declared.Node.{Node}
+use Rattle.rules.specs.declared.Card.{Card}
 use Rattle.rules.specs.declared.Settings.{Settings}
 use Rattle.records.specs.Records.{recordOf, risingFrom}
 use Rattle.records.specs.declared.record.Record.{Record}
@@ -25,6 +27,13 @@ settings = record { area = 1000; block = 8; stmin = 0 }
 
 unfoldable pub firstNode : Node
 firstNode = setUpNode settings
+
+-- of the cards that it keeps those of the berths are lent, which start at zero
+abbrev pub lentCards : List Card → List Card
+lentCards cards = take berthCount cards
+
+abbrev pub firstCards : List Card
+firstCards = replicate berthCount zeroCard
 
 abbrev pub recordLength : ℕ
 recordLength = 16
@@ -46,7 +55,7 @@ unfoldable pub textFor : ℕ → List ℕ → List Answer → List ℕ
 textFor number d (answer ∷ _) = answerText number answer
 textFor number d [] = pick (ltb (length d) recordLength) (shortText number) (badText number)
 
--- ---- a step: the text that a record prints, and the node and the stores after it
+-- ---- a step: the text that a record prints, and the node, the cards and the stores after it
 
 unfoldable pub stepText : ℕ → List ℕ → Held → List ℕ
 stepText number d h = textFor number d (answers h (asks d (recordOf d)))

@@ -16,7 +16,7 @@ use Rattle.reading.specs.declared.input.Source.{Source}
 use Rattle.reading.specs.declared.input.Part.{Part}
 use Rattle.reading.specs.declared.input.Part.the-variants.{Whole, Cut, Long, End}
 use Rattle.exerciser.specs.declared.Progress.{Progress}
-use Rattle.exerciser.specs.Steps.{recordLength, stepText, stepHeld}
+use Rattle.exerciser.specs.Steps.{lentCards, recordLength, stepText, stepHeld}
 
 -- what goes from one turn to the next, with what is lent
 pub record Running : Type 0 where
@@ -29,9 +29,9 @@ pub record Running : Type 0 where
 abbrev pub running : Progress → List ℕ → List ℕ → List ℕ → Running
 running p incoming outgoing output = record { progress = p; incoming = incoming; outgoing = outgoing; output = output }
 
--- the node and the stores that the next step is lent, and the text that it will print
+-- the node, the cards and the stores that the next step is lent, and the text that it will print
 abbrev pub lentIn : Running → Held
-lentIn r = lent (r .progress .node) (r .incoming) (r .outgoing)
+lentIn r = lent (r .progress .node) (lentCards (r .progress .cards)) (r .incoming) (r .outgoing)
 
 abbrev pub nextText : Running → List ℕ → List ℕ
 nextText r d = stepText (r .progress .number) d (lentIn r)
@@ -49,7 +49,15 @@ pub record Stepped (r : Running) (d : List ℕ) (r′ : Running) : Type 0 where
 abbrev pub withSource : Running → Source → Bool → Running
 withSource r source more =
     record {
-      progress = record { node = r .progress .node; number = r .progress .number; source = source; sink = r .progress .sink; more = more };
+      progress =
+          record {
+            node = r .progress .node;
+            cards = r .progress .cards;
+            number = r .progress .number;
+            source = source;
+            sink = r .progress .sink;
+            more = more;
+          };
       incoming = r .incoming;
       outgoing = r .outgoing;
       output = r .output;

@@ -1,4 +1,8 @@
-// The exerciser of paper 01: records of sixteen bytes from standard input, a line of text for each to standard output.
+// The exerciser of paper 01: records of sixteen bytes from standard input, a line of text for each to standard output. It keeps
+// a card for each berth (paper 02, W1), and with the word `cards` it prints their lines after its last one.
+mod asked;
+mod lines;
+
 ghost use Prim.Native.Nat.{_≤_};
 ghost use mathlib.Core.Path.{_≡_};
 ghost use mathlib.Core.List.{[]};
@@ -6,8 +10,10 @@ ghost use Rattle.rules.specs.Events.{frame, tick, send, turn};
 ghost use Rattle.node.specs.Promises.{lent};
 ghost use Rattle.records.specs.Records.{risingFrom};
 ghost use Rattle.text.specs.Building.{textOf};
-ghost use Rattle.exerciser.specs.Steps.{firstNode, turnBuffer, textFor, Whatever, Does, Steps};
+ghost use Rattle.exerciser.specs.Lines.{said, lastOutput};
+ghost use Rattle.exerciser.specs.Steps.{firstNode, firstCards, lentCards, turnBuffer, textFor, Whatever, Does, Steps};
 ghost use Rattle.exerciser.specs.Turns.{running, Stepped, Turns};
+use crate::asked::Asked;
 use libc::STDIN_FILENO;
 use libc::STDOUT_FILENO;
 use reading::input::Kind;
@@ -15,6 +21,7 @@ use reading::input::Part;
 use reading::input::Source;
 use reading::output::Sink;
 use records::record::Record;
+use rules::Card;
 use rules::Node;
 use text::building::Text;
 
@@ -26,10 +33,14 @@ const STMIN: u32 = 0;
 
 const RECORD: usize = 16;
 
-// What a record leaves beside the stores: its text and the node.
+// Of the twelve cards that carumpek::local takes, those of the berths are lent.
+const LENT: usize = 10;
+
+// What a record leaves beside the stores: its text, the node and the cards.
 struct Left {
     text: Text,
     node: Node,
+    cards: [Card; 12],
 }
 
 fn first_node() -> Node
@@ -38,33 +49,53 @@ fn first_node() -> Node
     carumpek::local::set_up(Node::blank(), AREA, BLOCK, STMIN).node
 }
 
-fn heard(number: u64, node: Node, incoming: &mut [u8], identifier: u32, payload: &[u8]) -> Left
-    ensures { λ r. ⌜ Whatever (λ outgoing. Does number (lent node (now (incoming .entry)) outgoing) (frame identifier (now (payload .entry))) (r .text) (lent (r .node) (now (incoming .exit)) outgoing)) ⌝ }
+fn heard(
+    number: u64,
+    node: Node,
+    cards: [Card; 12],
+    incoming: &mut [u8],
+    identifier: u32,
+    payload: &[u8],
+) -> Left
+    ensures { λ r. ⌜ Whatever (λ outgoing. Does number (lent node (lentCards cards) (now (incoming .entry)) outgoing) (frame identifier (now (payload .entry))) (r .text) (lent (r .node) (lentCards (r .cards)) (now (incoming .exit)) outgoing)) ⌝ }
 {
-    let out = carumpek::local::frame(node, incoming, identifier, payload);
+    let out = carumpek::local::frame(node, cards, LENT, incoming, identifier, payload);
     let answer = out.answer;
     let after = out.node;
+    let counted = out.cards;
     Left {
         text: text::answers::frame(number, answer),
         node: after,
+        cards: counted,
     }
 }
 
-fn ticked(number: u64, node: Node) -> Left
-    ensures { λ r. ⌜ Whatever (λ incoming. Whatever (λ outgoing. Does number (lent node incoming outgoing) tick (r .text) (lent (r .node) incoming outgoing))) ⌝ }
+fn ticked(number: u64, node: Node, cards: [Card; 12]) -> Left
+    ensures { λ r. ⌜ Whatever (λ incoming. Whatever (λ outgoing. Does number (lent node (lentCards cards) incoming outgoing) tick (r .text) (lent (r .node) (lentCards (r .cards)) incoming outgoing))) ⌝ }
 {
-    let out = carumpek::local::tick(node);
+    let out = carumpek::local::tick(node, cards, LENT);
     let answer = out.answer;
     let after = out.node;
+    let counted = out.cards;
     Left {
         text: text::answers::tick(number, answer),
         node: after,
+        cards: counted,
     }
 }
 
-fn sent(number: u64, node: Node, outgoing: &mut [u8], berth: u8, length: u32, first: u8) -> Left
+// A send is lent no cards.
+fn sent(
+    number: u64,
+    node: Node,
+    cards: [Card; 12],
+    outgoing: &mut [u8],
+    berth: u8,
+    length: u32,
+    first: u8,
+) -> Left
     requires { ⌜ length ≤ 1001 ⌝ }
-    ensures { λ r. ⌜ Whatever (λ incoming. Does number (lent node incoming (now (outgoing .entry))) (send berth (risingFrom first length)) (r .text) (lent (r .node) incoming (now (outgoing .exit)))) ⌝ }
+    ensures { λ r. ⌜ Whatever (λ incoming. Does number (lent node (lentCards cards) incoming (now (outgoing .entry))) (send berth (risingFrom first length)) (r .text) (lent (r .node) (lentCards (r .cards)) incoming (now (outgoing .exit)))) ⌝ }
 {
     let mut message = [0u8; 1001];
     records::message::rise(&mut message, first);
@@ -75,19 +106,22 @@ fn sent(number: u64, node: Node, outgoing: &mut [u8], berth: u8, length: u32, fi
     Left {
         text: text::answers::send(number, answer),
         node: after,
+        cards: cards,
     }
 }
 
-fn turned(number: u64, node: Node, outgoing: &[u8]) -> Left
-    ensures { λ r. ⌜ Whatever (λ incoming. Does number (lent node incoming (now (outgoing .entry))) (turn turnBuffer) (r .text) (lent (r .node) incoming (now (outgoing .entry)))) ⌝ }
+fn turned(number: u64, node: Node, cards: [Card; 12], outgoing: &[u8]) -> Left
+    ensures { λ r. ⌜ Whatever (λ incoming. Does number (lent node (lentCards cards) incoming (now (outgoing .entry))) (turn turnBuffer) (r .text) (lent (r .node) (lentCards (r .cards)) incoming (now (outgoing .entry)))) ⌝ }
 {
     let mut buffer = [0u8; 8];
-    let out = carumpek::local::turn(node, outgoing, &mut buffer);
+    let out = carumpek::local::turn(node, cards, LENT, outgoing, &mut buffer);
     let answer = out.answer;
     let after = out.node;
+    let counted = out.cards;
     Left {
         text: text::answers::turn(number, answer, &buffer),
         node: after,
+        cards: counted,
     }
 }
 
@@ -102,32 +136,41 @@ fn none(number: u64, bytes: &[u8]) -> Text
 }
 
 // What one record does.
-fn step(number: u64, bytes: &[u8], node: Node, incoming: &mut [u8], outgoing: &mut [u8]) -> Left
-    ensures { λ r. ⌜ Steps number (now (bytes .entry)) (lent node (now (incoming .entry)) (now (outgoing .entry))) (r .text) (lent (r .node) (now (incoming .exit)) (now (outgoing .exit))) ⌝ }
+fn step(
+    number: u64,
+    bytes: &[u8],
+    node: Node,
+    cards: [Card; 12],
+    incoming: &mut [u8],
+    outgoing: &mut [u8],
+) -> Left
+    ensures { λ r. ⌜ Steps number (now (bytes .entry)) (lent node (lentCards cards) (now (incoming .entry)) (now (outgoing .entry))) (r .text) (lent (r .node) (lentCards (r .cards)) (now (incoming .exit)) (now (outgoing .exit))) ⌝ }
 {
     let record = records::record::read(bytes);
     match record {
         Record::Bad => Left {
             text: none(number, bytes),
             node: node,
+            cards: cards,
         },
         Record::Frame { identifier, length } => {
             let end = 8 + length as usize;
-            heard(number, node, incoming, identifier, &bytes[8..end])
+            heard(number, node, cards, incoming, identifier, &bytes[8..end])
         }
-        Record::Tick => ticked(number, node),
+        Record::Tick => ticked(number, node, cards),
         Record::Send {
             berth,
             length,
             first,
-        } => sent(number, node, outgoing, berth, length, first),
-        Record::Turn => turned(number, node, outgoing),
+        } => sent(number, node, cards, outgoing, berth, length, first),
+        Record::Turn => turned(number, node, cards, outgoing),
     }
 }
 
 // What goes from one record to the next.
 struct Progress {
     node: Node,
+    cards: [Card; 12],
     number: u64,
     source: Source,
     sink: Sink,
@@ -135,10 +178,11 @@ struct Progress {
 }
 
 fn first() -> Progress
-    ensures { λ r. ⌜ (r .node ≡ firstNode) × (r .number ≡ 1) ⌝ }
+    ensures { λ r. ⌜ (r .node ≡ firstNode) × (lentCards (r .cards) ≡ firstCards) × (r .number ≡ 1) ⌝ }
 {
     Progress {
         node: first_node(),
+        cards: [Card::zero(); 12],
         number: 1,
         source: Source::of(STDIN_FILENO),
         sink: Sink::of(STDOUT_FILENO),
@@ -157,12 +201,15 @@ fn run_part(
     ensures { λ r. ⌜ Stepped (running before (now (incoming .entry)) (now (outgoing .entry)) (now (output .entry))) (now (part .entry)) (running r (now (incoming .exit)) (now (outgoing .exit)) (now (output .exit))) ⌝ }
 {
     let node = before.node;
-    let left = step(before.number, part, node, incoming, outgoing);
+    let cards = before.cards;
+    let left = step(before.number, part, node, cards, incoming, outgoing);
     let next = left.node;
+    let counted = left.cards;
     let text = left.text;
     let sink = before.sink;
     let mut after = before;
     after.node = next;
+    after.cards = counted;
     after.number = std::num::wrapping_add_u64(before.number, 1);
     after.sink = sink.say(output, text);
     after
@@ -193,23 +240,44 @@ fn run_next(
     run_part(after, &input[from..to], incoming, outgoing, output)
 }
 
+// What is printed last: the lines of the cards where they are asked for, and all that waits.
+fn close(last: Progress, lines: bool, output: &mut [u8])
+    ensures { λ _. ⌜ now (output .exit) ≡ lastOutput lines (last .cards) (said (last .sink) (now (output .entry))) ⌝ }
+{
+    let sink = last.sink;
+    let cards = last.cards;
+    if lines {
+        lines::say(sink, output, cards).flush(output);
+        return;
+    }
+    sink.flush(output);
+}
+
 // A proved loop has to end, and nothing says that the input does. So the loop counts its turns down, from a number that no run
 // uses up.
-fn run(input: &mut [u8], incoming: &mut [u8], outgoing: &mut [u8], output: &mut [u8]) {
+fn run(lines: bool, input: &mut [u8], incoming: &mut [u8], outgoing: &mut [u8], output: &mut [u8]) {
     let mut progress = first();
     let mut turns = u64::MAX;
     while turns > 0 && progress.more {
         progress = run_next(progress, input, incoming, outgoing, output);
         turns -= 1;
     }
-    let sink = progress.sink;
-    sink.flush(output);
+    close(progress, lines, output);
 }
 
-fn main() {
+fn start(lines: bool) {
     let mut input = io::large_buffer();
     let mut output = io::large_buffer();
     let mut incoming = [0u8; 10000];
     let mut outgoing = [0u8; 10000];
-    run(&mut input, &mut incoming, &mut outgoing, &mut output);
+    run(lines, &mut input, &mut incoming, &mut outgoing, &mut output);
+}
+
+fn main() {
+    let asked = asked::read();
+    match asked {
+        Asked::Records => start(false),
+        Asked::Cards => start(true),
+        Asked::Other => asked::refuse(),
+    }
 }

@@ -1,7 +1,8 @@
 -- Runs, computed, that meet the premises of the laws: so the laws are about something.
 use mathlib.Core.Path.{_≡_, refl}
 use Prim.Native.Nat.{ℕ, _*_, _<_}
-use mathlib.Core.List.{List, [], _∷_}
+use mathlib.Core.Bool.{true, false}
+use mathlib.Core.List.{List, [], _∷_, _++_}
 use lib.ListN.{set, replicate}
 use lib.Dec.{lit<, lit≤}
 use Rattle.rules.specs.Tests.{all, each, firstUnmet}
@@ -9,15 +10,17 @@ use Rattle.rules.specs.Numbers.{berthCount}
 use Rattle.rules.specs.Nodes.{fresh, withRx, withTx, berthAt, Held, withBerth}
 use Rattle.rules.specs.Ranges.{settingsAllowed, inBlock, takingInRange, sendingInRange, berthInOrder, inOrder}
 use Rattle.rules.specs.Frames.{kind, low, singleFits, shortLength, escapeLength, announced, firstFits, consecutiveFits, flowFits, padded, singleFrame, firstFrame, consecutiveFrame, goFrame, firstSn, nextSn, counted, fillsBlock, gapOf, share}
-use Rattle.rules.specs.Arrivals.{ignored, singleCame, begun, firstCame, piece, grown, completed, afterTook, took, wrongSn, awaitedCame, granted, byStatus, heardBy, toldBy, byKind, frameCame}
+use Rattle.rules.specs.Arrivals.{ignored, singleCame, begun, firstCame, piece, grown, completed, afterTook, took, wrongSn, awaitedCame, granted, byStatus, heardBy, toldBy, byKind, frameCame, turnedAway}
 use Rattle.rules.specs.Ticks.{ran, ticked, codesOf}
 use Rattle.rules.specs.Turns.{due, moved, afterConsecutive, handOver, beginsWith, sent as sentBerth}
 use Rattle.rules.specs.Stores.{rightStore, areaOf, stored, inside, tickedNode, servedNode, setUpNode, distance, leastDistance, passedOver, reached, cameAt, handedAt}
 use Rattle.rules.specs.Answers.{refused, heard, codes, sent, handed, shown, receive, reported, failedSide, wordReports, codesReports, reports}
-use Rattle.rules.specs.Events.{Call, frame, tick, send, turn, show, arrives, ticks, sends, turns}
+use Rattle.rules.specs.Cards.{rightCards, addedAt, tickedCards, zeroCard, cardAt, frozen, added, isSingle, frameAdds, tickAdds, turnAdds, adds}
+use Rattle.rules.specs.Events.{Call, frame, tick, send, turn, show, Event, arrives, ticks, sends, turns}
 use Rattle.rules.specs.Refusals.{needs, refusal, setUpRefusal}
-use Rattle.rules.specs.Calls.{showable, shownLength, showing, afterFrame, done, reply, written, refusedOutcome, outcome, setUpOutcome, answers, final}
-use Rattle.rules.specs.Alone.{partOf}
+use Rattle.rules.specs.Calls.{showable, shownLength, showing, afterFrame, afterTurn, done, reply, written, refusedOutcome, outcome, setUpOutcome, answers, final}
+use Rattle.rules.specs.Alone.{partOf, Part, withCard, stateAfter, partAfter, alone}
+use Rattle.rules.specs.declared.Settings.{Settings}
 use Rattle.rules.specs.declared.Choice.{Choice}
 use Rattle.rules.specs.declared.Rx.{Rx}
 use Rattle.rules.specs.declared.Tx.{Tx}
@@ -26,10 +29,12 @@ use Rattle.rules.specs.declared.Codes.{Codes}
 use Rattle.rules.specs.declared.Word.the-variants.{Delivered, Ignored}
 use Rattle.rules.proofs.Ranges.{in-order-range}
 use Rattle.laws.specs.Own.{over, only, ownDone, own, owns, saysOf, ofBerth, Sound, setUp, freshPart, Alone}
+use Rattle.laws.specs.Cards.{zeroCards, history, historyOf, Tallies, TalliesAt, frozenAt}
 use Rattle.laws.specs.Rounds.{served, turnOf, StaysDue, Fair}
 use Rattle.laws.specs.Sides.{frameSide, ofSide, handedSide, framesBy}
 use Rattle.laws.specs.Line.{there, back, deliveredIn, leftA, leftB, carriedA, carriedB, Deed, atA, atB, setUpB, carryA, carryB, acts, living, spares, AllApart, gapLeft, AtRest, begin, MayBegin, Arrived, blank}
 use Rattle.laws.proofs.SetUp.{each-alone, each-alone-after-set-up}
+use Rattle.laws.proofs.Cards.{card-tallies, frozen-stays, tallies-after-set-up}
 use Rattle.laws.proofs.Fairness.{fair}
 use Rattle.laws.proofs.World.{line-law}
 
@@ -47,6 +52,7 @@ two =
       node = record { settings = record { area = 8; block = 2; stmin = 0 }; served = 9; berths = set (replicate berthCount fresh) 3 waitingBerth };
       incoming = replicate 80 0;
       outgoing = replicate 80 0;
+      cards = zeroCards;
     }
 
 -- a send, an ignored frame of kind 7, a turn with a buffer too short, a tick, a turn, a frame, the tick that ends berth 3's reception
@@ -57,7 +63,7 @@ twoRun =
 
 pub two-sound : Sound two
 unfolding inOrder all each settingsAllowed berthInOrder takingInRange inBlock
-two-sound = record { order = in-order-range (two .node) tt; incoming = refl; outgoing = refl }
+two-sound = record { order = in-order-range (two .node) tt; incoming = refl; outgoing = refl; ten = refl }
 
 -- the answers; what is berth 3's own, and what is berth 5's: the refused call is in neither
 pub two-computed : (answers two twoRun
@@ -66,7 +72,7 @@ pub two-computed : (answers two twoRun
     ∷ codes (set (replicate 10 (pairOf 0 0)) 3 (pairOf 4 0)) ∷ shown (0xAA ∷ 0xBB ∷ []) ∷ [])
     × (owns 3 two twoRun ≡ arrives (0x70 ∷ []) ∷ ticks ∷ ticks ∷ [])
     × (owns 5 two twoRun ≡ sends (1 ∷ 2 ∷ 3 ∷ []) ∷ ticks ∷ turns ∷ arrives (0x02 ∷ 0xAA ∷ 0xBB ∷ []) ∷ ticks ∷ [])
-unfolding owns own ownDone answers final done reply written outcome refusedOutcome refusal needs firstUnmet rightStore inside berthAt inOrder all each settingsAllowed berthInOrder takingInRange sendingInRange inBlock afterFrame cameAt frameCame byKind kind low heardBy toldBy ignored singleCame singleFits withBerth stored tickedNode ticked ran codesOf sentBerth beginsWith passedOver leastDistance distance due reached servedNode handedAt handOver areaOf singleFrame padded showing showable shownLength
+unfolding owns own ownDone answers final done reply written outcome refusedOutcome refusal needs firstUnmet rightStore rightCards addedAt tickedCards inside berthAt inOrder all each settingsAllowed berthInOrder takingInRange sendingInRange inBlock afterFrame afterTurn cameAt frameCame byKind kind low heardBy toldBy ignored singleCame singleFits withBerth stored tickedNode ticked ran codesOf sentBerth beginsWith passedOver leastDistance distance due reached servedNode handedAt handOver areaOf singleFrame padded showing showable shownLength
 two-computed = (refl, refl, refl)
 
 -- so each is as it would be alone
@@ -83,7 +89,7 @@ pub afresh-computed : (setUpRefusal 8 2 0 ≡ 0)
     ≡ sent 5 ∷ heard 3 0 (Ignored 2) ∷ refused 9 ∷ codes (replicate 10 (pairOf 0 0))
     ∷ handed 0x665 (0x03 ∷ 1 ∷ 2 ∷ 3 ∷ 0xCC ∷ 0xCC ∷ 0xCC ∷ 0xCC ∷ []) 1 5 ∷ heard 5 0 (Delivered 2)
     ∷ codes (replicate 10 (pairOf 0 0)) ∷ shown (0xAA ∷ 0xBB ∷ []) ∷ [])
-unfolding setUpRefusal setUpOutcome setUpNode answers final done reply written outcome refusedOutcome refusal needs firstUnmet rightStore inside berthAt inOrder all each settingsAllowed berthInOrder takingInRange sendingInRange inBlock afterFrame cameAt frameCame byKind kind low heardBy toldBy ignored singleCame singleFits withBerth stored tickedNode ticked ran codesOf sentBerth beginsWith passedOver leastDistance distance due reached servedNode handedAt handOver areaOf singleFrame padded showing showable shownLength
+unfolding setUpRefusal setUpOutcome setUpNode answers final done reply written outcome refusedOutcome refusal needs firstUnmet rightStore rightCards addedAt tickedCards inside berthAt inOrder all each settingsAllowed berthInOrder takingInRange sendingInRange inBlock afterFrame afterTurn cameAt frameCame byKind kind low heardBy toldBy ignored singleCame singleFits withBerth stored tickedNode ticked ran codesOf sentBerth beginsWith passedOver leastDistance distance due reached servedNode handedAt handOver areaOf singleFrame padded showing showable shownLength
 afresh-computed = (refl, refl)
 
 -- so each is as it would be alone from fresh
@@ -102,6 +108,7 @@ crowd =
       };
       incoming = replicate 80 0;
       outgoing = replicate 80 7;
+      cards = zeroCards;
     }
 
 abbrev pub crowdRun : List Call
@@ -110,7 +117,7 @@ crowdRun = replicate 10 (turn blank)
 pub crowd-computed : (over turnOf (answers crowd crowdRun)
     ≡ served 5 ∷ served 6 ∷ served 7 ∷ served 8 ∷ served 9 ∷ served 0 ∷ served 1 ∷ served 2 ∷ served 3 ∷ served 4 ∷ [])
     × StaysDue 4 crowd crowdRun
-unfolding StaysDue over turnOf answers final done reply written outcome refusedOutcome refusal needs firstUnmet rightStore inside berthAt inOrder all each settingsAllowed berthInOrder takingInRange sendingInRange inBlock afterFrame cameAt frameCame byKind kind low heardBy toldBy ignored singleCame singleFits withBerth stored tickedNode ticked ran codesOf sentBerth beginsWith passedOver leastDistance distance due reached servedNode handedAt handOver areaOf singleFrame padded showing showable shownLength
+unfolding StaysDue over turnOf answers final done reply written outcome refusedOutcome refusal needs firstUnmet rightStore rightCards addedAt tickedCards inside berthAt inOrder all each settingsAllowed berthInOrder takingInRange sendingInRange inBlock afterFrame afterTurn cameAt frameCame byKind kind low heardBy toldBy ignored singleCame singleFits withBerth stored tickedNode ticked ran codesOf sentBerth beginsWith passedOver leastDistance distance due reached servedNode handedAt handOver areaOf singleFrame padded showing showable shownLength
 crowd-computed = (refl, ((λ e. tt), ((λ e. tt), ((λ e. tt), ((λ e. tt), ((λ e. tt), ((λ e. tt), ((λ e. tt), ((λ e. tt), ((λ e. tt), ((λ e. tt), tt)))))))))))
 
 pub crowd-fair : Fair 4 (over turnOf (answers crowd crowdRun))
@@ -121,7 +128,12 @@ crowd-fair = fair 4 (lit< tt) crowd crowdRun (crowd-computed .1)
 
 abbrev nodeOf : ℕ → ℕ → ℕ → Held
 nodeOf a bs stmin =
-    record { node = setUpNode (record { area = a; block = bs; stmin = stmin }); incoming = replicate (10 * a) 0; outgoing = replicate (10 * a) 0 }
+    record {
+      node = setUpNode (record { area = a; block = bs; stmin = stmin });
+      incoming = replicate (10 * a) 0;
+      outgoing = replicate (10 * a) 0;
+      cards = zeroCards;
+    }
 
 abbrev scheduler : Held
 scheduler = nodeOf 36 8 0
@@ -148,8 +160,8 @@ may-begin =
     record {
       small-i = lit< tt;
       small-j = lit< tt;
-      sound-a = record { order = in-order-range (scheduler .node) tt; incoming = refl; outgoing = refl };
-      sound-b = record { order = in-order-range (mast .node) tt; incoming = refl; outgoing = refl };
+      sound-a = record { order = in-order-range (scheduler .node) tt; incoming = refl; outgoing = refl; ten = refl };
+      sound-b = record { order = in-order-range (mast .node) tt; incoming = refl; outgoing = refl; ten = refl };
       idle-a = refl;
       idle-b = refl;
       some = lit≤ tt;
@@ -171,7 +183,7 @@ pub deeds-computed : AllApart 2 7 (begin 2 programme scheduler mast) deeds
     ∷ back (0x30 ∷ 2 ∷ 2 ∷ 0xCC ∷ 0xCC ∷ 0xCC ∷ 0xCC ∷ 0xCC ∷ [])
     ∷ there (0x25 ∷ 35 ∷ 36 ∷ 0xCC ∷ 0xCC ∷ 0xCC ∷ 0xCC ∷ 0xCC ∷ [])
     ∷ [])
-unfolding gapLeft AllApart spares frameSide living acts leftA leftB carriedA carriedB framesBy handedSide ofSide ofBerth only reports reported wordReports codesReports failedSide saysOf deliveredIn over answers final done reply written outcome refusedOutcome refusal needs firstUnmet rightStore inside berthAt inOrder all each settingsAllowed berthInOrder takingInRange sendingInRange inBlock afterFrame cameAt frameCame byKind kind low heardBy toldBy ignored singleCame singleFits withBerth stored tickedNode ticked ran codesOf sentBerth beginsWith passedOver leastDistance distance due reached servedNode handedAt handOver areaOf singleFrame padded showing showable shownLength setUpNode firstCame shortLength escapeLength announced firstFits begun awaitedCame consecutiveFits piece grown completed afterTook took wrongSn counted fillsBlock nextSn share flowFits byStatus granted gapOf goFrame firstFrame consecutiveFrame moved afterConsecutive setUpOutcome setUpRefusal
+unfolding gapLeft AllApart spares frameSide living acts leftA leftB carriedA carriedB framesBy handedSide ofSide ofBerth only reports reported wordReports codesReports failedSide saysOf deliveredIn over answers final done reply written outcome refusedOutcome refusal needs firstUnmet rightStore rightCards addedAt tickedCards inside berthAt inOrder all each settingsAllowed berthInOrder takingInRange sendingInRange inBlock afterFrame afterTurn cameAt frameCame byKind kind low heardBy toldBy ignored singleCame singleFits withBerth stored tickedNode ticked ran codesOf sentBerth beginsWith passedOver leastDistance distance due reached servedNode handedAt handOver areaOf singleFrame padded showing showable shownLength setUpNode firstCame shortLength escapeLength announced firstFits begun awaitedCame consecutiveFits piece grown completed afterTook took wrongSn counted fillsBlock nextSn share flowFits byStatus granted gapOf goFrame firstFrame consecutiveFrame moved afterConsecutive setUpOutcome setUpRefusal
 deeds-computed = (
   (lit< tt, ((λ e. tt), ((λ e. tt), (tt, ((λ e. tt), ((λ e. tt), ((λ e. tt), ((λ e. tt), (tt, ((λ e. tt), ((λ e. tt), (tt, ((λ e. tt), ((λ e. tt), ((λ e. tt), ((λ e. tt), ((λ e. tt), (tt, ((λ e. tt), (tt, ((λ e. tt), (tt, ((λ e. tt), ((λ e. tt), ((λ e. tt), ((λ e. tt), ((λ e. tt), (tt, ((λ e. tt), (tt, ((λ e. tt), (tt, tt)))))))))))))))))))))))))))))))),
   record { none-there = refl; none-back = refl; none-due = refl; no-gap = refl; no-flow = refl },
@@ -180,3 +192,105 @@ deeds-computed = (
 
 pub programme-arrived : Arrived 2 7 programme (living 2 7 (begin 2 programme scheduler mast) deeds)
 programme-arrived = line-law 2 7 programme scheduler mast may-begin deeds (deeds-computed .0) (deeds-computed .1)
+
+-- ---- all kinds of ends on one berth: A 8, BS 0, STmin 0
+
+abbrev eight : Settings
+eight = record { area = 8; block = 0; stmin = 0 }
+
+abbrev newPart : Part
+newPart = record { berth = fresh; incoming = replicate 8 0; outgoing = replicate 8 0; card = zeroCard }
+
+-- a single frame, the first frames of a message of eight bytes and of one too long, the second frame, and one with another SN
+abbrev single : Event
+single = arrives (0x02 ∷ 0xAA ∷ 0xBB ∷ [])
+
+abbrev first : Event
+first = arrives (0x10 ∷ 8 ∷ 1 ∷ 2 ∷ 3 ∷ 4 ∷ 5 ∷ 6 ∷ [])
+
+abbrev tooLong : Event
+tooLong = arrives (0x10 ∷ 9 ∷ 1 ∷ 2 ∷ 3 ∷ 4 ∷ 5 ∷ 6 ∷ [])
+
+abbrev second : Event
+second = arrives (0x21 ∷ 7 ∷ 8 ∷ [])
+
+abbrev wrong : Event
+wrong = arrives (0x22 ∷ 7 ∷ 8 ∷ [])
+
+-- flow control that says overflow, and with a status that has no meaning
+abbrev overflow : Event
+overflow = arrives (0x32 ∷ 0 ∷ 0 ∷ [])
+
+abbrev unknown : Event
+unknown = arrives (0x35 ∷ 0 ∷ 0 ∷ [])
+
+-- sends of one byte and of eight; the ticks that end a side whose timer is 0
+abbrev short : Event
+short = sends (9 ∷ [])
+
+abbrev long : Event
+long = sends (1 ∷ 2 ∷ 3 ∷ 4 ∷ 5 ∷ 6 ∷ 7 ∷ 8 ∷ [])
+
+abbrev thousand : List Event
+thousand = replicate 1000 ticks
+
+-- a single frame; a message in two frames; a message sent. A reception whose go and a message whose frame nobody calls for: code 2 of both
+-- sides in one tick. A reception whose second frame and a message whose flow control do not come: codes 4 and 3 in one tick. A wrong SN;
+-- a message that ends with 9, and one with 6. A reception that a first frame cuts off, and that one's, which a single frame does; one that
+-- a message too long does, whose overflow nobody calls for: code 2, and nothing failed. A frame that is ignored
+abbrev allEnds : List Event
+allEnds =
+    single ∷ first ∷ turns ∷ second ∷ short ∷ turns ∷ first ∷ short ∷
+    (thousand ++ first ∷ turns ∷ long ∷ turns ∷
+    (thousand ++ first ∷ turns ∷ wrong ∷ long ∷ turns ∷ overflow ∷ long ∷ turns ∷ unknown ∷ first ∷ first ∷ single ∷ first ∷ tooLong ∷
+    (thousand ++ arrives [] ∷ [])))
+
+-- then one more message begins
+pub all-ends-computed : (frozen (alone eight newPart allEnds .card) ≡ false)
+    × (alone eight newPart (allEnds ++ first ∷ []) .card
+    ≡ record { begun = 10; delivered = 3; failed2 = 1; failed4 = 1; failed5 = 1; failed7 = 3; toolong = 1; sent = 1; unsent = 4 })
+unfolding
+    kind low singleFits shortLength escapeLength announced firstFits consecutiveFits flowFits padded singleFrame firstFrame goFrame
+    share ignored singleCame begun firstCame turnedAway piece completed wrongSn awaitedCame byStatus heardBy toldBy byKind frameCame
+    ran ticked handOver beginsWith sentBerth frozen added isSingle frameAdds tickAdds turnAdds adds stateAfter partAfter alone
+all-ends-computed = (refl, refl)
+
+-- so these are the counts of its history, and the ten begun are three delivered, six failed and the one under way
+pub all-ends-tallied : Tallies (alone eight newPart (allEnds ++ first ∷ []) .card) (alone eight newPart (allEnds ++ first ∷ []) .berth .rx) (history eight newPart (allEnds ++ first ∷ []))
+all-ends-tallied = card-tallies eight newPart allEnds first (record { zeros = refl; idle = refl }) (all-ends-computed .0)
+
+-- ---- a run of the node: eight calls after a set-up, in which berth 5 sends a message and hears a single frame, and a tick
+
+pub afresh-cards : (frozenAt 5 (final afresh twoRun) ≡ false)
+    × (cardAt (final afresh (twoRun ++ tick ∷ []) .cards) 5
+    ≡ record { begun = 1; delivered = 1; failed2 = 0; failed4 = 0; failed5 = 0; failed7 = 0; toolong = 0; sent = 1; unsent = 0 })
+unfolding
+    setUpRefusal setUpOutcome setUpNode final done outcome refusedOutcome refusal needs firstUnmet rightStore rightCards addedAt
+    tickedCards inside berthAt inOrder all each settingsAllowed berthInOrder takingInRange sendingInRange inBlock afterFrame
+    afterTurn cameAt frameCame byKind kind low heardBy toldBy ignored singleCame singleFits withBerth stored tickedNode ticked ran
+    sentBerth beginsWith passedOver leastDistance distance due reached servedNode handedAt handOver areaOf singleFrame padded cardAt
+    frozen added isSingle frameAdds tickAdds turnAdds
+afresh-cards = (refl, refl)
+
+pub afresh-tallied : TalliesAt 5 (final afresh (twoRun ++ tick ∷ [])) (historyOf 5 afresh (twoRun ++ tick ∷ []))
+afresh-tallied = tallies-after-set-up two (two .node .settings) twoRun tick 5 (lit< tt) (afresh-computed .0) refl (afresh-cards .0)
+
+-- ---- the edge where a card freezes: begun is one below the most, and no reception is under way
+
+abbrev partWith : (begun delivered : ℕ) → Part
+partWith begun delivered =
+    withCard newPart (record { begun = begun; delivered = delivered; failed2 = 0; failed4 = 0; failed5 = 0; failed7 = 1; toolong = 0; sent = 7; unsent = 0 })
+
+-- a single frame freezes the card and counts in full; another one, a message too long and a message sent leave it
+pub edge-computed : (frozen (partWith 4294967294 4294967293 .card) ≡ false)
+    × (alone eight (partWith 4294967294 4294967293) (single ∷ []) .card ≡ partWith 4294967295 4294967294 .card)
+    × (frozen (partWith 4294967295 4294967294 .card) ≡ true)
+    × (alone eight (partWith 4294967294 4294967293) (single ∷ single ∷ tooLong ∷ turns ∷ short ∷ turns ∷ []) .card ≡ partWith 4294967295 4294967294 .card)
+unfolding
+    kind low singleFits shortLength escapeLength announced firstFits singleCame firstCame turnedAway heardBy byKind frameCame
+    handOver beginsWith sentBerth frozen added isSingle frameAdds turnAdds adds stateAfter partAfter alone
+edge-computed = (refl, refl, refl, refl)
+
+-- and so do any events
+pub edge-frozen : (es : List Event) → alone eight (partWith 4294967295 4294967294) es .card ≡ partWith 4294967295 4294967294 .card
+edge-frozen es = frozen-stays eight (partWith 4294967295 4294967294) es (edge-computed .2)

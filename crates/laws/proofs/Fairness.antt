@@ -16,7 +16,7 @@ use Rattle.rules.specs.Stores.{tickedNode, servedNode, distance, passedOver, re
 use Rattle.rules.specs.Events.{Call, frame, tick, send, turn, show}
 use Rattle.rules.specs.Answers.{forTaker}
 use Rattle.rules.specs.Refusals.{refusal}
-use Rattle.rules.specs.Calls.{afterFrame, done, reply, written, bufferOf, Outcome, refusedOutcome, outcome, answers}
+use Rattle.rules.specs.Calls.{afterFrame, afterTurn, done, reply, written, bufferOf, Outcome, refusedOutcome, outcome, answers}
 use Rattle.rules.proofs.Cases.{Tested, holds, fails, eqb-cases, eqb-is, eqb-not, ltb-is}
 use Rattle.rules.proofs.Ranges.{in-order-range}
 use Rattle.rules.proofs.Round.{near}
@@ -35,7 +35,7 @@ module _ (k : ℕ) (small : k < berthCount) where
 
   served-turn : (h : Held) (buffer : List ℕ) → InOrder (h .node) → T (due (berthAt (h .node) k))
       → Served (h .node .served) (done h (turn buffer) .node .served) (turnOf (reply h (turn buffer)))
-  unfolding done reply servedNode turnOf
+  unfolding done reply afterTurn servedNode turnOf
   served-turn h buffer o t = rw (ltb-is (passedOver (h .node)) berthCount (some-reached (h .node) o k small t)) (go (eqb-cases (reached (h .node)) k))
     where
       to : forTaker (toBerth + reached (h .node)) served nobody ≡ served (reached (h .node))

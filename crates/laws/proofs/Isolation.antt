@@ -18,18 +18,22 @@ use Rattle.rules.specs.Turns.{sent as sentBerth}
 use Rattle.rules.specs.Stores.{tickedNode, servedNode, passedOver, reached, cameAt, handedAt}
 use Rattle.rules.specs.Answers.{receive, forTaker}
 use Rattle.rules.specs.Events.{Call, frame, tick, send, turn, show, senderOf, Event}
+use Rattle.rules.specs.Cards.{cardAt, added, addedAt, adds}
 use Rattle.rules.specs.Refusals.{refusal}
-use Rattle.rules.specs.Calls.{afterFrame, done, reply, written, bufferOf, refusedOutcome, outcome, answers, final}
-use Rattle.rules.specs.Alone.{Part, partOf, Says, expires, partAfter, says, alone, saysAll}
+use Rattle.rules.specs.Calls.{afterFrame, afterTurn, done, reply, written, bufferOf, refusedOutcome, outcome, answers, final}
+use Rattle.rules.specs.Alone.{Part, partOf, Says, expires, stateAfter, partAfter, says, alone, saysAll}
 use Rattle.rules.specs.declared.Settings.{Settings}
 use Rattle.rules.specs.declared.Berth.{Berth}
 use Rattle.rules.specs.declared.Node.{Node}
 use Rattle.rules.specs.declared.Codes.{Codes}
+use Rattle.rules.specs.declared.Card.{Card}
+use Rattle.rules.specs.declared.Adds.{Adds}
 use Rattle.rules.proofs.Cases.{Tested, holds, fails, eqb-cases, ltb-cases, leb-cases, leb-is}
+use Rattle.rules.proofs.Cards.{added-nothing, card-same, card-other, card-ticked}
 use Rattle.rules.proofs.Areas.{area-same, area-other}
 use Rattle.rules.proofs.Ranges.{in-order-range}
 use Rattle.rules.proofs.Order.{reached-small, berth-ticked}
-use Rattle.rules.proofs.Answered.{FrameAnswered, frame-answered, SendAnswered, send-answered, turn-answered}
+use Rattle.rules.proofs.Answered.{FrameAnswered, frame-answered, SendAnswered, send-answered, TurnAnswered, turn-answered, TickAnswered, tick-answered}
 use Rattle.laws.specs.Own.{over, ownDone, own, owns, noCodes, saysOf}
 
 -- berth k's identifier is 660 hex + k
@@ -49,9 +53,9 @@ taker-exactly id k = (to (leb-cases toBerth id), λ e. rw (e, said-to (λ j. eqb
 ten : (n : Node) → T (inOrder n) → length (n .berths) ≡ berthCount
 ten n t = in-order-range n t .ten
 
-pub part-path : {b b′ : Berth} {i i′ o o′ : List ℕ} → b ≡ b′ → i ≡ i′ → o ≡ o′
-    → _≡_ {A = Part} (record { berth = b; incoming = i; outgoing = o }) (record { berth = b′; incoming = i′; outgoing = o′ })
-part-path p q r = λ i. record { berth = p i; incoming = q i; outgoing = r i }
+pub part-path : {b b′ : Berth} {i i′ o o′ : List ℕ} {c c′ : Card} → b ≡ b′ → i ≡ i′ → o ≡ o′ → c ≡ c′
+    → _≡_ {A = Part} (record { berth = b; incoming = i; outgoing = o; card = c }) (record { berth = b′; incoming = i′; outgoing = o′; card = c′ })
+part-path p q r s = λ i. record { berth = p i; incoming = q i; outgoing = r i; card = s i }
 
 module _ (k : ℕ) (n : Node) (j : ℕ) (b : Berth) where
   berth-same : length (n .berths) ≡ berthCount → j < berthCount → j ≡ k → getD (set (n .berths) j b) k fresh ≡ b
@@ -60,6 +64,11 @@ module _ (k : ℕ) (n : Node) (j : ℕ) (b : Berth) where
   berth-other : (j ≡ k → ⊥) → getD (set (n .berths) j b) k fresh ≡ berthAt n k
   unfolding berthAt
   berth-other ne = getD-set-other (n .berths) j k b fresh (λ e. ne (sym e))
+
+-- one card is added to: berth k's own, if it is one of the ten
+card-mine : (k : ℕ) (cards : List Card) (j : ℕ) (a : Adds) → length cards ≡ berthCount → j < berthCount → j ≡ k
+    → cardAt (addedAt cards j a) k ≡ added (cardAt cards k) a
+card-mine k cards j a l h e = rw e (card-same cards k a (omega arith))
 
 -- a fresh berth has no codes
 codes-fresh : codesOf fresh ≡ noCodes
@@ -71,21 +80,23 @@ codes-fresh = refl
 module _ (k : ℕ) where
   part-frame : (h : Held) (id : ℕ) (d : List ℕ) → FrameAnswered h id d
       → partOf k (done h (frame id d)) ≡ alone (h .node .settings) (partOf k h) (ownDone k h (frame id d))
-  unfolding partOf done afterFrame cameAt withBerth berthAt alone partAfter ownDone
+  unfolding partOf done afterFrame cameAt withBerth berthAt alone stateAfter partAfter adds ownDone
   part-frame h id d ok = go (eqb-cases (senderOf id) k)
     where
       go : Tested (eqb (senderOf id) k) (senderOf id ≡ k) (senderOf id ≡ k → ⊥)
           → partOf k (done h (frame id d)) ≡ alone (h .node .settings) (partOf k h) (ownDone k h (frame id d))
       go (holds t e) =
           rw t (part-path (berth-same k (h .node) (senderOf id) (cameAt h (senderOf id) d .berth) (ten (h .node) (ok .heard .order)) (ok .heard .mine) e ∙ rw e)
-          (rw e (area-same (h .node .settings .area) k _ _ (h .incoming) (rw e at (ok .fits)))) refl)
+          (rw e (area-same (h .node .settings .area) k _ _ (h .incoming) (rw e at (ok .fits)))) refl
+          (card-mine k (h .cards) (senderOf id) _ (ok .heard .ten) (ok .heard .mine) e ∙ rw e))
       go (fails t ne) =
           rw t (part-path (berth-other k (h .node) (senderOf id) (cameAt h (senderOf id) d .berth) ne)
-          (area-other (h .node .settings .area) k (senderOf id) _ _ (h .incoming) (λ e. ne (sym e)) (ok .fits)) refl)
+          (area-other (h .node .settings .area) k (senderOf id) _ _ (h .incoming) (λ e. ne (sym e)) (ok .fits)) refl
+          (card-other (h .cards) (senderOf id) k _ ne))
 
   part-send : (h : Held) (j : ℕ) (m : List ℕ) → SendAnswered h j m
       → partOf k (done h (send j m)) ≡ alone (h .node .settings) (partOf k h) (ownDone k h (send j m))
-  unfolding partOf done withBerth berthAt alone partAfter ownDone
+  unfolding partOf done withBerth berthAt alone stateAfter partAfter adds ownDone
   part-send h j m ok = go (eqb-cases j k)
     where
       fits : 0 + length m ≤ h .node .settings .area
@@ -95,18 +106,19 @@ module _ (k : ℕ) where
           → partOf k (done h (send j m)) ≡ alone (h .node .settings) (partOf k h) (ownDone k h (send j m))
       go (holds t e) =
           rw t (part-path (berth-same k (h .node) j (sentBerth (berthAt (h .node) j) (length m)) (ten (h .node) (ok .order)) (ok .mine) e ∙ rw e)
-          refl (rw e (area-same (h .node .settings .area) k 0 m (h .outgoing) fits)))
+          refl (rw e (area-same (h .node .settings .area) k 0 m (h .outgoing) fits)) (sym (added-nothing (cardAt (h .cards) k))))
       go (fails t ne) =
           rw t (part-path (berth-other k (h .node) j (sentBerth (berthAt (h .node) j) (length m)) ne)
-          refl (area-other (h .node .settings .area) k j 0 m (h .outgoing) (λ e. ne (sym e)) fits))
+          refl (area-other (h .node .settings .area) k j 0 m (h .outgoing) (λ e. ne (sym e)) fits) refl)
 
-  part-tick : (h : Held) → partOf k (done h tick) ≡ alone (h .node .settings) (partOf k h) (ownDone k h tick)
-  unfolding partOf done tickedNode alone partAfter ownDone
-  part-tick h = part-path (berth-ticked (h .node) k) refl refl
+  part-tick : (h : Held) → TickAnswered h → partOf k (done h tick) ≡ alone (h .node .settings) (partOf k h) (ownDone k h tick)
+  unfolding partOf done tickedNode berthAt alone stateAfter partAfter adds ownDone
+  part-tick h ok =
+      part-path (berth-ticked (h .node) k) refl refl (card-ticked (h .node .berths) (h .cards) k (ten (h .node) (ok .order) ∙ sym (ok .ten)))
 
-  part-turn : (h : Held) (buffer : List ℕ) → T (inOrder (h .node))
+  part-turn : (h : Held) (buffer : List ℕ) → TurnAnswered h buffer
       → partOf k (done h (turn buffer)) ≡ alone (h .node .settings) (partOf k h) (ownDone k h (turn buffer))
-  unfolding partOf done servedNode handedAt berthAt alone partAfter ownDone
+  unfolding partOf done afterTurn servedNode handedAt berthAt alone stateAfter partAfter adds ownDone
   part-turn h buffer ok = go (ltb-cases (passedOver (h .node)) berthCount) (eqb-cases (reached (h .node)) k)
     where
       go : Tested (ltb (passedOver (h .node)) berthCount) (passedOver (h .node) < berthCount) (berthCount ≤ passedOver (h .node))
@@ -114,15 +126,16 @@ module _ (k : ℕ) where
           → partOf k (done h (turn buffer)) ≡ alone (h .node .settings) (partOf k h) (ownDone k h (turn buffer))
       go (fails u l) t = rw u
       go (holds u l) (holds t e) =
-          rw (u, t) (part-path (berth-same k (h .node) (reached (h .node)) (handedAt h (reached (h .node)) .berth) (ten (h .node) ok) (reached-small (h .node)) e ∙ rw e) refl refl)
+          rw (u, t) (part-path (berth-same k (h .node) (reached (h .node)) (handedAt h (reached (h .node)) .berth) (ten (h .node) (ok .order)) (reached-small (h .node)) e ∙ rw e) refl refl
+          (card-mine k (h .cards) (reached (h .node)) _ (ok .ten) (reached-small (h .node)) e ∙ rw e))
       go (holds u l) (fails t ne) =
-          rw (u, t) (part-path (berth-other k (h .node) (reached (h .node)) (handedAt h (reached (h .node)) .berth) ne) refl refl)
+          rw (u, t) (part-path (berth-other k (h .node) (reached (h .node)) (handedAt h (reached (h .node)) .berth) ne) refl refl (card-other (h .cards) (reached (h .node)) k _ ne))
 
   pub part-done : (h : Held) (c : Call) → refusal h c ≡ 0 → partOf k (done h c) ≡ alone (h .node .settings) (partOf k h) (ownDone k h c)
   part-done h (frame id d) e = part-frame h id d (frame-answered h id d e)
-  part-done h tick e = part-tick h
+  part-done h tick e = part-tick h (tick-answered h e)
   part-done h (send j m) e = part-send h j m (send-answered h j m e)
-  part-done h (turn buffer) e = part-turn h buffer (turn-answered h buffer e .order)
+  part-done h (turn buffer) e = part-turn h buffer (turn-answered h buffer e)
   part-done h (show j choice) e = unfold done ownDone alone in refl
 
   pub part-step : (h : Held) (c : Call) → partOf k (outcome h c .held) ≡ alone (h .node .settings) (partOf k h) (own k h c)
@@ -181,7 +194,7 @@ module _ (k : ℕ) where
 -- ---- the settings stay
 
 settings-done : (h : Held) (c : Call) → done h c .node .settings ≡ h .node .settings
-unfolding done afterFrame withBerth tickedNode servedNode
+unfolding done afterFrame afterTurn withBerth tickedNode servedNode
 settings-done h (frame id d) = refl
 settings-done h tick = refl
 settings-done h (send j m) = refl
@@ -216,8 +229,8 @@ unfolding alone saysAll
 says-append s p [] fs = refl
 says-append s p (e ∷ es) fs = ap (λ (r : List Says). says s p e ∷ r) (says-append s (partAfter s p e) es fs)
 
--- EACH BERTH'S STATE AND AREAS. After any run of the five calls, from any start, berth k's state and its two areas are those that
--- the rules give for that berth alone: its own frames and sends, all ticks, and the turns it received; refused calls left out.
+-- EACH BERTH'S STATE, AREAS AND CARD. After any run of the five calls, from any start, berth k's state, its two areas and its card are
+-- those that the rules give for that berth alone: its own frames and sends, all ticks, and the turns it received; refused calls left out.
 pub berth-alone : (k : ℕ) (h : Held) (cs : List Call)
     → partOf k (final h cs) ≡ alone (h .node .settings) (partOf k h) (owns k h cs)
 unfolding final owns alone

@@ -2,6 +2,7 @@
 pub mod Isolation
 pub mod Reports
 pub mod SetUp
+pub mod Cards
 pub mod Round
 pub mod Fairness
 pub mod Sides

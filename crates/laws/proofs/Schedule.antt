@@ -16,10 +16,11 @@ use Rattle.rules.specs.Ticks.{rxCode, txCode}
 use Rattle.rules.specs.Turns.{flowDue, messageDue, due, afterFlow, handOver}
 use Rattle.rules.specs.Stores.{rightStore, servedNode, distance, passedOver, reached}
 use Rattle.rules.specs.Answers.{Side, receive, send as sendSide}
+use Rattle.rules.specs.Cards.{rightCards}
 use Rattle.rules.specs.Events.{Call, tick, turn, turns}
 use Rattle.rules.specs.Refusals.{needs, refusal}
-use Rattle.rules.specs.Calls.{done, outcome}
-use Rattle.rules.specs.Alone.{Part, partOf, partAfter, alone}
+use Rattle.rules.specs.Calls.{afterTurn, done, outcome}
+use Rattle.rules.specs.Alone.{Part, partOf, stateAfter, partAfter, alone}
 use Rattle.rules.specs.declared.Settings.{Settings}
 use Rattle.rules.specs.declared.Rx.{Rx}
 use Rattle.rules.proofs.Cases.{Tested, holds, fails, test-cases, eqb-cases, ltb-is, is-true}
@@ -39,12 +40,12 @@ use Rattle.laws.proofs.Onward.{Young, young-start, young-handed, young-
 -- ---- a call for a frame is answered by a sound node
 
 turn-met : (h : Held) → Sound h → refusal h (turn blank) ≡ 0
-unfolding refusal needs rightStore
-turn-met h s = all-met (needs h (turn blank)) (range-in-order (h .node) (s .order), (yes-eqb (s .outgoing), (tt, tt)))
+unfolding refusal needs rightStore rightCards
+turn-met h s = all-met (needs h (turn blank)) (range-in-order (h .node) (s .order), (yes-eqb (s .outgoing), (yes-eqb (s .ten), (tt, tt))))
 
 tick-met : (h : Held) → Sound h → refusal h tick ≡ 0
-unfolding refusal needs
-tick-met h s = all-met (needs h tick) (range-in-order (h .node) (s .order), tt)
+unfolding refusal needs rightCards
+tick-met h s = all-met (needs h tick) (range-in-order (h .node) (s .order), (yes-eqb (s .ten), tt))
 
 -- ---- how long side s of berth k has to wait for its turn: the berths before it, and ten more if the other side goes first
 
@@ -82,7 +83,7 @@ side-due sendSide p t = go (flowDue (p .berth .rx))
 -- a side that is due and has to let the other go first has the next turn
 then-its-own : (set : Settings) (s : Side) (p : Part) → T (due (sideOf s p .berth)) → sameSide s (turnSide p) ≡ false
     → sameSide s (turnSide (partAfter set p turns)) ≡ true
-unfolding due sideOf turnSide partAfter handOver
+unfolding due sideOf turnSide stateAfter partAfter handOver
 then-its-own set s p t e = go s (flowDue (p .berth .rx)) refl t e
   where
     go : (s : Side) (b : Bool) → flowDue (p .berth .rx) ≡ b → T (due (sideOf s p .berth)) → sameSide s (turnSide p) ≡ false
@@ -107,7 +108,7 @@ module _ (s : Side) (k : ℕ) (h : Held) (sound : Sound h) (small : k < berthCou
   served-now = ap (λ (g : Held). g .node .served) (held-is k h (turn blank) (turn-met h sound)) ∙ served-done
     where
       served-done : done h (turn blank) .node .served ≡ reached (h .node)
-      served-done = unfold done servedNode in (rw (ltb-is (passedOver (h .node)) berthCount some))
+      served-done = unfold done afterTurn servedNode in (rw (ltb-is (passedOver (h .node)) berthCount some))
 
   -- it is this side's turn, or its wait is shorter after it
   turn-or-shorter : TurnOf k h s (turn blank) ⊎ (SparedBy k h s (turn blank) × (waiting s k after < waiting s k h))

@@ -1,5 +1,5 @@
--- Demand 3, first half, in its own words: a run after a set-up. The set-up leaves every berth fresh, and order and the stores'
--- lengths are kept by every call.
+-- Demand 3, first half, in its own words: a run after a set-up. The set-up leaves every berth fresh and every card, and order and the
+-- lengths of the stores and of the list of cards are kept by every call.
 use mathlib.Core.Path.{_≡_, refl, sym, ap, _∙_}
 use Prim.Native.Nat.{ℕ, zero, suc, _*_, _<_}
 use native.Mathlib.Omega.{arith}
@@ -9,33 +9,36 @@ use lib.Seq.{length-sets}
 use lib.Dec.{ltb}
 use Rattle.rules.specs.Tests.{unless}
 use Rattle.rules.specs.Numbers.{berthCount}
-use Rattle.rules.specs.Nodes.{fresh, berthAt, Held}
-use Rattle.rules.specs.Stores.{areaOf, stored, setUpNode, passedOver}
+use Rattle.rules.specs.Nodes.{fresh, berthAt, Held, withNode}
+use Rattle.rules.specs.Stores.{stored, setUpNode, passedOver, reached}
 use Rattle.rules.specs.Answers.{Answer}
-use Rattle.rules.specs.Events.{Call, frame, tick, send, turn, show}
+use Rattle.rules.specs.Events.{Call, frame, tick, send, turn, show, senderOf}
 use Rattle.rules.specs.Refusals.{refusal, setUpRefusal}
-use Rattle.rules.specs.Calls.{afterFrame, done, reply, written, bufferOf, refusedOutcome, outcome, setUpOutcome, answers, final}
+use Rattle.rules.specs.Calls.{afterFrame, afterTurn, done, reply, written, bufferOf, refusedOutcome, outcome, setUpOutcome, answers, final}
 use Rattle.rules.specs.Alone.{Part, partOf}
 use Rattle.rules.specs.declared.Settings.{Settings}
 use Rattle.rules.proofs.Cases.{pick-either}
+use Rattle.rules.proofs.Cards.{added-at-length, ticked-cards-length}
 use Rattle.rules.proofs.Ranges.{range-in-order}
 use Rattle.rules.proofs.Order.{order-kept, set-up-in-order}
 use Rattle.laws.specs.Own.{owns, partShown, Sound, setUp, freshPart, Alone}
-use Rattle.laws.proofs.Isolation.{settings-step, berth-alone, berth-says}
+use Rattle.laws.proofs.Isolation.{part-path, settings-step, berth-alone, berth-says}
 use Rattle.laws.proofs.Reports.{berth-reports, berth-shown}
 
 -- ---- every call keeps what is lent sound
 
 abbrev SameLengths : Held → Held → Type 0
-SameLengths h g = (length (g .incoming) ≡ length (h .incoming)) × (length (g .outgoing) ≡ length (h .outgoing))
+SameLengths h g =
+    (length (g .incoming) ≡ length (h .incoming)) × (length (g .outgoing) ≡ length (h .outgoing)) × (length (g .cards) ≡ length (h .cards))
 
 lengths-done : (h : Held) (c : Call) → SameLengths h (done h c)
-unfolding done afterFrame stored
-lengths-done h (frame id d) = (simp length-sets, refl)
-lengths-done h tick = (refl, refl)
-lengths-done h (send k m) = (refl, simp length-sets)
-lengths-done h (turn buffer) = pick-either (SameLengths h) (ltb (passedOver (h .node)) berthCount) _ _ (λ t. (refl, refl)) (λ t. (refl, refl))
-lengths-done h (show k choice) = (refl, refl)
+unfolding done afterFrame afterTurn stored
+lengths-done h (frame id d) = (simp length-sets, refl, added-at-length (h .cards) (senderOf id) _)
+lengths-done h tick = (refl, refl, ticked-cards-length (h .node .berths) (h .cards))
+lengths-done h (send k m) = (refl, simp length-sets, refl)
+lengths-done h (turn buffer) = pick-either (SameLengths h) (ltb (passedOver (h .node)) berthCount) _ _
+    (λ t. (refl, refl, added-at-length (h .cards) (reached (h .node)) _)) (λ t. (refl, refl, refl))
+lengths-done h (show k choice) = (refl, refl, refl)
 
 lengths-step : (h : Held) (c : Call) → SameLengths h (outcome h c .held)
 unfolding outcome refusedOutcome
@@ -44,7 +47,7 @@ lengths-step h c = go (refusal h c)
     go : (n : ℕ)
         → SameLengths h (unless n (refusedOutcome h (bufferOf c)) (record { answer = reply h c; held = done h c; buffer = written h c }) .held)
     go zero = lengths-done h c
-    go (suc n) = (refl, refl)
+    go (suc n) = (refl, refl, refl)
 
 pub sound-step : (h : Held) (c : Call) → Sound h → Sound (outcome h c .held)
 sound-step h c s =
@@ -53,6 +56,7 @@ sound-step h c s =
       order = order-kept h c (s .order);
       incoming = omega (arith, lengths-step h c .0, s .incoming, a);
       outgoing = omega (arith, lengths-step h c .1, s .outgoing, a);
+      ten = lengths-step h c .2 ∙ s .ten;
     }
 
 pub sound-run : (h : Held) (cs : List Call) → Sound h → Sound (final h cs)
@@ -63,20 +67,20 @@ sound-run h (c ∷ cs) s = sound-run (outcome h c .held) cs (sound-step h c s)
 -- ---- after a set-up
 
 set-up-held : (h : Held) (s : Settings) → setUpRefusal (s .area) (s .block) (s .stmin) ≡ 0
-    → setUp h s ≡ record { node = setUpNode s; incoming = h .incoming; outgoing = h .outgoing }
+    → setUp h s ≡ withNode h (setUpNode s)
 unfolding setUpOutcome
 set-up-held h s e =
     ap (λ (n : ℕ).
     unless n (refusedOutcome h [])
-    (record { answer = Answer.ready; held = record { node = setUpNode s; incoming = h .incoming; outgoing = h .outgoing }; buffer = [] }) .held)
+    (record { answer = Answer.ready; held = withNode h (setUpNode s); buffer = [] }) .held)
     e
 
-set-up-part : (h : Held) (s : Settings) (k : ℕ) → k < berthCount → setUpRefusal (s .area) (s .block) (s .stmin) ≡ 0
+pub set-up-part : (h : Held) (s : Settings) (k : ℕ) → k < berthCount → setUpRefusal (s .area) (s .block) (s .stmin) ≡ 0
     → partOf k (setUp h s) ≡ freshPart h s k
 unfolding partOf berthAt setUpNode
 set-up-part h s k l e =
     ap (partOf k) (set-up-held h s e)
-    ∙ (λ i. record { berth = getD-replicate berthCount k fresh fresh l i; incoming = areaOf (s .area) k (h .incoming); outgoing = areaOf (s .area) k (h .outgoing) })
+    ∙ part-path (getD-replicate berthCount k fresh fresh l) refl refl refl
 
 set-up-settings : (h : Held) (s : Settings) → setUpRefusal (s .area) (s .block) (s .stmin) ≡ 0 → setUp h s .node .settings ≡ s
 unfolding setUpNode
@@ -95,21 +99,23 @@ each-alone h cs k l =
           ∙ ap (λ (p : Part). partShown p choice) (berth-alone k h cs);
     }
 
--- DEMAND 3, FIRST HALF. Take any run of the five calls after a set-up that was answered, the same node and the same two stores
--- throughout. Each berth's state, areas, words, codes, frames and reports, and what is shown of it, are those that the rules give
--- for that berth alone, fresh at the start: its own frames and sends, all ticks, and the turns it received, refused calls left out.
+-- DEMAND 3, FIRST HALF. Take any run of the five calls after a set-up that was answered, the same node, the same two stores and the same
+-- list of cards throughout. Each berth's state, areas, card, words, codes, frames and reports, and what is shown of it, are those that
+-- the rules give for that berth alone, fresh at the start: its own frames and sends, all ticks, and the turns it received, refused calls
+-- left out.
 pub each-alone-after-set-up : (h : Held) (s : Settings) (cs : List Call) (k : ℕ) → k < berthCount
     → setUpRefusal (s .area) (s .block) (s .stmin) ≡ 0 → Alone s (freshPart h s k) k (setUp h s) (owns k (setUp h s) cs) (answers (setUp h s) cs) (final (setUp h s) cs)
 each-alone-after-set-up h s cs k l e = rw (set-up-settings h s e, set-up-part h s k l e) at (each-alone (setUp h s) cs k l)
 
--- after it what is lent is sound, if the stores have their lengths
+-- after it what is lent is sound, if the stores and the list of cards have their lengths
 pub set-up-sound : (h : Held) (s : Settings) → setUpRefusal (s .area) (s .block) (s .stmin) ≡ 0
-    → length (h .incoming) ≡ berthCount * s .area → length (h .outgoing) ≡ berthCount * s .area → Sound (setUp h s)
-set-up-sound h s e i o =
+    → length (h .incoming) ≡ berthCount * s .area → length (h .outgoing) ≡ berthCount * s .area → length (h .cards) ≡ berthCount → Sound (setUp h s)
+set-up-sound h s e i o t =
     let a : setUp h s .node .settings .area ≡ s .area = ap (λ (x : Settings). x .area) (set-up-settings h s e) in
     let q = set-up-held h s e in
     record {
       order = set-up-in-order h (s .area) (s .block) (s .stmin) e;
       incoming = ap (λ (g : Held). length (g .incoming)) q ∙ i ∙ ap (λ (x : ℕ). berthCount * x) (sym a);
       outgoing = ap (λ (g : Held). length (g .outgoing)) q ∙ o ∙ ap (λ (x : ℕ). berthCount * x) (sym a);
+      ten = ap (λ (g : Held). length (g .cards)) q ∙ t;
     }

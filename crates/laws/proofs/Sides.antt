@@ -16,15 +16,16 @@ use Rattle.rules.specs.Arrivals.{Heard, Told, Came, ignored, singleCame, firstC
 use Rattle.rules.specs.Ticks.{ticked, rxCode, txCode}
 use Rattle.rules.specs.Turns.{flowDue, handOver, sent}
 use Rattle.rules.specs.Answers.{Side, receive, send, Report, reported, failedSide, wordReports}
+use Rattle.rules.specs.Cards.{zeroCard}
 use Rattle.rules.specs.Events.{Event, arrives, ticks, sends, turns}
-use Rattle.rules.specs.Alone.{Part, Says, hears, hands, partAfter, says, alone, saysAll}
+use Rattle.rules.specs.Alone.{Part, Says, hears, hands, stateAfter, partAfter, says, alone, saysAll}
 use Rattle.rules.specs.declared.Settings.{Settings}
 use Rattle.rules.specs.declared.Rx.{Rx}
 use Rattle.rules.specs.declared.Tx.{Tx}
 use Rattle.rules.specs.declared.Berth.{Berth}
 use Rattle.rules.proofs.Cases.{Tested, holds, fails, eqb-cases, eqb-not, pick-either}
 use Rattle.laws.specs.Own.{over, only, saidReports}
-use Rattle.laws.specs.Sides.{sameSide, sideOf, frameSide, turnSide, forSide, sideEvents, onlySide, sideSays, ofSide}
+use Rattle.laws.specs.Sides.{sameSide, uncounted, sideOf, frameSide, turnSide, forSide, sideEvents, onlySide, sideSays, ofSide}
 use Rattle.laws.proofs.Isolation.{alone-append, says-append}
 use Rattle.laws.proofs.Reports.{over-append, only-append}
 
@@ -171,21 +172,66 @@ module _ (k : ℕ) where
       go (holds t e) = rw (t, came-send set b d e) (unfold toldBy reported in (flow-all (b .tx) d))
       go (fails t ne) = rw t (received-all set b d ne)
 
+-- ---- a side has no counts
+
+pub side-uncounted : (s : Side) (p : Part) → uncounted (sideOf s p) ≡ sideOf s p
+unfolding sideOf
+side-uncounted receive p = refl
+side-uncounted send p = refl
+
+pub uncounted-side : (s : Side) (p : Part) → sideOf s (uncounted p) ≡ sideOf s p
+unfolding sideOf
+uncounted-side receive p = refl
+uncounted-side send p = refl
+
 module _ (set : Settings) where
+  -- ---- states, areas and what is said do not depend on the counts
+
+  pub uncounted-after : (p : Part) (e : Event) → uncounted (partAfter set p e) ≡ stateAfter set (uncounted p) e
+  unfolding partAfter stateAfter
+  uncounted-after p (arrives d) = refl
+  uncounted-after p ticks = refl
+  uncounted-after p (sends m) = refl
+  uncounted-after p turns = refl
+
+  uncounted-alone : (p : Part) (es : List Event) → uncounted (alone set (uncounted p) es) ≡ uncounted (alone set p es)
+  unfolding alone
+  uncounted-alone p [] = refl
+  uncounted-alone p (e ∷ es) =
+      sym (uncounted-alone (partAfter set (uncounted p) e) es)
+      ∙ ap (λ (q : Part). uncounted (alone set q es)) (uncounted-after (uncounted p) e ∙ sym (uncounted-after p e))
+      ∙ uncounted-alone (partAfter set p e) es
+
+  uncounted-said : (p : Part) (e : Event) → says set (uncounted p) e ≡ says set p e
+  unfolding says
+  uncounted-said p (arrives d) = refl
+  uncounted-said p ticks = refl
+  uncounted-said p (sends m) = refl
+  uncounted-said p turns = refl
+
+  uncounted-says : (p : Part) (es : List Event) → saysAll set (uncounted p) es ≡ saysAll set p es
+  unfolding saysAll
+  uncounted-says p [] = refl
+  uncounted-says p (e ∷ es) =
+      ap₂ (λ (x : Says) (r : List Says). x ∷ r) (uncounted-said p e)
+      (sym (uncounted-says (partAfter set (uncounted p) e) es)
+      ∙ ap (λ (q : Part). saysAll set q es) (uncounted-after (uncounted p) e ∙ sym (uncounted-after p e))
+      ∙ uncounted-says (partAfter set p e) es)
+
   -- ---- one event
 
-  pub side-after : (s : Side) (p : Part) (e : Event) → sideOf s (partAfter set p e) ≡ alone set (sideOf s p) (forSide s p e)
-  unfolding sideOf partAfter alone forSide frameSide turnSide
+  pub side-after : (s : Side) (p : Part) (e : Event) → sideOf s (partAfter set p e) ≡ uncounted (alone set (sideOf s p) (forSide s p e))
+  unfolding sideOf stateAfter partAfter alone forSide frameSide turnSide
   side-after s p (arrives d) = go s (eqb-cases (kind d) flowKind)
     where
       go : (s : Side) → Tested (eqb (kind d) flowKind) (kind d ≡ flowKind) (kind d ≡ flowKind → ⊥)
-          → sideOf s (partAfter set p (arrives d)) ≡ alone set (sideOf s p) (forSide s p (arrives d))
+          → sideOf s (partAfter set p (arrives d)) ≡ uncounted (alone set (sideOf s p) (forSide s p (arrives d)))
       go receive (holds t e) = rw (t, came-send set (p .berth) d e) (unfold toldBy in refl)
       go send (holds t e) =
           rw (t, came-send set (p .berth) d e, came-send set (sideOf send p .berth) d e) (unfold toldBy in refl)
       go receive (fails t ne) =
           rw (t, came-receive set (p .berth) d ne)
-          (unfold cameWithTx in (sym (ap (λ (c : Came). record { berth = c .berth; incoming = sets (p .incoming) (c .place) (c .bytes); outgoing = [] })
+          (unfold cameWithTx in (sym (ap (λ (c : Came). record { berth = c .berth; incoming = sets (p .incoming) (c .place) (c .bytes); outgoing = []; card = zeroCard })
           (came-receive set (sideOf receive p .berth) d ne))))
       go send (fails t ne) = rw (t, came-receive set (p .berth) d ne) (unfold cameWithTx in refl)
   side-after receive p ticks = unfold ticked in refl
@@ -195,7 +241,7 @@ module _ (set : Settings) where
   side-after s p turns = go s (flowDue (p .berth .rx)) refl
     where
       go : (s : Side) (b : Bool) → flowDue (p .berth .rx) ≡ b
-          → sideOf s (partAfter set p turns) ≡ alone set (sideOf s p) (forSide s p turns)
+          → sideOf s (partAfter set p turns) ≡ uncounted (alone set (sideOf s p) (forSide s p turns))
       go receive true e = unfold handOver in (rw (e, e))
       go send true e = unfold handOver in (rw e)
       go receive false e = unfold handOver in (rw e)
@@ -229,15 +275,17 @@ module _ (set : Settings) where
 
   -- ---- runs
 
-  -- EACH SIDE'S STATE AND AREA. After any events each side of a berth, with its area, is what its own events make of that side alone: the
-  -- frames for it, its sends, all ticks, and the turns that are its own. The other side matters only there: flow control goes first.
-  pub side-alone : (s : Side) (p : Part) (es : List Event) → sideOf s (alone set p es) ≡ alone set (sideOf s p) (sideEvents s set p es)
+  -- EACH SIDE'S STATE AND AREA. After any events each side of a berth, with its area, is what its own events make of that side alone, the
+  -- berth's card apart: the frames for it, its sends, all ticks, and the turns that are its own. The other side matters only there: flow
+  -- control goes first.
+  pub side-alone : (s : Side) (p : Part) (es : List Event) → sideOf s (alone set p es) ≡ uncounted (alone set (sideOf s p) (sideEvents s set p es))
   unfolding alone sideEvents
-  side-alone s p [] = refl
+  side-alone s p [] = sym (side-uncounted s p)
   side-alone s p (e ∷ es) =
       side-alone s (partAfter set p e) es
-      ∙ ap (λ (q : Part). alone set q (sideEvents s set (partAfter set p e) es)) (side-after s p e)
-      ∙ sym (alone-append set (sideOf s p) (forSide s p e) (sideEvents s set (partAfter set p e) es))
+      ∙ ap (λ (q : Part). uncounted (alone set q (sideEvents s set (partAfter set p e) es))) (side-after s p e)
+      ∙ uncounted-alone (alone set (sideOf s p) (forSide s p e)) (sideEvents s set (partAfter set p e) es)
+      ∙ ap uncounted (sym (alone-append set (sideOf s p) (forSide s p e) (sideEvents s set (partAfter set p e) es)))
 
   -- EACH SIDE'S WORDS, CODES AND FRAMES are those that its own events say on that side alone.
   pub side-says : (s : Side) (p : Part) (es : List Event) → sideSays s set p es ≡ saysAll set (sideOf s p) (sideEvents s set p es)
@@ -246,6 +294,7 @@ module _ (set : Settings) where
   side-says s p (e ∷ es) =
       ap₂ (λ (q r : List Says). q ++ r) (side-said s p e) (side-says s (partAfter set p e) es)
       ∙ ap (λ (q : Part). saysAll set (sideOf s p) (forSide s p e) ++ saysAll set q (sideEvents s set (partAfter set p e) es)) (side-after s p e)
+      ∙ ap (λ (r : List Says). saysAll set (sideOf s p) (forSide s p e) ++ r) (uncounted-says (alone set (sideOf s p) (forSide s p e)) (sideEvents s set (partAfter set p e) es))
       ∙ sym (says-append set (sideOf s p) (forSide s p e) (sideEvents s set (partAfter set p e) es))
 
   -- ---- reports
@@ -307,7 +356,7 @@ module _ (set : Settings) where
       × (map (λ x. onlySide s (says set p e)) (forSide s p e) ≡ map (λ x. onlySide s (says set q e)) (forSide s q e))
   independent s p q e same turn =
       let f : forSide s p e ≡ forSide s q e = for e turn in (
-        side-after s p e ∙ ap₂ (λ (x : Part) (es : List Event). alone set x es) same f ∙ sym (side-after s q e),
+        side-after s p e ∙ ap₂ (λ (x : Part) (es : List Event). uncounted (alone set x es)) same f ∙ sym (side-after s q e),
         side-said s p e ∙ ap₂ (λ (x : Part) (es : List Event). saysAll set x es) same f ∙ sym (side-said s q e),
       )
     where

@@ -19,10 +19,11 @@ use Rattle.rules.specs.Arrivals.{Heard, Told, Came, ignored, singleCame, firstC
 use Rattle.rules.specs.Turns.{flowDue, messageDue, due, flowFrame, messageFrame, handOver}
 use Rattle.rules.specs.Stores.{rightStore, inside, passedOver, reached, cameAt, handedAt}
 use Rattle.rules.specs.Answers.{Side, receive, send as sendSide, Report, reported, wordReports}
+use Rattle.rules.specs.Cards.{rightCards, zeroCard}
 use Rattle.rules.specs.Events.{Call, frame, tick, send, turn, show, senderOf, Event, arrives, ticks, sends, turns}
 use Rattle.rules.specs.Refusals.{needs, refusal}
 use Rattle.rules.specs.Calls.{done, reply, refusedOutcome, outcome}
-use Rattle.rules.specs.Alone.{Part, partOf, hears, partAfter, says, alone, saysAll}
+use Rattle.rules.specs.Alone.{Part, partOf, hears, stateAfter, partAfter, says, alone, saysAll}
 use Rattle.rules.specs.declared.Settings.{Settings}
 use Rattle.rules.specs.declared.Rx.{Rx}
 use Rattle.rules.specs.declared.Tx.{Tx}
@@ -35,11 +36,11 @@ use Rattle.rules.proofs.Order.{frame-inside}
 use Rattle.rules.proofs.Round.{reached-due}
 use Rattle.rules.proofs.Facts.{frame-either, ignored-leaves}
 use Rattle.laws.specs.Own.{over, only, ownDone, own, saysOf, saidReports, Sound}
-use Rattle.laws.specs.Sides.{sameSide, sideOf, frameSide, turnSide, forSide, sideEvents, ofSide, handedIn, handedSide, framesBy}
+use Rattle.laws.specs.Sides.{sameSide, uncounted, sideOf, frameSide, turnSide, forSide, sideEvents, ofSide, handedIn, handedSide, framesBy}
 use Rattle.laws.specs.Line.{reportsBy, deliveredIn, isIgnored, tickCode, spares, Spares}
 use Rattle.laws.proofs.Isolation.{said-to, part-step, says-step}
 use Rattle.laws.proofs.Reports.{reports-of}
-use Rattle.laws.proofs.Sides.{cameWithTx, came-receive, came-send, side-alone, side-reports}
+use Rattle.laws.proofs.Sides.{cameWithTx, came-receive, came-send, side-uncounted, uncounted-side, uncounted-after, side-alone, side-reports}
 
 -- a whole frame has no more bytes than a frame that comes in may have
 pub whole-heard : frameSize ≤ mostData
@@ -206,7 +207,7 @@ module _ (k : ℕ) (h : Held) where
       ∙ side-reports set k s (partOf k h) (own k h c)
 
   side-step : (s : Side) (c : Call)
-      → sideOf s (partOf k (outcome h c .held)) ≡ alone set (sideOf s (partOf k h)) (sideEvents s set (partOf k h) (own k h c))
+      → sideOf s (partOf k (outcome h c .held)) ≡ uncounted (alone set (sideOf s (partOf k h)) (sideEvents s set (partOf k h) (own k h c)))
   side-step s c = ap (sideOf s) (part-step k h c) ∙ side-alone set s (partOf k h) (own k h c)
 
   -- no event of the side
@@ -214,29 +215,33 @@ module _ (k : ℕ) (h : Held) where
       → (sideOf s (partOf k (outcome h c .held)) ≡ sideOf s (partOf k h)) × (reportsBy s k (outcome h c .answer) ≡ [])
   untouched s c es o e =
       let q : sideEvents s set (partOf k h) (own k h c) ≡ [] = ap (sideEvents s set (partOf k h)) o ∙ e in (
-        side-step s c ∙ ap (alone set (sideOf s (partOf k h))) q ∙ unfold alone in refl,
+        side-step s c ∙ ap (λ es. uncounted (alone set (sideOf s (partOf k h)) es)) q ∙ unfold alone in (side-uncounted s (partOf k h)),
         reports-by s c ∙ ap (λ es. over (saidReports k) (saysAll set (sideOf s (partOf k h)) es)) q ∙ unfold saysAll over in refl,
       )
 
   -- one event of the side
   touched : (s : Side) (c : Call) (e : Event) → own k h c ≡ e ∷ [] → sideEvents s set (partOf k h) (e ∷ []) ≡ e ∷ []
-      → (sideOf s (partOf k (outcome h c .held)) ≡ partAfter set (sideOf s (partOf k h)) e)
+      → (sideOf s (partOf k (outcome h c .held)) ≡ stateAfter set (sideOf s (partOf k h)) e)
       × (reportsBy s k (outcome h c .answer) ≡ saidReports k (says set (sideOf s (partOf k h)) e))
   touched s c e o f =
       let q : sideEvents s set (partOf k h) (own k h c) ≡ e ∷ [] = ap (sideEvents s set (partOf k h)) o ∙ f in (
-        side-step s c ∙ ap (alone set (sideOf s (partOf k h))) q ∙ unfold alone in refl,
+        side-step s c
+            ∙ ap (λ es. uncounted (alone set (sideOf s (partOf k h)) es)) q
+            ∙ unfold alone in (uncounted-after set (sideOf s (partOf k h)) e)
+            ∙ ap (λ (p : Part). stateAfter set p e) (side-uncounted s (partOf k h)),
         reports-by s c ∙ ap (λ es. over (saidReports k) (saysAll set (sideOf s (partOf k h)) es)) q ∙ unfold saysAll over in (append-nil _),
       )
 
   -- a frame that is ignored
-  ignored-part : (d : List ℕ) → T (isIgnored (cameAt h k d .word)) → alone set (partOf k h) (arrives d ∷ []) ≡ partOf k h
-  unfolding cameAt alone partAfter partOf
+  ignored-part : (d : List ℕ) → T (isIgnored (cameAt h k d .word)) → uncounted (alone set (partOf k h) (arrives d ∷ [])) ≡ uncounted (partOf k h)
+  unfolding cameAt alone stateAfter partAfter partOf
   ignored-part d t =
       let (x, y, z) = frame-nothing (berthAt (h .node) k) set d t in
       λ i. record {
         berth = x i;
         incoming = sets (partOf k h .incoming) (frameCame set (berthAt (h .node) k) d .place) (z i);
         outgoing = partOf k h .outgoing;
+        card = zeroCard;
       }
 
   ignored-said : (d : List ℕ) → T (isIgnored (cameAt h k d .word)) → over (saidReports k) (saysAll set (partOf k h) (arrives d ∷ [])) ≡ []
@@ -250,7 +255,9 @@ module _ (k : ℕ) (h : Held) where
       → (sideOf s (partOf k (outcome h c .held)) ≡ sideOf s (partOf k h)) × (reportsBy s k (outcome h c .answer) ≡ [])
   unfolding ofSide only
   passed-by s c d o t = (
-    ap (sideOf s) (part-step k h c ∙ ap (alone set (partOf k h)) o ∙ ignored-part d t),
+    sym (uncounted-side s (partOf k (outcome h c .held)))
+        ∙ ap (sideOf s) (ap uncounted (part-step k h c ∙ ap (alone set (partOf k h)) o) ∙ ignored-part d t)
+        ∙ uncounted-side s (partOf k h),
     ap (ofSide s) (reports-of k (outcome h c .answer) ∙ ap (over (saidReports k)) (says-step k h c ∙ ap (saysAll set (partOf k h)) o) ∙ ignored-said d t),
   )
 
@@ -261,14 +268,14 @@ module _ (k : ℕ) (h : Held) where
     pub frames : framesBy s k (outcome h c .answer) ≡ []
 
   pub record TickOf (s : Side) (c : Call) : Type 0 where
-    pub part : sideOf s (partOf k (outcome h c .held)) ≡ partAfter set (sideOf s (partOf k h)) ticks
+    pub part : sideOf s (partOf k (outcome h c .held)) ≡ stateAfter set (sideOf s (partOf k h)) ticks
     pub reported : reportsBy s k (outcome h c .answer) ≡ saidReports k (says set (sideOf s (partOf k h)) ticks)
     pub frames : framesBy s k (outcome h c .answer) ≡ []
     pub none : tickCode s (sideOf s (partOf k h) .berth) ≡ 0
 
   pub record TurnOf (s : Side) (c : Call) : Type 0 where
     pub is-due : T (due (sideOf s (partOf k h) .berth))
-    pub part : sideOf s (partOf k (outcome h c .held)) ≡ partAfter set (sideOf s (partOf k h)) turns
+    pub part : sideOf s (partOf k (outcome h c .held)) ≡ stateAfter set (sideOf s (partOf k h)) turns
     pub reported : reportsBy s k (outcome h c .answer) ≡ saidReports k (says set (sideOf s (partOf k h)) turns)
     pub frames : framesBy s k (outcome h c .answer) ≡ handedIn (says set (sideOf s (partOf k h)) turns)
 
@@ -473,7 +480,7 @@ module _ (k : ℕ) (h : Held) where
     back-again = omega arith
 
     carried-met : (d : List ℕ) → length d ≤ mostData → refusal h (frame (fromBerth + k) d) ≡ 0
-    unfolding refusal needs rightStore inside
+    unfolding refusal needs rightStore rightCards inside
     carried-met d l =
         let i : senderOf (fromBerth + k) < berthCount = omega arith in
         let known : T (leb fromBerth (fromBerth + k) && ltb (fromBerth + k) (fromBerth + berthCount)) =
@@ -483,10 +490,13 @@ module _ (k : ℕ) (h : Held) where
           (
             yes-eqb (sound .incoming),
             (
-              known,
+              yes-eqb (sound .ten),
               (
-                yes-leb l,
-                (yes-leb (frame-inside h (senderOf (fromBerth + k)) d i (sound .order)), tt),
+                known,
+                (
+                  yes-leb l,
+                  (yes-leb (frame-inside h (senderOf (fromBerth + k)) d i (sound .order)), tt),
+                ),
               ),
             ),
           ),
@@ -498,7 +508,7 @@ module _ (k : ℕ) (h : Held) where
 
     -- it is one event of the side it is for, and no frame is handed over
     pub record CarriedTo (s : Side) (d : List ℕ) : Type 0 where
-      pub part : sideOf s (partOf k (outcome h (frame (fromBerth + k) d) .held)) ≡ partAfter set (sideOf s (partOf k h)) (arrives d)
+      pub part : sideOf s (partOf k (outcome h (frame (fromBerth + k) d) .held)) ≡ stateAfter set (sideOf s (partOf k h)) (arrives d)
       pub reported : reportsBy s k (outcome h (frame (fromBerth + k) d) .answer) ≡ saidReports k (says set (sideOf s (partOf k h)) (arrives d))
       pub frames : framesBy s k (outcome h (frame (fromBerth + k) d) .answer) ≡ []
 

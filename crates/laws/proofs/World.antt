@@ -23,7 +23,7 @@ use Rattle.rules.specs.Answers.{receive, send as sendSide, Report, reported, wo
 use Rattle.rules.specs.Events.{Call, frame, send, arrives, ticks, sends, turns}
 use Rattle.rules.specs.Refusals.{needs, refusal, setUpRefusal}
 use Rattle.rules.specs.Calls.{refusedOutcome, outcome}
-use Rattle.rules.specs.Alone.{Part, partOf, hears, partAfter, says, alone}
+use Rattle.rules.specs.Alone.{Part, partOf, hears, stateAfter, partAfter, says, alone}
 use Rattle.rules.specs.declared.Settings.{Settings}
 use Rattle.rules.specs.declared.Choice.{Choice}
 use Rattle.rules.specs.declared.Rx.{Rx}
@@ -135,18 +135,18 @@ module _ (i j : ℕ) (small-i : i < berthCount) (small-j : j < berthCount) (set 
   rx-of h p e = (ap (λ (q : Part). q .berth .rx) e, ap (λ (q : Part). q .berth .last) e, ap (λ (q : Part). q .incoming) e)
 
   -- a tick and a turn of the send side alone
-  ticked-A : (h : Held) → (partAfter (h .node .settings) (sideA h) ticks .berth .tx ≡ txTicked (berthAt (h .node) i .tx))
-      × (partAfter (h .node .settings) (sideA h) ticks .outgoing ≡ partOf i h .outgoing)
+  ticked-A : (h : Held) → (stateAfter (h .node .settings) (sideA h) ticks .berth .tx ≡ txTicked (berthAt (h .node) i .tx))
+      × (stateAfter (h .node .settings) (sideA h) ticks .outgoing ≡ partOf i h .outgoing)
       × (saidReports i (says (h .node .settings) (sideA h) ticks) ≡ reported i sendSide (txCode (berthAt (h .node) i .tx)))
       × (tickCode sendSide (sideA h .berth) ≡ txCode (berthAt (h .node) i .tx))
-  unfolding partAfter sideOf partOf ticked says saidReports reported
+  unfolding stateAfter sideOf partOf ticked says saidReports reported
   ticked-A h = (refl, refl, refl, refl)
 
-  turned-A : (h : Held) → (partAfter (h .node .settings) (sideA h) turns .berth .tx ≡ afterMessage (berthAt (h .node) i .tx))
-      × (partAfter (h .node .settings) (sideA h) turns .outgoing ≡ partOf i h .outgoing)
+  turned-A : (h : Held) → (stateAfter (h .node .settings) (sideA h) turns .berth .tx ≡ afterMessage (berthAt (h .node) i .tx))
+      × (stateAfter (h .node .settings) (sideA h) turns .outgoing ≡ partOf i h .outgoing)
       × (saidReports i (says (h .node .settings) (sideA h) turns) ≡ reported i sendSide (messageCode (berthAt (h .node) i .tx)))
       × (handedIn (says (h .node .settings) (sideA h) turns) ≡ messageFrame (berthAt (h .node) i .tx) (partOf i h .outgoing) ∷ [])
-  unfolding partAfter sideOf partOf handOver says saidReports handedIn
+  unfolding stateAfter sideOf partOf handOver says saidReports handedIn
   turned-A h = (refl, refl, refl, refl)
 
   due-A : (h : Held) → T (due (sideA h .berth)) → T (messageDue (berthAt (h .node) i .tx))
@@ -168,7 +168,7 @@ module _ (i j : ℕ) (small-i : i < berthCount) (small-j : j < berthCount) (set 
       → (txCode (lineIn i j w .tx) ≡ 0) × (lineIn i j (callA i w c) ≡ tickS i j set n out E (lineIn i j w)) × KeptA w c
   unfolding lineIn sideOf partOf
   tick-A w c kept s =
-      let (tx, o) = tx-of (outcome (w .a) c .held) (partAfter (w .a .node .settings) (sideA (w .a)) ticks) (s .part) in
+      let (tx, o) = tx-of (outcome (w .a) c .held) (stateAfter (w .a .node .settings) (sideA (w .a)) ticks) (s .part) in
       let (a, b, r, d) = ticked-A (w .a) in
       let code : txCode (berthAt (w .a .node) i .tx) ≡ 0 = sym d ∙ s .none in
       let none : reported i sendSide (txCode (berthAt (w .a .node) i .tx)) ≡ [] = ap (reported i sendSide) code ∙ unfold reported in refl in
@@ -178,7 +178,7 @@ module _ (i j : ℕ) (small-i : i < berthCount) (small-j : j < berthCount) (set 
       → T (messageDue (lineIn i j w .tx)) × (lineIn i j (callA i w c) ≡ handS i j set n out E (lineIn i j w)) × KeptA w c
   unfolding lineIn sideOf partOf
   turn-A w c kept s =
-      let (tx, o) = tx-of (outcome (w .a) c .held) (partAfter (w .a .node .settings) (sideA (w .a)) turns) (s .part) in
+      let (tx, o) = tx-of (outcome (w .a) c .held) (stateAfter (w .a .node .settings) (sideA (w .a)) turns) (s .part) in
       let (a, b, r, d) = turned-A (w .a) in
       let f : messageFrame (berthAt (w .a .node) i .tx) (partOf i (w .a) .outgoing) ∷ [] ≡ messageFrame (berthAt (w .a .node) i .tx) out ∷ [] =
       ap (λ (area : List ℕ). messageFrame (berthAt (w .a .node) i .tx) area ∷ []) kept in
@@ -191,12 +191,12 @@ module _ (i j : ℕ) (small-i : i < berthCount) (small-j : j < berthCount) (set 
   step-A w c kept (turned s) = let (t, e, o) = turn-A w c kept s in (hand-S t e, o)
 
   -- a tick and a turn of the receive side alone
-  ticked-B : (h : Held) → (partAfter (h .node .settings) (sideB h) ticks .berth .rx ≡ rxTicked (berthAt (h .node) j .rx))
-      × (partAfter (h .node .settings) (sideB h) ticks .berth .last ≡ berthAt (h .node) j .last)
-      × (partAfter (h .node .settings) (sideB h) ticks .incoming ≡ partOf j h .incoming)
+  ticked-B : (h : Held) → (stateAfter (h .node .settings) (sideB h) ticks .berth .rx ≡ rxTicked (berthAt (h .node) j .rx))
+      × (stateAfter (h .node .settings) (sideB h) ticks .berth .last ≡ berthAt (h .node) j .last)
+      × (stateAfter (h .node .settings) (sideB h) ticks .incoming ≡ partOf j h .incoming)
       × (saidReports j (says (h .node .settings) (sideB h) ticks) ≡ reported j receive (rxCode (berthAt (h .node) j .rx)) ++ [])
       × (tickCode receive (sideB h .berth) ≡ rxCode (berthAt (h .node) j .rx))
-  unfolding partAfter sideOf partOf ticked says saidReports reported
+  unfolding stateAfter sideOf partOf ticked says saidReports reported
   ticked-B h = (refl, refl, refl, refl, refl)
 
   due-B : (h : Held) → T (due (sideB h .berth)) → flowDue (berthAt (h .node) j .rx) ≡ true
@@ -204,12 +204,12 @@ module _ (i j : ℕ) (small-i : i < berthCount) (small-j : j < berthCount) (set 
   due-B h t = is-true (flowDue (berthAt (h .node) j .rx)) (⊎-elim (λ u. u) (λ u. absurd u) (or-cases (flowDue (berthAt (h .node) j .rx)) false t))
 
   turned-B : (h : Held) → flowDue (berthAt (h .node) j .rx) ≡ true
-      → (partAfter (h .node .settings) (sideB h) turns .berth .rx ≡ afterFlow (berthAt (h .node) j .rx))
-      × (partAfter (h .node .settings) (sideB h) turns .berth .last ≡ berthAt (h .node) j .last)
-      × (partAfter (h .node .settings) (sideB h) turns .incoming ≡ partOf j h .incoming)
+      → (stateAfter (h .node .settings) (sideB h) turns .berth .rx ≡ afterFlow (berthAt (h .node) j .rx))
+      × (stateAfter (h .node .settings) (sideB h) turns .berth .last ≡ berthAt (h .node) j .last)
+      × (stateAfter (h .node .settings) (sideB h) turns .incoming ≡ partOf j h .incoming)
       × (saidReports j (says (h .node .settings) (sideB h) turns) ≡ [])
       × (handedIn (says (h .node .settings) (sideB h) turns) ≡ flowFrame (h .node .settings) (berthAt (h .node) j .rx) ∷ [])
-  unfolding partAfter sideOf partOf handOver says saidReports handedIn reported
+  unfolding stateAfter sideOf partOf handOver says saidReports handedIn reported
   turned-B h e = (rw e, rw e, refl, rw e, rw e)
 
   abbrev NoneB : World → Call → Type 0
@@ -225,7 +225,7 @@ module _ (i j : ℕ) (small-i : i < berthCount) (small-j : j < berthCount) (set 
       → (rxCode (lineIn i j w .rx) ≡ 0) × (lineIn i j (callB j w c) ≡ tickR i j set n out E (lineIn i j w))
   unfolding lineIn sideOf partOf
   tick-B w c ds s =
-      let (rx, last, ina) = rx-of (outcome (w .b) c .held) (partAfter (w .b .node .settings) (sideB (w .b)) ticks) (s .part) in
+      let (rx, last, ina) = rx-of (outcome (w .b) c .held) (stateAfter (w .b .node .settings) (sideB (w .b)) ticks) (s .part) in
       let (a, b, v, r, d) = ticked-B (w .b) in
       let code : rxCode (berthAt (w .b .node) j .rx) ≡ 0 = sym d ∙ s .none in
       let none : reported j receive (rxCode (berthAt (w .b .node) j .rx)) ++ [] ≡ [] = ap (λ (m : ℕ). reported j receive m ++ []) code ∙ unfold reported in refl in (
@@ -238,7 +238,7 @@ module _ (i j : ℕ) (small-i : i < berthCount) (small-j : j < berthCount) (set 
       → T (flowDue (lineIn i j w .rx)) × (lineIn i j (callB j w c) ≡ handR i j set n out E (lineIn i j w))
   unfolding lineIn sideOf partOf
   turn-B w c same ds s =
-      let (rx, last, ina) = rx-of (outcome (w .b) c .held) (partAfter (w .b .node .settings) (sideB (w .b)) turns) (s .part) in
+      let (rx, last, ina) = rx-of (outcome (w .b) c .held) (stateAfter (w .b .node .settings) (sideB (w .b)) turns) (s .part) in
       let e = due-B (w .b) (s .is-due) in
       let (a, b, v, r, d) = turned-B (w .b) e in
       let f : flowFrame (w .b .node .settings) (berthAt (w .b .node) j .rx) ∷ [] ≡ flowFrame set (berthAt (w .b .node) j .rx) ∷ [] =
@@ -268,10 +268,10 @@ module _ (i j : ℕ) (small-i : i < berthCount) (small-j : j < berthCount) (set 
   cameA h d = frameCame (h .node .settings) (withRx (berthAt (h .node) i) (fresh .rx) (fresh .last)) d
 
   came-A : (h : Held) (d : List ℕ)
-      → (partAfter (h .node .settings) (sideA h) (arrives d) .berth .tx ≡ cameA h d .berth .tx)
-      × (partAfter (h .node .settings) (sideA h) (arrives d) .outgoing ≡ partOf i h .outgoing)
+      → (stateAfter (h .node .settings) (sideA h) (arrives d) .berth .tx ≡ cameA h d .berth .tx)
+      × (stateAfter (h .node .settings) (sideA h) (arrives d) .outgoing ≡ partOf i h .outgoing)
       × (saidReports i (says (h .node .settings) (sideA h) (arrives d)) ≡ reported i receive (cameA h d .old) ++ wordReports i (cameA h d .word))
-  unfolding partAfter sideOf partOf says saidReports
+  unfolding stateAfter sideOf partOf says saidReports
   came-A h d = (refl, refl, refl)
 
   pub took-A : (w : World) (d : List ℕ) (q : List (List ℕ)) → Sound (w .a) → length d ≤ mostData → kind d ≡ flowKind
@@ -280,7 +280,7 @@ module _ (i j : ℕ) (small-i : i < berthCount) (small-j : j < berthCount) (set 
   unfolding lineIn carriedA leftA tookS
   took-A w d q s l e =
       let r = carry i (w .a) s small-i sendSide d l (side-of-flow d e) in
-      let (tx, o) = tx-of (outcome (w .a) (frame (fromBerth + i) d) .held) (partAfter (w .a .node .settings) (sideA (w .a)) (arrives d)) (r .part) in
+      let (tx, o) = tx-of (outcome (w .a) (frame (fromBerth + i) d) .held) (stateAfter (w .a .node .settings) (sideA (w .a)) (arrives d)) (r .part) in
       let (a, b, c) = came-A (w .a) d in (
         (λ k. atSender (lineIn i j w) ((tx ∙ a) k) ((ap (λ (fs : List (List ℕ)). w .toB ++ fs) (r .frames) ∙ append-nil (w .toB)) k) q
             ((ap (λ (fs : List (List ℕ)). w .log ++ map there fs) (r .frames) ∙ append-nil (w .log)) k) (w .said ++ (r .reported ∙ c) k)),
@@ -293,10 +293,10 @@ module _ (i j : ℕ) (small-i : i < berthCount) (small-j : j < berthCount) (set 
       frameCame (h .node .settings) (withTx (berthAt (h .node) j) (fresh .tx)) d
 
   came-B : (h : Held) (d : List ℕ)
-      → (partAfter (h .node .settings) (sideB h) (arrives d) .berth ≡ cameB h d .berth)
-      × (partAfter (h .node .settings) (sideB h) (arrives d) .incoming ≡ sets (partOf j h .incoming) (cameB h d .place) (cameB h d .bytes))
+      → (stateAfter (h .node .settings) (sideB h) (arrives d) .berth ≡ cameB h d .berth)
+      × (stateAfter (h .node .settings) (sideB h) (arrives d) .incoming ≡ sets (partOf j h .incoming) (cameB h d .place) (cameB h d .bytes))
       × (says (h .node .settings) (sideB h) (arrives d) ≡ hears (cameB h d .old) (cameB h d .word))
-  unfolding partAfter sideOf partOf says
+  unfolding stateAfter sideOf partOf says
   came-B h d = (refl, refl, refl)
 
   pub took-B : (w : World) (d : List ℕ) (q : List (List ℕ)) → Sound (w .b) → w .b .node .settings ≡ set → length d ≤ mostData → (kind d ≡ flowKind → ⊥)
@@ -304,7 +304,7 @@ module _ (i j : ℕ) (small-i : i < berthCount) (small-j : j < berthCount) (set 
   unfolding lineIn carriedB leftB tookR saidReports
   took-B w d q s same l ne =
       let r = carry j (w .b) s small-j receive d l (side-of-other d ne) in
-      let (rx, last, ina) = rx-of (outcome (w .b) (frame (fromBerth + j) d) .held) (partAfter (w .b .node .settings) (sideB (w .b)) (arrives d)) (r .part) in
+      let (rx, last, ina) = rx-of (outcome (w .b) (frame (fromBerth + j) d) .held) (stateAfter (w .b .node .settings) (sideB (w .b)) (arrives d)) (r .part) in
       let (a, b, c) = came-B (w .b) d in
       let ds = delivered-carried j (w .b) s small-j d l (side-of-other d ne) in
       (λ k. atTaker (lineIn i j w) ((rx ∙ ap (λ (x : Berth). x .rx) a) k) ((last ∙ ap (λ (x : Berth). x .last) a) k) ((ina ∙ b) k) q
@@ -463,7 +463,7 @@ send-met h k m l s z a b =
 sent-part : (h : Held) (k : ℕ) (m : List ℕ) → refusal h (send k m) ≡ 0
     → (berthAt (outcome h (send k m) .held .node) k .tx ≡ beginsWith (length m))
     × (partOf k (outcome h (send k m) .held) .outgoing ≡ sets (areaOf (h .node .settings .area) k (h .outgoing)) 0 m)
-unfolding ownDone alone partAfter sentBerth partOf
+unfolding ownDone alone stateAfter partAfter sentBerth partOf
 sent-part h k m e =
     let own-k : own k h (send k m) ≡ sends m ∷ [] = own-is k h (send k m) e ∙ rw (eqb-is k k refl) in
     let p : partOf k (outcome h (send k m) .held) ≡ alone (h .node .settings) (partOf k h) (sends m ∷ []) =
@@ -553,9 +553,9 @@ module _ (i j : ℕ) (m : List ℕ) (a b : Held) (may : MayBegin i j m a b) wher
       }
 
   -- THE LINE'S LAW. Node A takes a message of 1 to A bytes for berth i; berth j of node B is idle and its area holds the message; both
-  -- nodes are in order and every store has its length. Then any calls on both nodes, each node's own ticks too, with each frame
-  -- of A's berth i carried to B's berth j and its flow control back, under the identifiers expected, once and in order. No other
-  -- frame, send or set-up touches these two sides (one that is refused or ignored touches nothing), and no timer of theirs
+  -- nodes are in order, every store has its length and every list ten cards. Then any calls on both nodes, each node's own ticks too,
+  -- with each frame of A's berth i carried to B's berth j and its flow control back, under the identifiers expected, once and in order.
+  -- No other frame, send or set-up touches these two sides (one that is refused or ignored touches nothing), and no timer of theirs
   -- reaches 1,000. When none is on the way and neither has one due or a gap left, the same bytes have arrived and the sender reports 1.
   pub line-law : (ds : List Deed) → AllApart i j (begin i m a b) ds → AtRest i j (living i j (begin i m a b) ds)
       → Arrived i j m (living i j (begin i m a b) ds)

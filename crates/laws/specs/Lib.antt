@@ -1,5 +1,6 @@
 -- What the laws cite beside the rules.
 pub mod Own
+pub mod Cards
 pub mod Rounds
 pub mod Sides
 pub mod Line

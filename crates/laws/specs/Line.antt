@@ -35,8 +35,8 @@ pub data Handed : Type 0 where
   there : List ℕ → Handed
   back : List ℕ → Handed
 
--- the nodes with their stores; the frames on the way; what was handed over, both ways, in order; what the
--- two sides reported; the lengths that the taker answered with Delivered
+-- the nodes with their stores and cards; the frames on the way; what was handed over, both ways, in order; what the two sides
+-- reported; the lengths that the taker answered with Delivered
 pub record World : Type 0 where
   pub a : Held
   pub b : Held
@@ -65,7 +65,7 @@ deliveredIn (expires r c) = []
 deliveredIn accepts = []
 deliveredIn (hands f c) = []
 
--- the world with A's end anew, and with B's: the node with its stores, the frames on the way there and back, what was handed over,
+-- the world with A's end anew, and with B's: the node with stores and cards, the frames on the way there and back, what was handed over,
 -- what the side reported, and the Delivereds of the taker's. It is built here and at the beginning and nowhere else
 abbrev pub endA : World → Held → (toB toA : List (List ℕ)) → List Handed → List Report → World
 endA w held toB toA log said =
@@ -227,7 +227,7 @@ abbrev pub begin : ℕ → List ℕ → Held → Held → World
 begin i m a b = quiet (outcome a (send i m) .held) b
 
 -- what the law wants of the two nodes: berth i's send side and berth j's receive side idle, both nodes in order with stores of the
--- right length, and a message of 1 to A bytes that the taker's area holds
+-- right length and ten cards each, and a message of 1 to A bytes that the taker's area holds
 pub record MayBegin (i j : ℕ) (m : List ℕ) (a b : Held) : Type 0 where
   pub small-i : i < berthCount
   pub small-j : j < berthCount

@@ -11,6 +11,7 @@ use Rattle.rules.specs.Turns.{lengthSending}
 use Rattle.rules.specs.Nodes.{fresh, Held}
 use Rattle.rules.specs.Ranges.{InOrder}
 use Rattle.rules.specs.Stores.{areaOf, passedOver, reached}
+use Rattle.rules.specs.Cards.{cardAt}
 use Rattle.rules.specs.Answers.{Answer, refused, ready, heard, codes, sent, handed, none, shown, receive, send as sendSide, Report, reported, wordReports, forTaker, reports}
 use Rattle.rules.specs.Events.{Call, frame, tick, send, turn, show, senderOf, Event, arrives, ticks, sends, turns}
 use Rattle.rules.specs.Refusals.{refusal}
@@ -81,12 +82,13 @@ unfoldable pub partShown : Part → Choice → List ℕ
 partShown p choice =
     chosen choice (take (p .berth .last) (p .incoming)) (take (lengthSending (p .berth .tx)) (p .outgoing))
 
--- ---- what is lent is sound: the node in order, both stores of the right length
+-- ---- what is lent is sound: the node in order, both stores of the right length, ten cards
 
 pub record Sound (h : Held) : Type 0 where
   pub order : InOrder (h .node)
   pub incoming : length (h .incoming) ≡ berthCount * h .node .settings .area
   pub outgoing : length (h .outgoing) ≡ berthCount * h .node .settings .area
+  pub ten : length (h .cards) ≡ berthCount
 
 -- ---- after a set-up
 
@@ -94,15 +96,21 @@ pub record Sound (h : Held) : Type 0 where
 abbrev pub setUp : Held → Settings → Held
 setUp h s = setUpOutcome h (s .area) (s .block) (s .stmin) .held
 
--- berth k fresh, and its areas as the stores have them
+-- berth k fresh, its areas as the stores have them, and its card as the list has it
 abbrev pub freshPart : Held → Settings → ℕ → Part
-freshPart h s k = record { berth = fresh; incoming = areaOf (s .area) k (h .incoming); outgoing = areaOf (s .area) k (h .outgoing) }
+freshPart h s k =
+    record {
+      berth = fresh;
+      incoming = areaOf (s .area) k (h .incoming);
+      outgoing = areaOf (s .area) k (h .outgoing);
+      card = cardAt (h .cards) k;
+    }
 
 -- ---- demand 3, first half
 
 -- what demand 3 says of berth k in a run that begins with h, if its own events, the answers and what the run leaves are these: its
--- state and areas; its words, codes and frames; its reports; and, if the node is in order and the stores have their lengths, what a
--- show of it returns after the run, are those of its own events on that berth alone
+-- state, areas and card; its words, codes and frames; its reports; and, if the node is in order and the stores have their lengths, what
+-- a show of it returns after the run, are those of its own events on that berth alone
 pub record Alone (s : Settings) (start : Part) (k : ℕ) (h : Held) (own : List Event) (said : List Answer) (end : Held) : Type 0 where
   pub part : partOf k end ≡ alone s start own
   pub says : over (saysOf k) said ≡ saysAll s start own

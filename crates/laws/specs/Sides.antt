@@ -10,9 +10,10 @@ use Rattle.rules.specs.Numbers.{flowKind}
 use Rattle.rules.specs.Nodes.{fresh, withRx, withTx, Held}
 use Rattle.rules.specs.Frames.{kind}
 use Rattle.rules.specs.Turns.{flowDue}
+use Rattle.rules.specs.Cards.{zeroCard}
 use Rattle.rules.specs.Answers.{Answer, refused, ready, heard, codes, sent, handed, none, shown, Side, receive, send, Report, forTaker, reports}
 use Rattle.rules.specs.Events.{Call, frame, tick, send as sendTo, turn, show, Event, arrives, ticks, sends, turns}
-use Rattle.rules.specs.Alone.{Part, partOf, Says, hears, expires, accepts, hands, partAfter, says, alone, saysAll}
+use Rattle.rules.specs.Alone.{Part, partOf, Says, hears, expires, accepts, hands, withCard, partAfter, says, alone, saysAll}
 use Rattle.rules.specs.declared.Settings.{Settings}
 use Rattle.laws.specs.Own.{over, saysOf, only, ofBerth, saidReports}
 
@@ -22,12 +23,16 @@ sameSide receive send = false
 sameSide send receive = false
 sameSide send send = true
 
--- one side of a berth with its area: the other side fresh, the other area left out
+-- a part without its counts. The card is the berth's and no side's: a count of either side that reaches its most freezes all nine
+abbrev pub uncounted : Part → Part
+uncounted p = withCard p zeroCard
+
+-- one side of a berth with its area: the other side fresh, the other area left out, and no counts
 unfoldable pub sideOf : Side → Part → Part
 sideOf receive p =
-    record { berth = withTx (p .berth) (fresh .tx); incoming = p .incoming; outgoing = [] }
+    record { berth = withTx (p .berth) (fresh .tx); incoming = p .incoming; outgoing = []; card = zeroCard }
 sideOf send p =
-    record { berth = withRx (p .berth) (fresh .rx) (fresh .last); incoming = []; outgoing = p .outgoing }
+    record { berth = withRx (p .berth) (fresh .rx) (fresh .last); incoming = []; outgoing = p .outgoing; card = zeroCard }
 
 -- ---- the events of a side
 
@@ -115,9 +120,10 @@ saysBy s k (c ∷ cs) (a ∷ answers) = over (saysFor s c) (saysOf k a) ++ saysB
 
 -- ---- each side alone
 
--- the same of side s of berth k as demand 3 says of a berth: its state and area; its words and codes; its frames; its reports
+-- the same of side s of berth k as demand 3 says of a berth, but for the card: its state and area; its words and codes; its frames; its
+-- reports
 pub record SideAlone (set : Settings) (start : Part) (s : Side) (k : ℕ) (own : List Event) (cs : List Call) (said : List Answer) (end : Held) : Type 0 where
-  pub part : sideOf s (partOf k end) ≡ alone set start own
+  pub part : sideOf s (partOf k end) ≡ uncounted (alone set start own)
   pub says : saysBy s k cs said ≡ saysAll set start own
   pub frames : over (framesBy s k) said ≡ over handedIn (saysAll set start own)
   pub reported : ofSide s (ofBerth k (over reports said)) ≡ over (saidReports k) (saysAll set start own)

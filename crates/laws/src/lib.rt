@@ -1,1 +1,2 @@
-// Theorems only: demand 3 and the line's law, over the definitions of `rules`. Statements stand in proofs/, what they cite in specs/.
+// Theorems only: demand 3, the law of the cards and the line's law, over the definitions of `rules`. Statements stand in proofs/, what
+// they cite in specs/.

@@ -4,6 +4,8 @@ pub mod Item
 pub mod Rest
 pub mod Loops
 pub mod Ten
+pub mod Lending
+pub mod Twelve
 pub mod Sides
 pub mod Ordered
 pub mod Distances
@@ -12,3 +14,4 @@ pub mod Puts
 pub mod Bodies
 pub mod Filled
 pub mod Codes
+pub mod Again

@@ -7,6 +7,7 @@ use Rattle.rules.specs.Answers.{shown, setUpSays, frameSays, tickSays, sendSays
 use Rattle.rules.specs.Events.{frame, tick, send, turn, show}
 use Rattle.rules.specs.Calls.{Outcome, outcome, setUpOutcome}
 use Rattle.rules.specs.declared.Node.{Node}
+use Rattle.rules.specs.declared.Card.{Card}
 use Rattle.rules.specs.declared.SetUpAnswer.{SetUpAnswer}
 use Rattle.rules.specs.declared.FrameAnswer.{FrameAnswer}
 use Rattle.rules.specs.declared.Choice.{Choice}
@@ -27,30 +28,35 @@ same {o} {p} e =
 -- ---- what the code leaves is the rule's outcome
 
 module _ (n : Node) (n′ : Node) where
-  pub set-up-is : (area block stmin : ℕ) (a : SetUpAnswer) → SetUpPromise n area block stmin a n′ → (incoming outgoing : List ℕ)
-      → left (setUpSays a) (lent n′ incoming outgoing) [] ≡ setUpOutcome (lent n incoming outgoing) area block stmin
-  set-up-is area block stmin a p incoming outgoing = same (p incoming outgoing)
-
-  pub frame-is : (incoming incoming′ : List ℕ) (id : ℕ) (d : List ℕ) (a : FrameAnswer) → FramePromise n incoming id d a n′ incoming′
-      → (outgoing : List ℕ) → left (frameSays a) (lent n′ incoming′ outgoing) [] ≡ outcome (lent n incoming outgoing) (frame id d)
-  frame-is incoming incoming′ id d a p outgoing = same (p outgoing)
-
-  pub tick-is : (a : TickAnswer) → TickPromise n a n′ → (incoming outgoing : List ℕ)
-      → left (tickSays a) (lent n′ incoming outgoing) [] ≡ outcome (lent n incoming outgoing) tick
-  tick-is a p incoming outgoing = same (p .agrees incoming outgoing)
+  pub set-up-is : (area block stmin : ℕ) (a : SetUpAnswer) → SetUpPromise n area block stmin a n′ → (cards : List Card) (incoming outgoing : List ℕ)
+      → left (setUpSays a) (lent n′ cards incoming outgoing) [] ≡ setUpOutcome (lent n cards incoming outgoing) area block stmin
+  set-up-is area block stmin a p cards incoming outgoing = same (p cards incoming outgoing)
 
   pub send-is : (outgoing outgoing′ : List ℕ) (k : ℕ) (m : List ℕ) (a : SendAnswer) → SendPromise n outgoing k m a n′ outgoing′
-      → (incoming : List ℕ) → left (sendSays a) (lent n′ incoming outgoing′) [] ≡ outcome (lent n incoming outgoing) (send k m)
-  send-is outgoing outgoing′ k m a p incoming = same (p incoming)
+      → (cards : List Card) (incoming : List ℕ)
+      → left (sendSays a) (lent n′ cards incoming outgoing′) [] ≡ outcome (lent n cards incoming outgoing) (send k m)
+  send-is outgoing outgoing′ k m a p cards incoming = same (p cards incoming)
 
-  pub turn-is : (outgoing buffer buffer′ : List ℕ) (a : TurnAnswer) → TurnPromise n outgoing buffer a n′ buffer′
-      → (incoming : List ℕ) → left (turnSays a buffer′) (lent n′ incoming outgoing) buffer′ ≡ outcome (lent n incoming outgoing) (turn buffer)
+module _ (n : Node) (cards : List Card) (n′ : Node) (cards′ : List Card) where
+  pub frame-is : (incoming incoming′ : List ℕ) (id : ℕ) (d : List ℕ) (a : FrameAnswer)
+      → FramePromise n cards incoming id d a n′ cards′ incoming′
+      → (outgoing : List ℕ) → left (frameSays a) (lent n′ cards′ incoming′ outgoing) [] ≡ outcome (lent n cards incoming outgoing) (frame id d)
+  frame-is incoming incoming′ id d a p outgoing = same (p outgoing)
+
+  pub tick-is : (a : TickAnswer) → TickPromise n cards a n′ cards′ → (incoming outgoing : List ℕ)
+      → left (tickSays a) (lent n′ cards′ incoming outgoing) [] ≡ outcome (lent n cards incoming outgoing) tick
+  tick-is a p incoming outgoing = same (p .agrees incoming outgoing)
+
+  pub turn-is : (outgoing buffer buffer′ : List ℕ) (a : TurnAnswer) → TurnPromise n cards outgoing buffer a n′ cards′ buffer′
+      → (incoming : List ℕ)
+      → left (turnSays a buffer′) (lent n′ cards′ incoming outgoing) buffer′ ≡ outcome (lent n cards incoming outgoing) (turn buffer)
   turn-is outgoing buffer buffer′ a p incoming = same (p incoming)
 
 pub show-is : (n : Node) (incoming outgoing : List ℕ) (k : ℕ) (choice : Choice) (part : List ℕ) (in-at out-at part-at : ℕ × ℕ)
     → ShowPromise n incoming outgoing k choice part in-at out-at part-at
-    → left (shown part) (lent n incoming outgoing) [] ≡ outcome (lent n incoming outgoing) (show k choice)
-show-is n incoming outgoing k choice part in-at out-at part-at p = same (p .agrees)
+    → (cards : List Card)
+    → left (shown part) (lent n cards incoming outgoing) [] ≡ outcome (lent n cards incoming outgoing) (show k choice)
+show-is n incoming outgoing k choice part in-at out-at part-at p cards = same (p .agrees cards)
 
 -- ---- two answers of the code that say the same are the same
 
@@ -107,31 +113,38 @@ module _ (n : Node) (n₁ n₂ : Node) where
   pub set-up-determined : (area block stmin : ℕ) (a b : SetUpAnswer) → SetUpPromise n area block stmin a n₁ → SetUpPromise n area block stmin b n₂
       → (a ≡ b) × (n₁ ≡ n₂)
   set-up-determined area block stmin a b p q =
-      let e = set-up-is n n₁ area block stmin a p [] [] ∙ sym (set-up-is n n₂ area block stmin b q [] []) in
+      let e = set-up-is n n₁ area block stmin a p [] [] [] ∙ sym (set-up-is n n₂ area block stmin b q [] [] []) in
       (set-up-tells a b (ap (λ o. o .answer) e), ap (λ o. o .held .node) e)
-
-  pub frame-determined : (incoming s₁ s₂ : List ℕ) (id : ℕ) (d : List ℕ) (a b : FrameAnswer)
-      → FramePromise n incoming id d a n₁ s₁ → FramePromise n incoming id d b n₂ s₂ → (a ≡ b) × (n₁ ≡ n₂) × (s₁ ≡ s₂)
-  frame-determined incoming s₁ s₂ id d a b p q =
-      let e = frame-is n n₁ incoming s₁ id d a p [] ∙ sym (frame-is n n₂ incoming s₂ id d b q []) in
-      (frame-tells a b (ap (λ o. o .answer) e), ap (λ o. o .held .node) e, ap (λ o. o .held .incoming) e)
-
-  pub tick-determined : (a b : TickAnswer) → TickPromise n a n₁ → TickPromise n b n₂ → (a ≡ b) × (n₁ ≡ n₂)
-  tick-determined a b p q =
-      let e = tick-is n n₁ a p [] [] ∙ sym (tick-is n n₂ b q [] []) in
-      (tick-tells (a .refused) (b .refused) (a .codes) (b .codes) (p .beside) (q .beside) (ap (λ o. o .answer) e), ap (λ o. o .held .node) e)
 
   pub send-determined : (outgoing s₁ s₂ : List ℕ) (k : ℕ) (m : List ℕ) (a b : SendAnswer)
       → SendPromise n outgoing k m a n₁ s₁ → SendPromise n outgoing k m b n₂ s₂ → (a ≡ b) × (n₁ ≡ n₂) × (s₁ ≡ s₂)
   send-determined outgoing s₁ s₂ k m a b p q =
-      let e = send-is n n₁ outgoing s₁ k m a p [] ∙ sym (send-is n n₂ outgoing s₂ k m b q []) in
+      let e = send-is n n₁ outgoing s₁ k m a p [] [] ∙ sym (send-is n n₂ outgoing s₂ k m b q [] []) in
       (send-tells a b (ap (λ o. o .answer) e), ap (λ o. o .held .node) e, ap (λ o. o .held .outgoing) e)
 
+-- a frame, a tick and a turn also determine the cards
+module _ (n : Node) (cards : List Card) (n₁ n₂ : Node) (c₁ c₂ : List Card) where
+  pub frame-determined : (incoming s₁ s₂ : List ℕ) (id : ℕ) (d : List ℕ) (a b : FrameAnswer)
+      → FramePromise n cards incoming id d a n₁ c₁ s₁ → FramePromise n cards incoming id d b n₂ c₂ s₂
+      → (a ≡ b) × (n₁ ≡ n₂) × (c₁ ≡ c₂) × (s₁ ≡ s₂)
+  frame-determined incoming s₁ s₂ id d a b p q =
+      let e = frame-is n cards n₁ c₁ incoming s₁ id d a p [] ∙ sym (frame-is n cards n₂ c₂ incoming s₂ id d b q []) in
+      (frame-tells a b (ap (λ o. o .answer) e), ap (λ o. o .held .node) e, ap (λ o. o .held .cards) e, ap (λ o. o .held .incoming) e)
+
+  pub tick-determined : (a b : TickAnswer) → TickPromise n cards a n₁ c₁ → TickPromise n cards b n₂ c₂ → (a ≡ b) × (n₁ ≡ n₂) × (c₁ ≡ c₂)
+  tick-determined a b p q =
+      let e = tick-is n cards n₁ c₁ a p [] [] ∙ sym (tick-is n cards n₂ c₂ b q [] []) in (
+        tick-tells (a .refused) (b .refused) (a .codes) (b .codes) (p .beside) (q .beside) (ap (λ o. o .answer) e),
+        ap (λ o. o .held .node) e,
+        ap (λ o. o .held .cards) e,
+      )
+
   pub turn-determined : (outgoing buffer b₁ b₂ : List ℕ) (a b : TurnAnswer)
-      → TurnPromise n outgoing buffer a n₁ b₁ → TurnPromise n outgoing buffer b n₂ b₂ → (a ≡ b) × (n₁ ≡ n₂) × (b₁ ≡ b₂)
+      → TurnPromise n cards outgoing buffer a n₁ c₁ b₁ → TurnPromise n cards outgoing buffer b n₂ c₂ b₂
+      → (a ≡ b) × (n₁ ≡ n₂) × (c₁ ≡ c₂) × (b₁ ≡ b₂)
   turn-determined outgoing buffer b₁ b₂ a b p q =
-      let e = turn-is n n₁ outgoing buffer b₁ a p [] ∙ sym (turn-is n n₂ outgoing buffer b₂ b q []) in
-      (turn-tells b₁ b₂ a b (ap (λ o. o .answer) e), ap (λ o. o .held .node) e, ap (λ o. o .buffer) e)
+      let e = turn-is n cards n₁ c₁ outgoing buffer b₁ a p [] ∙ sym (turn-is n cards n₂ c₂ outgoing buffer b₂ b q []) in
+      (turn-tells b₁ b₂ a b (ap (λ o. o .answer) e), ap (λ o. o .held .node) e, ap (λ o. o .held .cards) e, ap (λ o. o .buffer) e)
 
 shown-tells : (p q : List ℕ) → shown p ≡ shown q → p ≡ q
 shown-tells p q e = cc
@@ -140,8 +153,8 @@ pub show-determined : (n : Node) (incoming outgoing : List ℕ) (k : ℕ) (choic
     → ShowPromise n incoming outgoing k choice p₁ in-at out-at at₁ → ShowPromise n incoming outgoing k choice p₂ in-at out-at at₂
     → (p₁ ≡ p₂) × (at₁ ≡ at₂)
 show-determined n incoming outgoing k choice p₁ p₂ in-at out-at at₁ at₂ p q =
-    let e = same (p .agrees) ∙ sym (same (q .agrees)) in
-    (shown-tells p₁ p₂ (ap (λ o. o .answer) e), p .starts ∙ sym (q .starts))
+    let e = same (p .agrees []) ∙ sym (same (q .agrees [])) in
+    (shown-tells p₁ p₂ (ap (λ o. o .answer) e), p .starts [] ∙ sym (q .starts []))
 
 pub needed-determined : (n r₁ r₂ : ℕ) → NeededPromise n r₁ → NeededPromise n r₂ → r₁ ≡ r₂
 needed-determined n r₁ r₂ p q = p ∙ sym q

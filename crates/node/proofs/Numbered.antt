@@ -11,48 +11,56 @@ use Rattle.rules.specs.Numbers.{berthCount, fromBerth}
 use Rattle.rules.specs.Nodes.{berthAt}
 use Rattle.rules.specs.Ranges.{inOrder}
 use Rattle.rules.specs.Stores.{rightStore, passedOver}
+use Rattle.rules.specs.Cards.{rightCards}
 use Rattle.rules.specs.Answers.{refused, none, frameSays, sendSays, turnSays}
-use Rattle.rules.specs.Events.{frame, send, turn, senderOf}
+use Rattle.rules.specs.Events.{frame, tick, send, turn, senderOf}
 use Rattle.rules.specs.Refusals.{toHear, refusal, needs}
 use Rattle.rules.specs.Calls.{showable, done, reply, written}
 use Rattle.rules.specs.declared.Node.{Node}
+use Rattle.rules.specs.declared.Card.{Card}
 use Rattle.rules.specs.declared.Tx.{Tx}
 use Rattle.rules.specs.declared.FrameAnswer.{FrameAnswer}
 use Rattle.rules.specs.declared.SendAnswer.{SendAnswer}
 use Rattle.rules.specs.declared.TurnAnswer.{TurnAnswer}
 use Rattle.rules.proofs.Cases.{Tested, holds, fails, ltb-cases, ltb-is, ltb-not}
 use Rattle.node.specs.Promises.{lent, FramePromise, SendPromise, TurnPromise}
-use Rattle.node.specs.Numbered.{frameRefusal, sendRefusal, turnRefusal, canShow, placeOf, placeOfSender}
+use Rattle.node.specs.Numbered.{frameRefusal, tickRefusal, sendRefusal, turnRefusal, canShow, placeOf, placeOfSender}
 use Rattle.node.proofs.Outcomes.{stands, refuses, does}
 
 -- ---- what a call finds is the refusal of the rules
 
 module _ (n : Node) where
-  pub frame-found : (incoming d : List ℕ) (id : ℕ)
-      → frameRefusal (inOrder n) (n .settings .area) (length incoming) id (length d) ≡ firstUnmet (toHear n incoming id d)
-  unfolding frameRefusal rightStore
-  frame-found incoming d id = refl
+  pub frame-found : (cards : List Card) (incoming d : List ℕ) (id : ℕ)
+      → frameRefusal (inOrder n) (n .settings .area) (length incoming) (length cards) id (length d) ≡ firstUnmet (toHear n incoming cards id d)
+  unfolding frameRefusal rightStore rightCards
+  frame-found cards incoming d id = refl
+
+  pub tick-found : (cards : List Card) (incoming outgoing : List ℕ)
+      → tickRefusal (inOrder n) (length cards) ≡ refusal (lent n cards incoming outgoing) tick
+  unfolding tickRefusal refusal needs rightCards
+  tick-found cards incoming outgoing = refl
 
   -- the send side is berth k's, where there is one
-  pub send-found : (tx : Tx) (k : ℕ) (outgoing m : List ℕ) → (k < berthCount → tx ≡ berthAt n k .tx) → (incoming : List ℕ)
-      → sendRefusal (inOrder n) (n .settings .area) tx (length outgoing) k (length m) ≡ refusal (lent n incoming outgoing) (send k m)
+  pub send-found : (tx : Tx) (k : ℕ) (outgoing m : List ℕ) → (k < berthCount → tx ≡ berthAt n k .tx) → (cards : List Card) (incoming : List ℕ)
+      → sendRefusal (inOrder n) (n .settings .area) tx (length outgoing) k (length m) ≡ refusal (lent n cards incoming outgoing) (send k m)
   unfolding sendRefusal refusal needs rightStore firstUnmet
-  send-found tx k outgoing m side incoming = go (ltb-cases k berthCount)
+  send-found tx k outgoing m side cards incoming = go (ltb-cases k berthCount)
     where
       go : Tested (ltb k berthCount) (k < berthCount) (berthCount ≤ k)
-          → sendRefusal (inOrder n) (n .settings .area) tx (length outgoing) k (length m) ≡ refusal (lent n incoming outgoing) (send k m)
+          → sendRefusal (inOrder n) (n .settings .area) tx (length outgoing) k (length m) ≡ refusal (lent n cards incoming outgoing) (send k m)
       go (holds e l) = rw (side l)
       go (fails e l) = rw e
 
-  pub turn-found : (incoming outgoing buffer : List ℕ)
-      → turnRefusal (inOrder n) (n .settings .area) (length outgoing) (length buffer) ≡ refusal (lent n incoming outgoing) (turn buffer)
-  unfolding turnRefusal refusal needs rightStore
-  turn-found incoming outgoing buffer = refl
+  pub turn-found : (cards : List Card) (incoming outgoing buffer : List ℕ)
+      → turnRefusal (inOrder n) (n .settings .area) (length outgoing) (length cards) (length buffer)
+      ≡ refusal (lent n cards incoming outgoing) (turn buffer)
+  unfolding turnRefusal refusal needs rightStore rightCards
+  turn-found cards incoming outgoing buffer = refl
 
-  pub show-found : (incoming outgoing : List ℕ) (k : ℕ)
-      → canShow (inOrder n) (n .settings .area) (length incoming) (length outgoing) k ≡ showable (lent n incoming outgoing) k
+  pub show-found : (cards : List Card) (incoming outgoing : List ℕ) (k : ℕ)
+      → canShow (inOrder n) (n .settings .area) (length incoming) (length outgoing) k ≡ showable (lent n cards incoming outgoing) k
   unfolding canShow showable rightStore
-  show-found incoming outgoing k = refl
+  show-found cards incoming outgoing k = refl
 
 -- ---- places
 
@@ -83,23 +91,26 @@ sender-within id = go (ltb-cases id fromBerth)
 -- ---- a number that was found is answered, and all else stays
 
 module _ (n : Node) (number : ℕ) (some : number ≡ 0 → ⊥) where
-  pub refused-frame : (incoming : List ℕ) (id : ℕ) (d : List ℕ) → number ≡ firstUnmet (toHear n incoming id d)
-      → (a : FrameAnswer) → frameSays a ≡ refused number → FramePromise n incoming id d a n incoming
+  pub refused-frame : (cards : List Card) (incoming : List ℕ) (id : ℕ) (d : List ℕ) → number ≡ firstUnmet (toHear n incoming cards id d)
+      → (a : FrameAnswer) → frameSays a ≡ refused number → FramePromise n cards incoming id d a n cards incoming
   unfolding refusal needs
-  refused-frame incoming id d e a says =
-      λ outgoing. refuses (lent n incoming outgoing) (frame id d) number some says refl (stands (toHear n incoming id d) _ some e)
+  refused-frame cards incoming id d e a says =
+      λ outgoing. refuses (lent n cards incoming outgoing) (frame id d) number some says refl (stands (toHear n incoming cards id d) _ some e)
 
-  pub refused-send : (outgoing : List ℕ) (k : ℕ) (m : List ℕ) → ((incoming : List ℕ) → number ≡ refusal (lent n incoming outgoing) (send k m))
+  pub refused-send : (outgoing : List ℕ) (k : ℕ) (m : List ℕ)
+      → ((cards : List Card) (incoming : List ℕ) → number ≡ refusal (lent n cards incoming outgoing) (send k m))
       → (a : SendAnswer) → sendSays a ≡ refused number → SendPromise n outgoing k m a n outgoing
-  refused-send outgoing k m e a says = λ incoming. refuses (lent n incoming outgoing) (send k m) number some says refl (e incoming)
+  refused-send outgoing k m e a says = λ cards incoming. refuses (lent n cards incoming outgoing) (send k m) number some says refl (e cards incoming)
 
-  pub refused-turn : (outgoing buffer : List ℕ) → ((incoming : List ℕ) → number ≡ refusal (lent n incoming outgoing) (turn buffer))
-      → (a : TurnAnswer) → turnSays a buffer ≡ refused number → TurnPromise n outgoing buffer a n buffer
-  refused-turn outgoing buffer e a says = λ incoming. refuses (lent n incoming outgoing) (turn buffer) number some says refl (e incoming)
+  pub refused-turn : (cards : List Card) (outgoing buffer : List ℕ)
+      → ((incoming : List ℕ) → number ≡ refusal (lent n cards incoming outgoing) (turn buffer))
+      → (a : TurnAnswer) → turnSays a buffer ≡ refused number → TurnPromise n cards outgoing buffer a n cards buffer
+  refused-turn cards outgoing buffer e a says = λ incoming. refuses (lent n cards incoming outgoing) (turn buffer) number some says refl (e incoming)
 
 -- no berth is due
-pub none-due : (n : Node) (outgoing buffer : List ℕ) → ((incoming : List ℕ) → refusal (lent n incoming outgoing) (turn buffer) ≡ 0)
-    → passedOver n ≡ berthCount → (a : TurnAnswer) → turnSays a buffer ≡ none berthCount → TurnPromise n outgoing buffer a n buffer
+pub none-due : (n : Node) (cards : List Card) (outgoing buffer : List ℕ)
+    → ((incoming : List ℕ) → refusal (lent n cards incoming outgoing) (turn buffer) ≡ 0)
+    → passedOver n ≡ berthCount → (a : TurnAnswer) → turnSays a buffer ≡ none berthCount → TurnPromise n cards outgoing buffer a n cards buffer
 unfolding done reply written
-none-due n outgoing buffer may ten a says =
-    λ incoming. does (lent n incoming outgoing) (turn buffer) refl (sym (may incoming)) (rw (says, ten))
+none-due n cards outgoing buffer may ten a says =
+    λ incoming. does (lent n cards incoming outgoing) (turn buffer) refl (sym (may incoming)) (rw (says, ten))

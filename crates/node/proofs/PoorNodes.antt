@@ -1,9 +1,10 @@
--- The five poor nodes of paper 01, "What the promises must say", shut out by the promises at every input that the paper answers. A
--- promise says that the call left the rule's outcome, and each poor node's is another one.
+-- The five poor nodes of paper 01, "What the promises must say", and one that counts nothing, shut out by the promises at every input
+-- that the paper answers. A promise says that the call left the rule's outcome, and each poor node's is another one.
 use Prim.Native.Nat.{ℕ, suc, _+_, _-_, _*_, _≤_, _<_}
 use native.Mathlib.Omega.{arith}
 use native.Mathlib.Nat.{mul-le-mul-right}
 use mathlib.Core.Path.{_≡_, refl, sym, ap, _∙_}
+use mathlib.Core.Bool.{false}
 use mathlib.Core.List.{List, [], _∷_, _++_, append-assoc}
 use lib.ListN.{length, getD, take, drop, replicate}
 use lib.Seq.{sets, sets-eq, take-at, drop-at, getD-set-same, length-take-le}
@@ -12,10 +13,11 @@ use Rattle.rules.specs.Tests.{all, each, firstUnmet}
 use Rattle.rules.specs.Numbers.{berthCount, toBerth, timeout, consecutiveKind, frameSize, outOfOrder, badSetting}
 use Rattle.rules.specs.Nodes.{fresh, withRx, blankNode, berthAt, Held}
 use Rattle.rules.specs.Ranges.{settingsAllowed, inBlock, takingInRange, berthInOrder, inOrder}
-use Rattle.rules.specs.Frames.{kind, low, singleFits, consecutiveFits, share}
-use Rattle.rules.specs.Arrivals.{singleCame, missing, piece, completed, awaitedCame, heardBy, byKind, frameCame}
+use Rattle.rules.specs.Frames.{kind, low, singleFits, shortLength, announced, firstFits, consecutiveFits, share}
+use Rattle.rules.specs.Arrivals.{singleCame, begun, firstCame, missing, piece, completed, awaitedCame, heardBy, byKind, frameCame}
 use Rattle.rules.specs.Ticks.{ran, closer, rxTicked, txTicked, ticked}
 use Rattle.rules.specs.Turns.{due}
+use Rattle.rules.specs.Cards.{zeroCard, rightCards, cardAt, frozen, added, addedAt, frameAdds}
 use Rattle.rules.specs.Events.{Call, frame, tick, send, turn, show, senderOf}
 use Rattle.rules.specs.Stores.{rightStore, areaOf, stored, inside, distance, leastDistance, passedOver, reached, cameAt, handedAt}
 use Rattle.rules.specs.Answers.{Answer, refused, ready, heard, codes, sent, handed, none, shown, setUpSays, frameSays, tickSays, sendSays, turnSays, wordPaper}
@@ -28,6 +30,8 @@ use Rattle.rules.specs.declared.Rx.{Rx}
 use Rattle.rules.specs.declared.Tx.{Tx}
 use Rattle.rules.specs.declared.Berth.{Berth}
 use Rattle.rules.specs.declared.Node.{Node}
+use Rattle.rules.specs.declared.Card.{Card}
+use Rattle.rules.specs.declared.Word.the-variants.{Begun}
 use Rattle.rules.specs.declared.Choice.{Choice}
 use Rattle.rules.specs.declared.SetUpAnswer.{SetUpAnswer}
 use Rattle.rules.specs.declared.FrameAnswer.{FrameAnswer}
@@ -69,30 +73,30 @@ module _ (h : Held) (n : Node) (number : ℕ) where
 
   -- REFUSING EVERYTHING: at every frame, tick, send and turn that the paper answers, every refusal number is shut out; so is it at
   -- every set-up
-  pub not-refusing-frame : (id : ℕ) (d incoming : List ℕ) → refusal h (frame id d) ≡ 0
-      → FramePromise (h .node) (h .incoming) id d (FrameAnswer.Refused number) n incoming → ⊥
+  pub not-refusing-frame : (id : ℕ) (d : List ℕ) (cards : List Card) (incoming : List ℕ) → refusal h (frame id d) ≡ 0
+      → FramePromise (h .node) (h .cards) (h .incoming) id d (FrameAnswer.Refused number) n cards incoming → ⊥
   unfolding frameSays
-  not-refusing-frame id d incoming e p = never (frame id d) e (p (h .outgoing))
+  not-refusing-frame id d cards incoming e p = never (frame id d) e (p (h .outgoing))
 
-  pub not-refusing-tick : (a : TickAnswer) → refusal h tick ≡ 0 → a .refused ≡ suc number → TickPromise (h .node) a n → ⊥
+  pub not-refusing-tick : (a : TickAnswer) (cards : List Card) → refusal h tick ≡ 0 → a .refused ≡ suc number → TickPromise (h .node) (h .cards) a n cards → ⊥
   unfolding tickSays
-  not-refusing-tick a e r p = replied h tick (suc number) (sym (ap (λ (o : Outcome). o .answer) (answered h tick e (p .agrees (h .incoming) (h .outgoing)))) ∙ rw r)
+  not-refusing-tick a cards e r p = replied h tick (suc number) (sym (ap (λ (o : Outcome). o .answer) (answered h tick e (p .agrees (h .incoming) (h .outgoing)))) ∙ rw r)
 
   pub not-refusing-send : (k : ℕ) (m outgoing : List ℕ) → refusal h (send k m) ≡ 0
       → SendPromise (h .node) (h .outgoing) k m (SendAnswer.Refused number) n outgoing → ⊥
   unfolding sendSays
-  not-refusing-send k m outgoing e p = never (send k m) e (p (h .incoming))
+  not-refusing-send k m outgoing e p = never (send k m) e (p (h .cards) (h .incoming))
 
-  pub not-refusing-turn : (buffer buffer′ : List ℕ) → refusal h (turn buffer) ≡ 0
-      → TurnPromise (h .node) (h .outgoing) buffer (TurnAnswer.Refused number) n buffer′ → ⊥
+  pub not-refusing-turn : (buffer buffer′ : List ℕ) (cards : List Card) → refusal h (turn buffer) ≡ 0
+      → TurnPromise (h .node) (h .cards) (h .outgoing) buffer (TurnAnswer.Refused number) n cards buffer′ → ⊥
   unfolding turnSays
-  not-refusing-turn buffer buffer′ e p = never (turn buffer) e (p (h .incoming))
+  not-refusing-turn buffer buffer′ cards e p = never (turn buffer) e (p (h .incoming))
 
   pub not-refusing-set-up : (a bs stmin : ℕ) → setUpRefusal a bs stmin ≡ 0
       → SetUpPromise (h .node) a bs stmin (SetUpAnswer.Refused number) n → ⊥
   unfolding setUpSays setUpOutcome
   not-refusing-set-up a bs stmin e p =
-      let z : ready ≡ refused number = sym (ap (λ (o : Outcome). o .answer) (same (p (h .incoming) (h .outgoing))) ∙ rw e) in
+      let z : ready ≡ refused number = sym (ap (λ (o : Outcome). o .answer) (same (p (h .cards) (h .incoming) (h .outgoing))) ∙ rw e) in
       clash (cc)
 
 -- ---- one with a fixed answer: of two calls that the rules answer otherwise, one shuts it out
@@ -122,22 +126,22 @@ names h c e a = ap (λ (o : Outcome). named (o .answer)) (answered h c e a)
 -- A FIXED ANSWER TO A FRAME: at every node and store, of a single frame of one byte and one of two one shuts it out
 pub not-fixed-frame : (h : Held) (id : ℕ) → refusal h (frame id (0x01 ∷ 7 ∷ [])) ≡ 0 → refusal h (frame id (0x02 ∷ 7 ∷ 8 ∷ [])) ≡ 0
     → (a : FrameAnswer)
-    → (d : List ℕ) × ((n : Node) × (incoming : List ℕ) × FramePromise (h .node) (h .incoming) id d a n incoming → ⊥)
+    → (d : List ℕ) × ((n : Node) × (cards : List Card) × (incoming : List ℕ) × FramePromise (h .node) (h .cards) (h .incoming) id d a n cards incoming → ⊥)
 unfolding reply cameAt frameCame byKind kind low heardBy singleCame singleFits wordPaper
 not-fixed-frame h id e f a =
-    not-both (λ d. (n : Node) × (incoming : List ℕ) × FramePromise (h .node) (h .incoming) id d a n incoming)
+    not-both (λ d. (n : Node) × (cards : List Card) × (incoming : List ℕ) × FramePromise (h .node) (h .cards) (h .incoming) id d a n cards incoming)
     (0x01 ∷ 7 ∷ []) (0x02 ∷ 7 ∷ 8 ∷ []) (named (frameSays a)) 1 2 (λ z. omega arith)
-    (λ p. names h (frame id (0x01 ∷ 7 ∷ [])) e (p .2 (h .outgoing)))
-    (λ p. names h (frame id (0x02 ∷ 7 ∷ 8 ∷ [])) f (p .2 (h .outgoing)))
+    (λ p. names h (frame id (0x01 ∷ 7 ∷ [])) e (p .3 (h .outgoing)))
+    (λ p. names h (frame id (0x02 ∷ 7 ∷ 8 ∷ [])) f (p .3 (h .outgoing)))
 
 -- the place of a berth's first byte lies in a store of ten areas
 in-store : (a k size : ℕ) → 1 ≤ a → k < berthCount → size ≡ berthCount * a → k * a + 0 < size
 in-store a k size some l e = let m : suc k * a ≤ berthCount * a = mul-le-mul-right a l in omega arith
 
-first-byte : (h : Held) (id x : ℕ) (a : FrameAnswer) (n : Node) (incoming : List ℕ) → refusal h (frame id (0x01 ∷ x ∷ [])) ≡ 0
-    → FramePromise (h .node) (h .incoming) id (0x01 ∷ x ∷ []) a n incoming → getD incoming (senderOf id * h .node .settings .area + 0) 0 ≡ x
+first-byte : (h : Held) (id x : ℕ) (a : FrameAnswer) (n : Node) (cards : List Card) (incoming : List ℕ) → refusal h (frame id (0x01 ∷ x ∷ [])) ≡ 0
+    → FramePromise (h .node) (h .cards) (h .incoming) id (0x01 ∷ x ∷ []) a n cards incoming → getD incoming (senderOf id * h .node .settings .area + 0) 0 ≡ x
 unfolding done afterFrame stored cameAt frameCame byKind kind low heardBy singleCame singleFits
-first-byte h id x a n incoming e p =
+first-byte h id x a n cards incoming e p =
     let ok = frame-answered h id (0x01 ∷ x ∷ []) e in
     let range = in-order-range (h .node) (ok .heard .order) .settings .area-least in
     ap (λ (o : Outcome). getD (o .held .incoming) (senderOf id * h .node .settings .area + 0) 0) (answered h (frame id (0x01 ∷ x ∷ [])) e (p (h .outgoing)))
@@ -146,12 +150,12 @@ first-byte h id x a n incoming e p =
 -- FIXED BYTES: at every node and store, of two single frames of one byte one shuts out every store
 pub not-fixed-bytes : (h : Held) (id x y : ℕ) → (x ≡ y → ⊥) → refusal h (frame id (0x01 ∷ x ∷ [])) ≡ 0 → refusal h (frame id (0x01 ∷ y ∷ [])) ≡ 0
     → (incoming : List ℕ)
-    → (d : List ℕ) × ((n : Node) × (a : FrameAnswer) × FramePromise (h .node) (h .incoming) id d a n incoming → ⊥)
+    → (d : List ℕ) × ((n : Node) × (cards : List Card) × (a : FrameAnswer) × FramePromise (h .node) (h .cards) (h .incoming) id d a n cards incoming → ⊥)
 not-fixed-bytes h id x y ne e f incoming =
-    not-both (λ d. (n : Node) × (a : FrameAnswer) × FramePromise (h .node) (h .incoming) id d a n incoming)
+    not-both (λ d. (n : Node) × (cards : List Card) × (a : FrameAnswer) × FramePromise (h .node) (h .cards) (h .incoming) id d a n cards incoming)
     (0x01 ∷ x ∷ []) (0x01 ∷ y ∷ []) (getD incoming (senderOf id * h .node .settings .area + 0) 0) x y ne
-    (λ p. first-byte h id x (p .1) (p .0) incoming e (p .2))
-    (λ p. first-byte h id y (p .1) (p .0) incoming f (p .2))
+    (λ p. first-byte h id x (p .2) (p .0) (p .1) incoming e (p .3))
+    (λ p. first-byte h id y (p .2) (p .0) (p .1) incoming f (p .3))
 
 -- A FIXED ANSWER TO A SEND, A TURN, A TICK, A SET-UP; A FIXED PART: of two calls with another berth, another number passed over, one
 -- in order and one not, allowed settings and others, and a part of another length, one shuts it out
@@ -160,7 +164,7 @@ pub not-fixed-send : (h : Held) (j k : ℕ) (m : List ℕ) → (j ≡ k → ⊥)
 unfolding reply
 not-fixed-send h j k m ne e f a =
     not-both (λ i. (n : Node) × (outgoing : List ℕ) × SendPromise (h .node) (h .outgoing) i m a n outgoing) j k (named (sendSays a)) j k ne
-    (λ p. names h (send j m) e (p .2 (h .incoming))) (λ p. names h (send k m) f (p .2 (h .incoming)))
+    (λ p. names h (send j m) e (p .2 (h .cards) (h .incoming))) (λ p. names h (send k m) f (p .2 (h .cards) (h .incoming)))
 
 -- the berths passed over are named, 10 where none is due
 passes : (h : Held) (buffer : List ℕ) → named (reply h (turn buffer)) ≡ passedOver (h .node)
@@ -181,28 +185,28 @@ any-buffer (TurnAnswer.HandedOver id code passed) b = refl
 
 pub not-fixed-turn : (g h : Held) (buffer : List ℕ) → (passedOver (g .node) ≡ passedOver (h .node) → ⊥)
     → refusal g (turn buffer) ≡ 0 → refusal h (turn buffer) ≡ 0 → (a : TurnAnswer)
-    → (f : Held) × ((n : Node) × (buffer′ : List ℕ) × TurnPromise (f .node) (f .outgoing) buffer a n buffer′ → ⊥)
+    → (f : Held) × ((n : Node) × (cards : List Card) × (buffer′ : List ℕ) × TurnPromise (f .node) (f .cards) (f .outgoing) buffer a n cards buffer′ → ⊥)
 not-fixed-turn g h buffer ne e f a =
-    not-both (λ (f : Held). (n : Node) × (buffer′ : List ℕ) × TurnPromise (f .node) (f .outgoing) buffer a n buffer′) g h
+    not-both (λ (f : Held). (n : Node) × (cards : List Card) × (buffer′ : List ℕ) × TurnPromise (f .node) (f .cards) (f .outgoing) buffer a n cards buffer′) g h
     (named (turnSays a [])) (passedOver (g .node)) (passedOver (h .node)) ne
-    (λ p. any-buffer a (p .1) ∙ names g (turn buffer) e (p .2 (g .incoming)) ∙ passes g buffer)
-    (λ p. any-buffer a (p .1) ∙ names h (turn buffer) f (p .2 (h .incoming)) ∙ passes h buffer)
+    (λ p. any-buffer a (p .2) ∙ names g (turn buffer) e (p .3 (g .incoming)) ∙ passes g buffer)
+    (λ p. any-buffer a (p .2) ∙ names h (turn buffer) f (p .3 (h .incoming)) ∙ passes h buffer)
 
 pub not-fixed-tick : (g h : Held) → refusal g tick ≡ 0 → refusal h tick ≡ outOfOrder → (a : TickAnswer)
-    → (f : Held) × ((n : Node) × TickPromise (f .node) a n → ⊥)
+    → (f : Held) × ((n : Node) × (cards : List Card) × TickPromise (f .node) (f .cards) a n cards → ⊥)
 unfolding reply outcome refusedOutcome
 not-fixed-tick g h e f a =
-    not-both (λ (f : Held). (n : Node) × TickPromise (f .node) a n) g h (named (tickSays a)) 0 outOfOrder (λ z. omega arith)
-    (λ p. names g tick e (p .1 .agrees (g .incoming) (g .outgoing)))
-    (λ p. ap (λ (o : Outcome). named (o .answer)) (same (p .1 .agrees (h .incoming) (h .outgoing))) ∙ rw f)
+    not-both (λ (f : Held). (n : Node) × (cards : List Card) × TickPromise (f .node) (f .cards) a n cards) g h (named (tickSays a)) 0 outOfOrder (λ z. omega arith)
+    (λ p. names g tick e (p .2 .agrees (g .incoming) (g .outgoing)))
+    (λ p. ap (λ (o : Outcome). named (o .answer)) (same (p .2 .agrees (h .incoming) (h .outgoing))) ∙ rw f)
 
 pub not-fixed-set-up : (n : Node) (s t : Settings) → setUpRefusal (s .area) (s .block) (s .stmin) ≡ 0 → setUpRefusal (t .area) (t .block) (t .stmin) ≡ badSetting
     → (a : SetUpAnswer) → (r : Settings) × ((n′ : Node) × SetUpPromise n (r .area) (r .block) (r .stmin) a n′ → ⊥)
 unfolding setUpOutcome refusedOutcome
 not-fixed-set-up n s t e f a =
     not-both (λ (r : Settings). (n′ : Node) × SetUpPromise n (r .area) (r .block) (r .stmin) a n′) s t (named (setUpSays a)) 0 badSetting (λ z. omega arith)
-    (λ p. ap (λ (o : Outcome). named (o .answer)) (same (p .1 [] [])) ∙ rw e)
-    (λ p. ap (λ (o : Outcome). named (o .answer)) (same (p .1 [] [])) ∙ rw f)
+    (λ p. ap (λ (o : Outcome). named (o .answer)) (same (p .1 [] [] [])) ∙ rw e)
+    (λ p. ap (λ (o : Outcome). named (o .answer)) (same (p .1 [] [] [])) ∙ rw f)
 
 pub not-fixed-part : (h : Held) (choice : Choice) (j k : ℕ) → (length (showing h j choice) ≡ length (showing h k choice) → ⊥) → (part : List ℕ)
     → (i : ℕ) × ((at in-at out-at : ℕ × ℕ) × ShowPromise (h .node) (h .incoming) (h .outgoing) i choice part in-at out-at at → ⊥)
@@ -210,7 +214,7 @@ unfolding reply refusal needs firstUnmet
 not-fixed-part h choice j k ne part =
     not-both (λ i. (at in-at out-at : ℕ × ℕ) × ShowPromise (h .node) (h .incoming) (h .outgoing) i choice part in-at out-at at) j k
     (length part) (length (showing h j choice)) (length (showing h k choice)) ne
-    (λ p. names h (show j choice) refl (p .3 .agrees)) (λ p. names h (show k choice) refl (p .3 .agrees))
+    (λ p. names h (show j choice) refl (p .3 .agrees (h .cards))) (λ p. names h (show k choice) refl (p .3 .agrees (h .cards)))
 
 -- ---- one that does nothing
 
@@ -248,10 +252,10 @@ unfolding ticked
 still-idle b e = (rx-still (b .rx) (ap (λ (x : Berth). x .rx) e), tx-still (b .tx) (ap (λ (x : Berth). x .tx) e))
 
 -- DOING NOTHING, TIMERS: at every tick that the paper answers, of a node with a side that is not idle, a node left as it was is shut out
-pub not-idle-timers : (h : Held) (k : ℕ) (a : TickAnswer) → refusal h tick ≡ 0
-    → ((berthAt (h .node) k .rx ≡ Rx.Idle) × (berthAt (h .node) k .tx ≡ Tx.Idle) → ⊥) → TickPromise (h .node) a (h .node) → ⊥
+pub not-idle-timers : (h : Held) (k : ℕ) (a : TickAnswer) (cards : List Card) → refusal h tick ≡ 0
+    → ((berthAt (h .node) k .rx ≡ Rx.Idle) × (berthAt (h .node) k .tx ≡ Tx.Idle) → ⊥) → TickPromise (h .node) (h .cards) a (h .node) cards → ⊥
 unfolding done
-not-idle-timers h k a e busy p =
+not-idle-timers h k a cards e busy p =
     let q = ap (λ (o : Outcome). berthAt (o .held .node) k) (answered h tick e (p .agrees (h .incoming) (h .outgoing))) in
     busy (still-idle (berthAt (h .node) k) (sym (q ∙ berth-ticked (h .node) k)))
 
@@ -266,8 +270,8 @@ bytes-there l at v h =
 pub stood-before : (area : List ℕ) (at : ℕ) (v : List ℕ) → at + length v ≤ length area → sets area at v ≡ area → take (length v) (drop at area) ≡ v
 stood-before area at v h e = ap (λ (x : List ℕ). take (length v) (drop at x)) (sym e) ∙ bytes-there area at v h
 
-module _ (h : Held) (id : ℕ) (d : List ℕ) (a : FrameAnswer) (n : Node) (incoming : List ℕ) (e : refusal h (frame id d) ≡ 0) where
-  area-after : FramePromise (h .node) (h .incoming) id d a n incoming
+module _ (h : Held) (id : ℕ) (d : List ℕ) (a : FrameAnswer) (n : Node) (cards : List Card) (incoming : List ℕ) (e : refusal h (frame id d) ≡ 0) where
+  area-after : FramePromise (h .node) (h .cards) (h .incoming) id d a n cards incoming
       → areaOf (h .node .settings .area) (senderOf id) incoming
       ≡ sets (areaOf (h .node .settings .area) (senderOf id) (h .incoming)) (cameAt h (senderOf id) d .place) (cameAt h (senderOf id) d .bytes)
   area-after p =
@@ -280,7 +284,7 @@ module _ (h : Held) (id : ℕ) (d : List ℕ) (a : FrameAnswer) (n : Node) (inco
       (take (length (cameAt h (senderOf id) d .bytes)) (drop (cameAt h (senderOf id) d .place) (areaOf (h .node .settings .area) (senderOf id) (h .incoming)))
       ≡ cameAt h (senderOf id) d .bytes → ⊥)
       → areaOf (h .node .settings .area) (senderOf id) incoming ≡ areaOf (h .node .settings .area) (senderOf id) (h .incoming)
-      → FramePromise (h .node) (h .incoming) id d a n incoming → ⊥
+      → FramePromise (h .node) (h .cards) (h .incoming) id d a n cards incoming → ⊥
   not-idle-bytes differ kept p =
       let ok = frame-answered h id d e in
       let room = area-length (h .node .settings .area) (senderOf id) (h .incoming) (ok .heard .mine) (ok .heard .store) in
@@ -295,7 +299,7 @@ unfolding done
 not-idle-message h k m a n outgoing e differ kept p =
     let ok = send-answered h k m e in
     let fits = ok .fits in
-    let after = ap (λ (o : Outcome). areaOf (h .node .settings .area) k (o .held .outgoing)) (answered h (send k m) e (p (h .incoming)))
+    let after = ap (λ (o : Outcome). areaOf (h .node .settings .area) k (o .held .outgoing)) (answered h (send k m) e (p (h .cards) (h .incoming)))
     ∙ area-same (h .node .settings .area) k 0 m (h .outgoing) (omega arith) in
     let room = area-length (h .node .settings .area) k (h .outgoing) (ok .mine) (ok .store) in
     differ (stood-before (areaOf (h .node .settings .area) k (h .outgoing)) 0 m (omega arith) (sym after ∙ kept))
@@ -303,25 +307,25 @@ not-idle-message h k m a n outgoing e differ kept p =
 -- ---- one that stores the first frame and only counts the rest
 
 -- COUNTING ONLY: at every right awaited consecutive frame whose bytes differ from those at their place, an area left as it was is shut out
-pub not-counting : (h : Held) (id : ℕ) (d : List ℕ) (p : Taking) (t : ℕ) (a : FrameAnswer) (n : Node) (incoming : List ℕ) → refusal h (frame id d) ≡ 0
+pub not-counting : (h : Held) (id : ℕ) (d : List ℕ) (p : Taking) (t : ℕ) (a : FrameAnswer) (n : Node) (cards : List Card) (incoming : List ℕ) → refusal h (frame id d) ≡ 0
     → berthAt (h .node) (senderOf id) .rx ≡ Rx.Awaits p t → kind d ≡ consecutiveKind → T (consecutiveFits (missing p) d) → low d ≡ p .sn .0
     → (take (length (piece p d)) (drop (p .got) (areaOf (h .node .settings .area) (senderOf id) (h .incoming))) ≡ piece p d → ⊥)
     → areaOf (h .node .settings .area) (senderOf id) incoming ≡ areaOf (h .node .settings .area) (senderOf id) (h .incoming)
-    → FramePromise (h .node) (h .incoming) id d a n incoming → ⊥
+    → FramePromise (h .node) (h .cards) (h .incoming) id d a n cards incoming → ⊥
 unfolding cameAt
-not-counting h id d p t a n incoming e r c f l differ =
+not-counting h id d p t a n cards incoming e r c f l differ =
     let (at, bytes) = consecutive-came (h .node .settings) (berthAt (h .node) (senderOf id)) p t d r c f l in
-    not-idle-bytes h id d a n incoming e (rw (at, bytes) differ)
+    not-idle-bytes h id d a n cards incoming e (rw (at, bytes) differ)
 
 -- ---- one that makes up the passed-over number
 
 -- MADE UP: at every turn that the paper answers, every number other than the distance from the berth served last to the one that is
 -- handed a frame is shut out, and every one but ten where none is
-pub not-made-up : (h : Held) (buffer buffer′ : List ℕ) (n : Node) (k code passed : ℕ) → refusal h (turn buffer) ≡ 0
+pub not-made-up : (h : Held) (buffer buffer′ : List ℕ) (n : Node) (cards : List Card) (k code passed : ℕ) → refusal h (turn buffer) ≡ 0
     → (passed ≡ distance (h .node .served) k → ⊥)
-    → TurnPromise (h .node) (h .outgoing) buffer (TurnAnswer.HandedOver (toBerth + k) code passed) n buffer′ → ⊥
+    → TurnPromise (h .node) (h .cards) (h .outgoing) buffer (TurnAnswer.HandedOver (toBerth + k) code passed) n cards buffer′ → ⊥
 unfolding reply turnSays
-not-made-up h buffer buffer′ n k code passed e other p = go (ltb-cases (passedOver (h .node)) berthCount) (ap (λ (o : Outcome). o .answer) (answered h (turn buffer) e (p (h .incoming))))
+not-made-up h buffer buffer′ n cards k code passed e other p = go (ltb-cases (passedOver (h .node)) berthCount) (ap (λ (o : Outcome). o .answer) (answered h (turn buffer) e (p (h .incoming))))
   where
     go : Tested (ltb (passedOver (h .node)) berthCount) (passedOver (h .node) < berthCount) (berthCount ≤ passedOver (h .node))
         → handed (toBerth + k) (take frameSize buffer′) code passed ≡ reply h (turn buffer) → ⊥
@@ -334,14 +338,33 @@ not-made-up h buffer buffer′ n k code passed e other p = go (ltb-cases (passed
         other (same-number ∙ least ∙ ap (distance (h .node .served)) (omega arith))
     go (fails t l) q = let z : handed (toBerth + k) (take frameSize buffer′) code passed ≡ none berthCount = rw t at q in clash (cc)
 
-pub not-made-up-none : (h : Held) (buffer buffer′ : List ℕ) (n : Node) (passed : ℕ) → refusal h (turn buffer) ≡ 0
-    → (passed ≡ berthCount → ⊥) → TurnPromise (h .node) (h .outgoing) buffer (TurnAnswer.None passed) n buffer′ → ⊥
+pub not-made-up-none : (h : Held) (buffer buffer′ : List ℕ) (n : Node) (cards : List Card) (passed : ℕ) → refusal h (turn buffer) ≡ 0
+    → (passed ≡ berthCount → ⊥) → TurnPromise (h .node) (h .cards) (h .outgoing) buffer (TurnAnswer.None passed) n cards buffer′ → ⊥
 unfolding reply turnSays
-not-made-up-none h buffer buffer′ n passed e other p =
+not-made-up-none h buffer buffer′ n cards passed e other p =
     pick-either (λ (a : Answer). none passed ≡ a → ⊥) (ltb (passedOver (h .node)) berthCount) _ _ (λ t q. clash (cc)) (λ t q. other (cc))
     (ap (λ (o : Outcome). o .answer) (answered h (turn buffer) e (p (h .incoming))))
 
+-- ---- one that counts nothing on a card (paper 02, W1)
+
+-- UNCOUNTED: at every frame that the paper answers with Begun, of a berth whose card is not frozen, cards left as they were are shut out
+pub not-uncounted : (h : Held) (id : ℕ) (d : List ℕ) (l : ℕ) (a : FrameAnswer) (n : Node) (incoming : List ℕ) → refusal h (frame id d) ≡ 0
+    → cameAt h (senderOf id) d .word ≡ Begun l → frozen (cardAt (h .cards) (senderOf id)) ≡ false
+    → FramePromise (h .node) (h .cards) (h .incoming) id d a n (h .cards) incoming → ⊥
+unfolding done afterFrame addedAt cardAt added frameAdds
+not-uncounted h id d l a n incoming e w thawed p =
+    let k = senderOf id in
+    let ok = frame-answered h id d e in
+    let z : getD (h .cards) k zeroCard .begun ≡ getD (h .cards) k zeroCard .begun + 1 =
+    ap (λ (o : Outcome). getD (o .held .cards) k zeroCard .begun) (answered h (frame id d) e (p (h .outgoing)))
+    ∙ ap (λ (c : Card). c .begun) (getD-set-same (h .cards) k _ zeroCard (omega (arith, ok .heard .ten, ok .heard .mine)))
+    ∙ simp (thawed, w) in
+    absurd (omega arith)
+
 -- ---- nodes at which the premises are met: areas of 8 bytes of zeros, and berth 0 with a receive side and a last length
+
+abbrev blankCards : List Card
+blankCards = replicate berthCount zeroCard
 
 abbrev hearing : Rx → ℕ → Held
 hearing rx last =
@@ -353,31 +376,37 @@ hearing rx last =
       };
       incoming = replicate 80 0;
       outgoing = replicate 80 0;
+      cards = blankCards;
     }
 
 -- a reception of eight bytes of which six are there
 abbrev sixOfEight : Taking
 sixOfEight = record { total = 8; got = 6; sn = record { 0 = 1 }; taken = 0 }
 
+-- the first frame of a message of eight bytes
+abbrev eightBegun : List ℕ
+eightBegun = 0x10 ∷ 8 ∷ 1 ∷ 2 ∷ 3 ∷ 4 ∷ 5 ∷ 6 ∷ []
+
 -- the calls below are answered; a node that no set-up has filled is out of order, and settings of 0 are not allowed
 pub answered-here : (refusal (hearing Rx.Idle 0) (frame 0x640 (0x01 ∷ 7 ∷ [])) ≡ 0) × (refusal (hearing Rx.Idle 0) (frame 0x640 (0x02 ∷ 7 ∷ 8 ∷ [])) ≡ 0)
     × (refusal (hearing Rx.Idle 0) (send 0 (1 ∷ [])) ≡ 0) × (refusal (hearing Rx.Idle 0) (send 1 (1 ∷ [])) ≡ 0)
     × (refusal (hearing (Rx.OwesOverflow 0) 0) (turn (replicate 8 0)) ≡ 0) × (refusal (hearing Rx.Idle 0) (turn (replicate 8 0)) ≡ 0)
-    × (refusal (hearing (Rx.OwesOverflow 0) 0) tick ≡ 0) × (refusal (lent blankNode [] []) tick ≡ outOfOrder)
+    × (refusal (hearing (Rx.OwesOverflow 0) 0) tick ≡ 0) × (refusal (lent blankNode [] [] []) tick ≡ outOfOrder)
     × (setUpRefusal 8 0 0 ≡ 0) × (setUpRefusal 0 0 0 ≡ badSetting)
     × (refusal (hearing (Rx.Awaits sixOfEight 0) 0) (frame 0x640 (0x21 ∷ 7 ∷ 8 ∷ [])) ≡ 0)
     × (refusal (hearing Rx.Idle 0) (frame 0x640 (0x01 ∷ 8 ∷ [])) ≡ 0)
+    × (refusal (hearing Rx.Idle 0) (frame 0x640 eightBegun) ≡ 0)
 unfolding
     all each firstUnmet kind low singleFits consecutiveFits share settingsAllowed inBlock takingInRange berthInOrder berthAt inOrder
-    singleCame piece completed awaitedCame heardBy byKind frameCame rightStore inside cameAt needs refusal setUpRefusal
-answered-here = (refl, refl, refl, refl, refl, refl, refl, refl, refl, refl, refl, refl)
+    singleCame shortLength announced firstFits begun firstCame piece completed awaitedCame heardBy byKind frameCame rightStore rightCards inside cameAt needs refusal setUpRefusal
+answered-here = (refl, refl, refl, refl, refl, refl, refl, refl, refl, refl, refl, refl, refl)
 
 -- so for every fixed answer, and for every part, there is a call that shuts it out
 pub not-fixed-here :
-    ((a : FrameAnswer) → (d : List ℕ) × ((n : Node) × (incoming : List ℕ) × FramePromise (hearing Rx.Idle 0 .node) (replicate 80 0) 0x640 d a n incoming → ⊥))
+    ((a : FrameAnswer) → (d : List ℕ) × ((n : Node) × (cards : List Card) × (incoming : List ℕ) × FramePromise (hearing Rx.Idle 0 .node) blankCards (replicate 80 0) 0x640 d a n cards incoming → ⊥))
     × ((a : SendAnswer) → (k : ℕ) × ((n : Node) × (outgoing : List ℕ) × SendPromise (hearing Rx.Idle 0 .node) (replicate 80 0) k (1 ∷ []) a n outgoing → ⊥))
-    × ((a : TurnAnswer) → (h : Held) × ((n : Node) × (buffer : List ℕ) × TurnPromise (h .node) (h .outgoing) (replicate 8 0) a n buffer → ⊥))
-    × ((a : TickAnswer) → (h : Held) × ((n : Node) × TickPromise (h .node) a n → ⊥))
+    × ((a : TurnAnswer) → (h : Held) × ((n : Node) × (cards : List Card) × (buffer : List ℕ) × TurnPromise (h .node) (h .cards) (h .outgoing) (replicate 8 0) a n cards buffer → ⊥))
+    × ((a : TickAnswer) → (h : Held) × ((n : Node) × (cards : List Card) × TickPromise (h .node) (h .cards) a n cards → ⊥))
     × ((a : SetUpAnswer) → (s : Settings) × ((n : Node) × SetUpPromise blankNode (s .area) (s .block) (s .stmin) a n → ⊥))
     × ((part : List ℕ) → (k : ℕ) × ((at in-at out-at : ℕ × ℕ) × ShowPromise (hearing Rx.Idle 1 .node) (replicate 80 0) (replicate 80 0) k Choice.Arrived part in-at out-at at → ⊥))
 unfolding
@@ -386,20 +415,20 @@ not-fixed-here = (
   not-fixed-frame (hearing Rx.Idle 0) 0x640 (answered-here .0) (answered-here .1),
   not-fixed-send (hearing Rx.Idle 0) 0 1 (1 ∷ []) (λ z. omega arith) (answered-here .2) (answered-here .3),
   not-fixed-turn (hearing (Rx.OwesOverflow 0) 0) (hearing Rx.Idle 0) (replicate 8 0) (λ z. omega arith) (answered-here .4) (answered-here .5),
-  not-fixed-tick (hearing (Rx.OwesOverflow 0) 0) (lent blankNode [] []) (answered-here .6) (answered-here .7),
+  not-fixed-tick (hearing (Rx.OwesOverflow 0) 0) (lent blankNode [] [] []) (answered-here .6) (answered-here .7),
   not-fixed-set-up blankNode (record { area = 8; block = 0; stmin = 0 }) (record { area = 0; block = 0; stmin = 0 }) (answered-here .8) (answered-here .9),
   not-fixed-part (hearing Rx.Idle 1) Choice.Arrived 0 10 (λ z. omega arith),
 )
 
 -- for every incoming store there is a frame that shuts it out
 pub not-fixed-bytes-here : (incoming : List ℕ)
-    → (d : List ℕ) × ((n : Node) × (a : FrameAnswer) × FramePromise (hearing Rx.Idle 0 .node) (replicate 80 0) 0x640 d a n incoming → ⊥)
+    → (d : List ℕ) × ((n : Node) × (cards : List Card) × (a : FrameAnswer) × FramePromise (hearing Rx.Idle 0 .node) blankCards (replicate 80 0) 0x640 d a n cards incoming → ⊥)
 not-fixed-bytes-here = not-fixed-bytes (hearing Rx.Idle 0) 0x640 7 8 (λ z. omega arith) (answered-here .0) (answered-here .11)
 
-pub not-idle-here : (a : TickAnswer) → TickPromise (hearing (Rx.OwesOverflow 0) 0 .node) a (hearing (Rx.OwesOverflow 0) 0 .node) → ⊥
+pub not-idle-here : (a : TickAnswer) (cards : List Card) → TickPromise (hearing (Rx.OwesOverflow 0) 0 .node) blankCards a (hearing (Rx.OwesOverflow 0) 0 .node) cards → ⊥
 unfolding berthAt
-not-idle-here a =
-    not-idle-timers (hearing (Rx.OwesOverflow 0) 0) 0 a (answered-here .6) (λ q. let e : Rx.OwesOverflow 0 ≡ Rx.Idle = q .0 in clash (cc))
+not-idle-here a cards =
+    not-idle-timers (hearing (Rx.OwesOverflow 0) 0) 0 a cards (answered-here .6) (λ q. let e : Rx.OwesOverflow 0 ≡ Rx.Idle = q .0 in clash (cc))
 
 pub not-idle-message-here : (a : SendAnswer) (n : Node) → SendPromise (hearing Rx.Idle 0 .node) (replicate 80 0) 0 (1 ∷ []) a n (replicate 80 0) → ⊥
 unfolding areaOf
@@ -407,14 +436,19 @@ not-idle-message-here a n =
     not-idle-message (hearing Rx.Idle 0) 0 (1 ∷ []) a n (replicate 80 0) (answered-here .2)
     (λ q. let z : _≡_ {A = ℕ} 0 1 = ap (λ (l : List ℕ). getD l 0 0) q in omega arith) refl
 
-pub not-counting-here : (a : FrameAnswer) (n : Node)
-    → FramePromise (hearing (Rx.Awaits sixOfEight 0) 0 .node) (replicate 80 0) 0x640 (0x21 ∷ 7 ∷ 8 ∷ []) a n (replicate 80 0) → ⊥
+pub not-counting-here : (a : FrameAnswer) (n : Node) (cards : List Card)
+    → FramePromise (hearing (Rx.Awaits sixOfEight 0) 0 .node) blankCards (replicate 80 0) 0x640 (0x21 ∷ 7 ∷ 8 ∷ []) a n cards (replicate 80 0) → ⊥
 unfolding berthAt kind low consecutiveFits piece share areaOf
-not-counting-here a n =
-    not-counting (hearing (Rx.Awaits sixOfEight 0) 0) 0x640 (0x21 ∷ 7 ∷ 8 ∷ []) sixOfEight 0 a n (replicate 80 0) (answered-here .10) refl refl tt refl
+not-counting-here a n cards =
+    not-counting (hearing (Rx.Awaits sixOfEight 0) 0) 0x640 (0x21 ∷ 7 ∷ 8 ∷ []) sixOfEight 0 a n cards (replicate 80 0) (answered-here .10) refl refl tt refl
     (λ q. let z : _≡_ {A = ℕ} 0 7 = ap (λ (l : List ℕ). getD l 0 0) q in omega arith) refl
 
-pub not-made-up-here : (n : Node) (code : ℕ) (buffer : List ℕ)
-    → TurnPromise (hearing (Rx.OwesOverflow 0) 0 .node) (replicate 80 0) (replicate 8 0) (TurnAnswer.HandedOver 0x660 code 5) n buffer → ⊥
+pub not-uncounted-here : (a : FrameAnswer) (n : Node) (incoming : List ℕ)
+    → FramePromise (hearing Rx.Idle 0 .node) blankCards (replicate 80 0) 0x640 eightBegun a n blankCards incoming → ⊥
+unfolding cameAt berthAt frameCame byKind kind low heardBy shortLength announced firstFits begun firstCame cardAt frozen
+not-uncounted-here a n incoming = not-uncounted (hearing Rx.Idle 0) 0x640 eightBegun 8 a n incoming (answered-here .12) refl refl
+
+pub not-made-up-here : (n : Node) (cards : List Card) (code : ℕ) (buffer : List ℕ)
+    → TurnPromise (hearing (Rx.OwesOverflow 0) 0 .node) blankCards (replicate 80 0) (replicate 8 0) (TurnAnswer.HandedOver 0x660 code 5) n cards buffer → ⊥
 unfolding distance
-not-made-up-here n code buffer = not-made-up (hearing (Rx.OwesOverflow 0) 0) (replicate 8 0) buffer n 0 code 5 (answered-here .4) (λ z. omega arith)
+not-made-up-here n cards code buffer = not-made-up (hearing (Rx.OwesOverflow 0) 0) (replicate 8 0) buffer n cards 0 code 5 (answered-here .4) (λ z. omega arith)

@@ -21,6 +21,7 @@ use Rattle.rules.specs.declared.Rx.{Rx}
 use Rattle.rules.specs.declared.Tx.{Tx}
 use Rattle.rules.specs.declared.Berth.{Berth}
 use Rattle.rules.specs.declared.Node.{Node}
+use Rattle.rules.specs.declared.Card.{Card}
 use Rattle.rules.proofs.Cases.{yes-of, and-left, and-right}
 use Rattle.rules.proofs.Ranges.{in-order-range}
 use Rattle.node.specs.Promises.{lent, ShowPromise}
@@ -55,9 +56,9 @@ pub record Able (n : Node) (incoming outgoing : List ℕ) (k : ℕ) : Type 0 whe
   pub mine : k < berthCount
 
 module _ (n : Node) (incoming outgoing : List ℕ) (k : ℕ) where
-  pub able : showable (lent n incoming outgoing) k ≡ true → Able n incoming outgoing k
+  pub able : (cards : List Card) → showable (lent n cards incoming outgoing) k ≡ true → Able n incoming outgoing k
   unfolding showable rightStore
-  able e =
+  able cards e =
       let t = and-right (inOrder n) _ (yes-of e) in
       let u = and-right (rightStore n incoming) _ t in
       record {
@@ -68,14 +69,18 @@ module _ (n : Node) (incoming outgoing : List ℕ) (k : ℕ) where
       }
 
 module _ (n : Node) (incoming outgoing : List ℕ) (k : ℕ) (in-at out-at : ℕ × ℕ) where
-  pub shows-none : (choice : Choice) → showable (lent n incoming outgoing) k ≡ false
+  pub shows-none : (choice : Choice) → ((cards : List Card) → showable (lent n cards incoming outgoing) k ≡ false)
       → ShowPromise n incoming outgoing k choice [] in-at out-at in-at
   unfolding refusal needs reply done written showing shownLength
   shows-none choice e =
-      record { agrees = does (lent n incoming outgoing) (show k choice) refl all-met (simp e); starts = simp e }
+      record {
+        agrees = λ cards. does (lent n cards incoming outgoing) (show k choice) refl all-met (simp (e cards));
+        starts = λ cards. simp (e cards);
+      }
 
   -- the part that the code takes of the store that it chose, from the area's start to its end
-  pub shows : (choice one : Choice) (lo shown : ℕ) → choice ≡ one → lo ≡ k * n .settings .area → showable (lent n incoming outgoing) k ≡ true
+  pub shows : (choice one : Choice) (lo shown : ℕ) → choice ≡ one → lo ≡ k * n .settings .area
+      → ((cards : List Card) → showable (lent n cards incoming outgoing) k ≡ true)
       → shown ≡ chosen choice (berthAt n k .last) (lengthSending (berthAt n k .tx)) → shown ≤ n .settings .area
       → ShowPromise n incoming outgoing k choice (take (lo + shown - lo) (drop lo (chosen one incoming outgoing)))
       in-at out-at (chosen one in-at out-at .0, lo + chosen one in-at out-at .1)
@@ -85,6 +90,6 @@ module _ (n : Node) (incoming outgoing : List ℕ) (k : ℕ) (in-at out-at : ℕ
       let part : lo + shown - lo ≡ shown = omega arith in
       let same = take-take shown (n .settings .area) (drop lo (chosen one incoming outgoing)) fits in
       rw same-choice (record {
-        agrees = does (lent n incoming outgoing) (show k one) refl all-met (simp (e, ← length-is, ← starts, part, same));
-        starts = simp (e, starts);
+        agrees = λ cards. does (lent n cards incoming outgoing) (show k one) refl all-met (simp (e cards, ← length-is, ← starts, part, same));
+        starts = λ cards. simp (e cards, starts);
       })

@@ -5,7 +5,7 @@ use mathlib.Core.Bool.{Bool, not, _&&_}
 use mathlib.Core.List.{List, [], _∷_, _++_}
 use lib.Dec.{ltb, leb, eqb}
 use Rattle.rules.specs.Tests.{pick, Need, need, firstUnmet}
-use Rattle.rules.specs.Numbers.{berthCount, fromBerth, mostData, leastBuffer, outOfOrder, wrongStore, wrongIdentifier, tooManyBytes, noSuchBerth, emptyMessage, messageTooLong, alreadySending, shortBuffer}
+use Rattle.rules.specs.Numbers.{berthCount, fromBerth, mostData, leastBuffer, outOfOrder, wrongStore, wrongIdentifier, tooManyBytes, noSuchBerth, emptyMessage, messageTooLong, alreadySending, shortBuffer, wrongCards}
 use Rattle.rules.specs.Turns.{busy}
 use Rattle.rules.specs.declared.Tx.{Tx}
 
@@ -18,12 +18,22 @@ isStore area store = eqb store (berthCount * area)
 abbrev pub orderAndStoreNeeds : Bool → ℕ → ℕ → List Need
 orderAndStoreNeeds ordered area store = need outOfOrder ordered ∷ need wrongStore (isStore area store) ∷ []
 
--- refusals 1 to 4 of a frame; refusal 11 comes after them
-unfoldable pub frameRefusal : Bool → (area store id size : ℕ) → ℕ
-frameRefusal ordered area store id size =
+-- a list is exactly ten cards
+abbrev pub areTen : ℕ → Bool
+areTen cards = eqb cards berthCount
+
+-- the refusals of a frame but 11, which comes after them
+unfoldable pub frameRefusal : Bool → (area store cards id size : ℕ) → ℕ
+frameRefusal ordered area store cards id size =
     firstUnmet
     (orderAndStoreNeeds ordered area store
-    ++ (need wrongIdentifier (leb fromBerth id && ltb id (fromBerth + berthCount)) ∷ need tooManyBytes (leb size mostData) ∷ []))
+    ++ (need wrongCards (areTen cards)
+    ∷ need wrongIdentifier (leb fromBerth id && ltb id (fromBerth + berthCount))
+    ∷ need tooManyBytes (leb size mostData)
+    ∷ []))
+
+unfoldable pub tickRefusal : Bool → ℕ → ℕ
+tickRefusal ordered cards = firstUnmet (need outOfOrder ordered ∷ need wrongCards (areTen cards) ∷ [])
 
 unfoldable pub sendRefusal : Bool → ℕ → Tx → (store k length : ℕ) → ℕ
 sendRefusal ordered area tx store k length =
@@ -35,9 +45,10 @@ sendRefusal ordered area tx store k length =
     ∷ need alreadySending (not (busy tx))
     ∷ []))
 
-unfoldable pub turnRefusal : Bool → (area store room : ℕ) → ℕ
-turnRefusal ordered area store room =
-    firstUnmet (orderAndStoreNeeds ordered area store ++ (need shortBuffer (leb leastBuffer room) ∷ []))
+unfoldable pub turnRefusal : Bool → (area store cards room : ℕ) → ℕ
+turnRefusal ordered area store cards room =
+    firstUnmet
+    (orderAndStoreNeeds ordered area store ++ (need wrongCards (areTen cards) ∷ need shortBuffer (leb leastBuffer room) ∷ []))
 
 unfoldable pub canShow : Bool → (area incoming outgoing k : ℕ) → Bool
 canShow ordered area incoming outgoing k = ordered && (isStore area incoming && (isStore area outgoing && ltb k berthCount))

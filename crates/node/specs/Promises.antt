@@ -1,4 +1,4 @@
--- The promise of each call, one predicate each over what the call is given, its answer, and the node, stores and buffer after it:
+-- The promise of each call, one predicate each over what the call is given, its answer, and the node, cards, stores and buffer after it:
 -- what the code leaves is the outcome of the rules at that call. Answers are compared as paper 01 numbers them.
 use Prim.Native.Nat.{ℕ, _+_, _*_}
 use mathlib.Core.Path.{_≡_}
@@ -12,6 +12,7 @@ use Rattle.rules.specs.Answers.{Answer, shown, setUpSays, frameSays, tickSays, 
 use Rattle.rules.specs.Events.{frame, tick, send, turn, show}
 use Rattle.rules.specs.Calls.{Outcome, outcome, setUpOutcome, showable, chosen}
 use Rattle.rules.specs.declared.Node.{Node}
+use Rattle.rules.specs.declared.Card.{Card}
 use Rattle.rules.specs.declared.Choice.{Choice}
 use Rattle.rules.specs.declared.Codes.{Codes}
 use Rattle.rules.specs.declared.SetUpAnswer.{SetUpAnswer}
@@ -22,8 +23,8 @@ use Rattle.rules.specs.declared.TurnAnswer.{TurnAnswer}
 
 -- ---- what a call is lent, what it leaves, and when two outcomes are the same
 
-abbrev pub lent : Node → List ℕ → List ℕ → Held
-lent n incoming outgoing = record { node = n; incoming = incoming; outgoing = outgoing }
+abbrev pub lent : Node → List Card → List ℕ → List ℕ → Held
+lent n cards incoming outgoing = record { node = n; incoming = incoming; outgoing = outgoing; cards = cards }
 
 abbrev pub left : Answer → Held → List ℕ → Outcome
 left a h buffer = record { answer = a; held = h; buffer = buffer }
@@ -33,37 +34,37 @@ pub record Agrees (o p : Outcome) : Type 0 where
   pub held : o .held ≡ p .held
   pub buffer : o .buffer ≡ p .buffer
 
--- ---- the promises. A store that a call is not given is any store, and it stays; a call without a buffer has the empty one
+-- ---- the promises. What a call is not given of stores and cards may be any, and it stays; a call without a buffer has the empty one
 
 abbrev pub SetUpPromise : Node → ℕ → ℕ → ℕ → SetUpAnswer → Node → Type 0
 SetUpPromise n area block stmin a n′ =
-    (incoming outgoing : List ℕ) →
-    Agrees (left (setUpSays a) (lent n′ incoming outgoing) []) (setUpOutcome (lent n incoming outgoing) area block stmin)
+    (cards : List Card) (incoming outgoing : List ℕ) →
+    Agrees (left (setUpSays a) (lent n′ cards incoming outgoing) []) (setUpOutcome (lent n cards incoming outgoing) area block stmin)
 
-abbrev pub FramePromise : Node → List ℕ → ℕ → List ℕ → FrameAnswer → Node → List ℕ → Type 0
-FramePromise n incoming id d a n′ incoming′ =
+abbrev pub FramePromise : Node → List Card → List ℕ → ℕ → List ℕ → FrameAnswer → Node → List Card → List ℕ → Type 0
+FramePromise n cards incoming id d a n′ cards′ incoming′ =
     (outgoing : List ℕ) →
-    Agrees (left (frameSays a) (lent n′ incoming′ outgoing) []) (outcome (lent n incoming outgoing) (frame id d))
+    Agrees (left (frameSays a) (lent n′ cards′ incoming′ outgoing) []) (outcome (lent n cards incoming outgoing) (frame id d))
 
 -- beside a refused tick stand ten pairs of zeros
 abbrev pub tenZeros : List Codes
 tenZeros = replicate berthCount (record { receive = 0; send = 0 })
 
-pub record TickPromise (n : Node) (a : TickAnswer) (n′ : Node) : Type 0 where
+pub record TickPromise (n : Node) (cards : List Card) (a : TickAnswer) (n′ : Node) (cards′ : List Card) : Type 0 where
   pub agrees :
       (incoming outgoing : List ℕ) →
-      Agrees (left (tickSays a) (lent n′ incoming outgoing) []) (outcome (lent n incoming outgoing) tick)
+      Agrees (left (tickSays a) (lent n′ cards′ incoming outgoing) []) (outcome (lent n cards incoming outgoing) tick)
   pub beside : unless (a .refused) (λ number. a .codes ≡ tenZeros) (Unit {0})
 
 abbrev pub SendPromise : Node → List ℕ → ℕ → List ℕ → SendAnswer → Node → List ℕ → Type 0
 SendPromise n outgoing k m a n′ outgoing′ =
-    (incoming : List ℕ) →
-    Agrees (left (sendSays a) (lent n′ incoming outgoing′) []) (outcome (lent n incoming outgoing) (send k m))
+    (cards : List Card) (incoming : List ℕ) →
+    Agrees (left (sendSays a) (lent n′ cards incoming outgoing′) []) (outcome (lent n cards incoming outgoing) (send k m))
 
-abbrev pub TurnPromise : Node → List ℕ → List ℕ → TurnAnswer → Node → List ℕ → Type 0
-TurnPromise n outgoing buffer a n′ buffer′ =
+abbrev pub TurnPromise : Node → List Card → List ℕ → List ℕ → TurnAnswer → Node → List Card → List ℕ → Type 0
+TurnPromise n cards outgoing buffer a n′ cards′ buffer′ =
     (incoming : List ℕ) →
-    Agrees (left (turnSays a buffer′) (lent n′ incoming outgoing) buffer′) (outcome (lent n incoming outgoing) (turn buffer))
+    Agrees (left (turnSays a buffer′) (lent n′ cards′ incoming outgoing) buffer′) (outcome (lent n cards incoming outgoing) (turn buffer))
 
 -- where a part starts: a block of memory, and the place in it. Berth k's area in the chosen store, or the front of the incoming
 -- store where nothing can be shown
@@ -75,8 +76,10 @@ startsAt h k choice incoming outgoing =
 
 -- show is lent everything to look at only, so nothing else changes
 pub record ShowPromise (n : Node) (incoming outgoing : List ℕ) (k : ℕ) (choice : Choice) (part : List ℕ) (in-at out-at part-at : ℕ × ℕ) : Type 0 where
-  pub agrees : Agrees (left (shown part) (lent n incoming outgoing) []) (outcome (lent n incoming outgoing) (show k choice))
-  pub starts : part-at ≡ startsAt (lent n incoming outgoing) k choice in-at out-at
+  pub agrees :
+      (cards : List Card) →
+      Agrees (left (shown part) (lent n cards incoming outgoing) []) (outcome (lent n cards incoming outgoing) (show k choice))
+  pub starts : (cards : List Card) → part-at ≡ startsAt (lent n cards incoming outgoing) k choice in-at out-at
 
 abbrev pub NeededPromise : ℕ → ℕ → Type 0
 NeededPromise n r = r ≡ framesNeeded n

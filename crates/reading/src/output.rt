@@ -56,7 +56,7 @@ impl Sink {
         ensures { λ r. ⌜ r ≡ sinkAfter self (now (buffer .entry)) (textOf text) ⌝ }
         ensures { λ _. ⌜ now (buffer .exit) ≡ bufferAfter self (now (buffer .entry)) (textOf text) ⌝ }
     {
-        let mut bytes = [0u8; 128];
+        let mut bytes = [0u8; text::building::ROOM];
         let n = text::building::copy(text, &mut bytes);
         self.put(buffer, &bytes[..n])
     }

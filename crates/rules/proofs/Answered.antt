@@ -14,8 +14,10 @@ use Rattle.rules.specs.Ranges.{inOrder}
 use Rattle.rules.specs.Turns.{busy}
 use Rattle.rules.specs.Stores.{rightStore, inside, cameAt}
 use Rattle.rules.specs.Events.{Call, senderOf}
+use Rattle.rules.specs.Cards.{rightCards}
 use Rattle.rules.specs.Refusals.{orderAndStore, toHear, needs, refusal}
 use Rattle.rules.specs.declared.Node.{Node}
+use Rattle.rules.specs.declared.Card.{Card}
 use Rattle.rules.proofs.Cases.{met, and-left, and-right}
 
 -- the needs that frame, send and turn share; what is left is that no other is unmet
@@ -27,32 +29,35 @@ first-two n store ns e =
     let (r2, e2) = met _ _ _ e1 in
     (r1, eqb-yes r2, e2)
 
--- a frame that no refusal below 11 holds back
-pub record MayHear (n : Node) (incoming : List ℕ) (id : ℕ) (d : List ℕ) : Type 0 where
+-- a frame that no refusal before 11 holds back
+pub record MayHear (n : Node) (incoming : List ℕ) (cards : List Card) (id : ℕ) (d : List ℕ) : Type 0 where
   pub order : T (inOrder n)
   pub store : length incoming ≡ berthCount * n .settings .area
+  pub ten : length cards ≡ berthCount
   pub known : fromBerth ≤ id
   pub mine : senderOf id < berthCount
   pub short : length d ≤ mostData
 
-pub may-hear : (n : Node) (incoming : List ℕ) (id : ℕ) (d : List ℕ) (ns : List Need) → firstUnmet (toHear n incoming id d ++ ns) ≡ 0
-    → MayHear n incoming id d × (firstUnmet ns ≡ 0)
-may-hear n incoming id d ns e =
+pub may-hear : (n : Node) (incoming : List ℕ) (cards : List Card) (id : ℕ) (d : List ℕ) (ns : List Need)
+    → firstUnmet (toHear n incoming cards id d ++ ns) ≡ 0 → MayHear n incoming cards id d × (firstUnmet ns ≡ 0)
+unfolding rightCards
+may-hear n incoming cards id d ns e =
     let (r1, r2, e2) = first-two n incoming _ e in
-    let (r3, e3) = met _ _ _ e2 in
+    let (r12, e12) = met _ _ _ e2 in
+    let (r3, e3) = met _ _ _ e12 in
     let (r4, e4) = met _ _ _ e3 in
     let from : fromBerth ≤ id = leb-yes (and-left (leb fromBerth id) (ltb id (fromBerth + berthCount)) r3) in
     let below : id < fromBerth + berthCount = ltb-yes (and-right (leb fromBerth id) (ltb id (fromBerth + berthCount)) r3) in
-    (record { order = r1; store = r2; known = from; mine = omega arith; short = leb-yes r4 }, e4)
+    (record { order = r1; store = r2; ten = eqb-yes r12; known = from; mine = omega arith; short = leb-yes r4 }, e4)
 
 pub record FrameAnswered (h : Held) (id : ℕ) (d : List ℕ) : Type 0 where
-  pub heard : MayHear (h .node) (h .incoming) id d
+  pub heard : MayHear (h .node) (h .incoming) (h .cards) id d
   pub fits : cameAt h (senderOf id) d .place + length (cameAt h (senderOf id) d .bytes) ≤ h .node .settings .area
 
 pub frame-answered : (h : Held) (id : ℕ) (d : List ℕ) → refusal h (Call.frame id d) ≡ 0 → FrameAnswered h id d
 unfolding refusal needs inside
 frame-answered h id d e =
-    let (may, e4) = may-hear (h .node) (h .incoming) id d _ e in
+    let (may, e4) = may-hear (h .node) (h .incoming) (h .cards) id d _ e in
     record { heard = may; fits = leb-yes (met _ _ _ e4 .0) }
 
 pub record SendAnswered (h : Held) (k : ℕ) (m : List ℕ) : Type 0 where
@@ -76,14 +81,22 @@ send-answered h k m e =
 pub record TurnAnswered (h : Held) (buffer : List ℕ) : Type 0 where
   pub order : T (inOrder (h .node))
   pub store : length (h .outgoing) ≡ berthCount * h .node .settings .area
+  pub ten : length (h .cards) ≡ berthCount
   pub room : leastBuffer ≤ length buffer
 
 pub turn-answered : (h : Held) (buffer : List ℕ) → refusal h (Call.turn buffer) ≡ 0 → TurnAnswered h buffer
-unfolding refusal needs
+unfolding refusal needs rightCards
 turn-answered h buffer e =
     let (r1, r2, e2) = first-two (h .node) (h .outgoing) _ e in
-    record { order = r1; store = r2; room = leb-yes (met _ _ _ e2 .0) }
+    let (r12, e12) = met _ _ _ e2 in
+    record { order = r1; store = r2; ten = eqb-yes r12; room = leb-yes (met _ _ _ e12 .0) }
 
-pub tick-answered : (h : Held) → refusal h Call.tick ≡ 0 → T (inOrder (h .node))
-unfolding refusal needs
-tick-answered h e = met _ _ _ e .0
+pub record TickAnswered (h : Held) : Type 0 where
+  pub order : T (inOrder (h .node))
+  pub ten : length (h .cards) ≡ berthCount
+
+pub tick-answered : (h : Held) → refusal h Call.tick ≡ 0 → TickAnswered h
+unfolding refusal needs rightCards
+tick-answered h e =
+    let (r1, e1) = met _ _ _ e in
+    record { order = r1; ten = eqb-yes (met _ _ _ e1 .0) }

@@ -7,10 +7,11 @@ use Rattle.rules.specs.Ranges.{settingsAllowed, inBlock, takingInRange, 
 use Rattle.rules.specs.Frames.{kind, low, singleFits, flowFits}
 use Rattle.rules.specs.Arrivals.{ignored, singleCame, flowIgnored, heardBy, toldBy, byKind, frameCame}
 use Rattle.rules.specs.Stores.{rightStore, inside, cameAt}
+use Rattle.rules.specs.Cards.{rightCards}
 use Rattle.rules.specs.Refusals.{needs, refusal, setUpRefusal}
 use Rattle.rules.specs.Edges.{rowGives, rowSays, edgeRows}
 
 -- THE EDGES: each row is given the number that it says
 pub edges : map rowGives edgeRows ≡ map rowSays edgeRows
-unfolding all each firstUnmet settingsAllowed inBlock takingInRange sendingInRange berthInOrder berthAt inOrder kind low singleFits flowFits ignored singleCame flowIgnored heardBy toldBy byKind frameCame rightStore inside cameAt needs refusal setUpRefusal
+unfolding all each firstUnmet settingsAllowed inBlock takingInRange sendingInRange berthInOrder berthAt inOrder kind low singleFits flowFits ignored singleCame flowIgnored heardBy toldBy byKind frameCame rightStore rightCards inside cameAt needs refusal setUpRefusal
 edges = refl

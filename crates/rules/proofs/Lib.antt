@@ -9,6 +9,8 @@ pub mod Facts
 pub mod Round
 pub mod Handed
 pub mod Answers
+pub mod Cards
+pub mod Even
 pub mod Needed
 pub mod Table
 pub mod Edges

@@ -14,7 +14,7 @@ use Rattle.rules.specs.Arrivals.{Told, granted, byStatus, flowIgnored, f
 use Rattle.rules.specs.Ticks.{ran, txTicked, ticked}
 use Rattle.rules.specs.Turns.{flowDue, messageDue, flowFrame, toGo, messageFrame, messageCode, moved, afterConsecutive, afterMessage, HandedOver, handOver, beginsWith, sent, busy}
 use Rattle.rules.specs.Events.{Event, arrives, ticks, sends, turns}
-use Rattle.rules.specs.Alone.{Part, hands, partAfter, says, alone, saysAll}
+use Rattle.rules.specs.Alone.{Part, hands, stateAfter, partAfter, says, alone, saysAll}
 use Rattle.rules.specs.Handing.{dataFrames, dataTotal, Carried, CarriedAll}
 use Rattle.rules.specs.declared.Settings.{Settings}
 use Rattle.rules.specs.declared.Sending.{Sending}
@@ -149,14 +149,14 @@ module _ (s : Settings) (sr : SettingsRange (s .area) (s .block) (s .stmin)) whe
 
   step-counts : (p : Part) (e : Event) → BerthRange s (p .berth) → Carried s p e
       → dataFrames (says s p e) + framesLeft (partAfter s p e .berth .tx) ≡ framesLeft (p .berth .tx)
-  unfolding says partAfter ticked
+  unfolding says stateAfter partAfter ticked
   step-counts p (arrives d) r f = zero-add _ ∙ frame-stays s (p .berth) d f
   step-counts p ticks r f = zero-add _ ∙ tick-stays (p .berth .tx) f
   step-counts p (sends m) r f = absurd f
   step-counts p turns r f = turn-counts (p .berth) (p .outgoing) r
 
   step-ok : (p : Part) (e : Event) → BerthRange s (p .berth) → Carried s p e → BerthRange s (partAfter s p e .berth)
-  unfolding partAfter
+  unfolding stateAfter partAfter
   step-ok p (arrives d) r f = came-ok s sr (p .berth) d r .berth
   step-ok p ticks r f = ticked-ok s sr (p .berth) r
   step-ok p (sends m) r f = absurd f
@@ -176,7 +176,7 @@ module _ (s : Settings) (sr : SettingsRange (s .area) (s .block) (s .stmin)) whe
   pub needed-handed : (p : Part) (m : List ℕ) (es : List Event) → BerthRange s (p .berth) → 1 ≤ length m → length m ≤ s .area
       → CarriedAll s (partAfter s p (sends m)) es → alone s (partAfter s p (sends m)) es .berth .tx ≡ Tx.Idle
       → dataTotal (saysAll s (partAfter s p (sends m)) es) ≡ framesNeeded (length m)
-  unfolding framesLeft partAfter sent
+  unfolding framesLeft stateAfter partAfter sent
   needed-handed p m es r a b f idle =
       let start = partAfter s p (sends m) in
       let total = run-counts es start (sent-ok s sr (p .berth) (length m) a b r) f in

@@ -22,7 +22,7 @@ use Rattle.rules.specs.Turns.{flowDue, afterFlow, toGo, opened, moved, a
 use Rattle.rules.specs.Stores.{tickedNode, servedNode, setUpNode, passedOver, reached, cameAt, handedAt}
 use Rattle.rules.specs.Events.{Call, senderOf}
 use Rattle.rules.specs.Refusals.{refusal, setUpRefusal}
-use Rattle.rules.specs.Calls.{afterFrame, done, reply, bufferOf, written, refusedOutcome, outcome, setUpOutcome, final}
+use Rattle.rules.specs.Calls.{afterFrame, afterTurn, done, reply, bufferOf, written, refusedOutcome, outcome, setUpOutcome, final}
 use Rattle.rules.specs.declared.Settings.{Settings}
 use Rattle.rules.specs.declared.Taking.{Taking}
 use Rattle.rules.specs.declared.Sending.{Sending}
@@ -408,7 +408,7 @@ tick-ok n o =
     }
 
 done-ok : (h : Held) (c : Call) → refusal h c ≡ 0 → InOrder (h .node) → InOrder (done h c .node)
-unfolding done afterFrame withBerth servedNode cameAt handedAt
+unfolding done afterFrame afterTurn withBerth servedNode cameAt handedAt
 done-ok h (Call.frame id d) e o =
     let a = frame-answered h id d e in
     with-ok (h .node) (senderOf id) (h .node .served) _ (o .served)

@@ -8,13 +8,14 @@ use Rattle.rules.specs.Arrivals.{ignored, singleCame, turnedAway, begun,
 use Rattle.rules.specs.Ticks.{ran, ticked, codesOf}
 use Rattle.rules.specs.Turns.{due, moved, afterConsecutive, handOver, beginsWith, sent as sentBerth}
 use Rattle.rules.specs.Stores.{rightStore, areaOf, stored, inside, tickedNode, servedNode, distance, leastDistance, passedOver, reached, cameAt, handedAt}
+use Rattle.rules.specs.Cards.{rightCards, addedAt, tickedCards}
 use Rattle.rules.specs.Refusals.{needs, refusal}
-use Rattle.rules.specs.Calls.{afterFrame, done, reply, written, refusedOutcome, outcome, answers}
-use Rattle.rules.specs.Alone.{partAfter, says, saysAll}
+use Rattle.rules.specs.Calls.{afterFrame, afterTurn, done, reply, written, refusedOutcome, outcome, answers}
+use Rattle.rules.specs.Alone.{stateAfter, partAfter, says, saysAll}
 use Rattle.rules.specs.Handing.{dataTotal}
 use Rattle.rules.specs.Table.{lastFrame, AllShown, rising, table}
 
 -- THE STARRED CASES
 pub starred : AllShown table
-unfolding all each firstUnmet settingsAllowed inBlock takingInRange sendingInRange berthInOrder berthAt inOrder kind low singleFits shortLength escapeLength announced firstFits consecutiveFits flowFits padded singleFrame firstFrame consecutiveFrame goFrame overflowFrame nextSn counted fillsBlock gapOf share needed framesNeeded ignored singleCame turnedAway begun firstCame piece grown completed afterTook took wrongSn awaitedCame granted byStatus flowIgnored heardBy toldBy byKind frameCame ran ticked due moved afterConsecutive handOver beginsWith sentBerth rightStore areaOf stored inside withBerth tickedNode servedNode distance leastDistance passedOver reached cameAt handedAt needs refusal afterFrame done codesOf reply written refusedOutcome outcome answers partAfter says saysAll dataTotal lastFrame rising
+unfolding all each firstUnmet settingsAllowed inBlock takingInRange sendingInRange berthInOrder berthAt inOrder kind low singleFits shortLength escapeLength announced firstFits consecutiveFits flowFits padded singleFrame firstFrame consecutiveFrame goFrame overflowFrame nextSn counted fillsBlock gapOf share needed framesNeeded ignored singleCame turnedAway begun firstCame piece grown completed afterTook took wrongSn awaitedCame granted byStatus flowIgnored heardBy toldBy byKind frameCame ran ticked due moved afterConsecutive handOver beginsWith sentBerth rightStore areaOf stored inside withBerth tickedNode servedNode distance leastDistance passedOver reached cameAt handedAt rightCards addedAt tickedCards needs refusal afterFrame afterTurn done codesOf reply written refusedOutcome outcome answers stateAfter partAfter says saysAll dataTotal lastFrame rising
 starred = (refl, (refl, (refl, (refl, (refl, (refl, ((refl, refl), (refl, (refl, (refl, (refl, (refl, (refl, (refl, tt))))))))))))))

@@ -1,4 +1,4 @@
--- Demand 3, one berth alone: its part of the node and of the two stores, its own events, and what a run of them leaves and says.
+-- Demand 3, one berth alone: its part of the node, of the two stores and of the cards, its own events, and what a run of them leaves and says.
 use Prim.Native.Nat.{ℕ}
 use mathlib.Core.List.{List, [], _∷_}
 use lib.ListN.{length}
@@ -9,15 +9,18 @@ use Rattle.rules.specs.Ticks.{ticked, rxCode, txCode}
 use Rattle.rules.specs.Turns.{handOver, sent}
 use Rattle.rules.specs.Stores.{areaOf}
 use Rattle.rules.specs.Events.{Event, arrives, ticks, sends, turns}
+use Rattle.rules.specs.Cards.{cardAt, added, adds}
 use Rattle.rules.specs.declared.Settings.{Settings}
 use Rattle.rules.specs.declared.Berth.{Berth}
+use Rattle.rules.specs.declared.Card.{Card}
 use Rattle.rules.specs.declared.Word.{Word}
 
--- berth k's state and its two areas
+-- berth k's state, its two areas and its card
 pub record Part : Type 0 where
   pub berth : Berth
   pub incoming : List ℕ
   pub outgoing : List ℕ
+  pub card : Card
 
 unfoldable pub partOf : ℕ → Held → Part
 partOf k h =
@@ -25,6 +28,7 @@ partOf k h =
       berth = berthAt (h .node) k;
       incoming = areaOf (h .node .settings .area) k (h .incoming);
       outgoing = areaOf (h .node .settings .area) k (h .outgoing);
+      card = cardAt (h .cards) k;
     }
 
 -- what a berth says at an event: old code and word; the codes of its two sides; that it takes the message; frame and code
@@ -34,23 +38,31 @@ pub data Says : Type 0 where
   accepts : Says
   hands : List ℕ → ℕ → Says
 
--- a part with its state anew, and with one of its areas anew
+-- a part with its state anew, with one of its areas anew, and with its card anew
 abbrev pub withState : Part → Berth → Part
-withState p b = record { berth = b; incoming = p .incoming; outgoing = p .outgoing }
+withState p b = record { berth = b; incoming = p .incoming; outgoing = p .outgoing; card = p .card }
 
 abbrev pub withIncomingArea : Part → List ℕ → Part
-withIncomingArea p area = record { berth = p .berth; incoming = area; outgoing = p .outgoing }
+withIncomingArea p area = record { berth = p .berth; incoming = area; outgoing = p .outgoing; card = p .card }
 
 abbrev pub withOutgoingArea : Part → List ℕ → Part
-withOutgoingArea p area = record { berth = p .berth; incoming = p .incoming; outgoing = area }
+withOutgoingArea p area = record { berth = p .berth; incoming = p .incoming; outgoing = area; card = p .card }
 
-unfoldable pub partAfter : Settings → Part → Event → Part
-partAfter s p (arrives d) =
+abbrev pub withCard : Part → Card → Part
+withCard p card = record { berth = p .berth; incoming = p .incoming; outgoing = p .outgoing; card = card }
+
+-- the state and the areas after an event
+unfoldable pub stateAfter : Settings → Part → Event → Part
+stateAfter s p (arrives d) =
     withIncomingArea (withState p (frameCame s (p .berth) d .berth))
     (sets (p .incoming) (frameCame s (p .berth) d .place) (frameCame s (p .berth) d .bytes))
-partAfter s p ticks = withState p (ticked (p .berth))
-partAfter s p (sends m) = withOutgoingArea (withState p (sent (p .berth) (length m))) (sets (p .outgoing) 0 m)
-partAfter s p turns = withState p (handOver s (p .berth) (p .outgoing) .berth)
+stateAfter s p ticks = withState p (ticked (p .berth))
+stateAfter s p (sends m) = withOutgoingArea (withState p (sent (p .berth) (length m))) (sets (p .outgoing) 0 m)
+stateAfter s p turns = withState p (handOver s (p .berth) (p .outgoing) .berth)
+
+-- and the card with what the event adds
+unfoldable pub partAfter : Settings → Part → Event → Part
+partAfter s p e = withCard (stateAfter s p e) (added (p .card) (adds s (p .berth) (p .outgoing) e))
 
 unfoldable pub says : Settings → Part → Event → Says
 says s p (arrives d) = hears (frameCame s (p .berth) d .old) (frameCame s (p .berth) d .word)

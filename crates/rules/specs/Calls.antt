@@ -6,14 +6,15 @@ use lib.ListN.{length, take, drop}
 use lib.Dec.{ltb}
 use Rattle.rules.specs.Tests.{pick, unless}
 use Rattle.rules.specs.Numbers.{berthCount, toBerth, frameSize}
-use Rattle.rules.specs.Nodes.{berthAt, withBerth, Held, withNode, withIncoming, withOutgoing}
+use Rattle.rules.specs.Nodes.{berthAt, withBerth, Held, withNode, withIncoming, withOutgoing, withCards}
 use Rattle.rules.specs.Ranges.{inOrder}
 use Rattle.rules.specs.Arrivals.{Came}
 use Rattle.rules.specs.Ticks.{codesOf}
-use Rattle.rules.specs.Turns.{sent as sentBerth, lengthSending}
+use Rattle.rules.specs.Turns.{HandedOver, sent as sentBerth, lengthSending}
 use Rattle.rules.specs.Stores.{rightStore, areaOf, stored, tickedNode, servedNode, setUpNode, passedOver, reached, cameAt, handedAt}
 use Rattle.rules.specs.Answers.{Answer, refused, ready, heard, codes, sent, handed, none, shown}
 use Rattle.rules.specs.Events.{Call, frame, tick, send, turn, show, senderOf}
+use Rattle.rules.specs.Cards.{addedAt, isSingle, frameAdds, tickedCards, turnAdds}
 use Rattle.rules.specs.Refusals.{refusal, setUpRefusal}
 use Rattle.rules.specs.declared.Choice.{Choice}
 
@@ -39,23 +40,29 @@ chosenStore h choice = chosen choice (h .incoming) (h .outgoing)
 unfoldable pub showing : Held → ℕ → Choice → List ℕ
 showing h k choice = take (shownLength h k choice) (areaOf (h .node .settings .area) k (chosenStore h choice))
 
--- ---- what a call that is not refused leaves: the node and the stores
+-- ---- what a call that is not refused leaves: the node, the stores and the cards
 
--- a frame changes its berth, and stores in its area
-unfoldable pub afterFrame : Held → ℕ → Came → Held
-afterFrame h k c =
-    withIncoming (withNode h (withBerth (h .node) k (c .berth)))
-    (stored (h .node .settings .area) k (c .place) (c .bytes) (h .incoming))
+-- a frame changes its berth, stores in its area, and counts on its card
+unfoldable pub afterFrame : Held → ℕ → List ℕ → Came → Held
+afterFrame h k d c =
+    withCards
+    (withIncoming (withNode h (withBerth (h .node) k (c .berth)))
+    (stored (h .node .settings .area) k (c .place) (c .bytes) (h .incoming)))
+    (addedAt (h .cards) k (frameAdds (isSingle d) (c .old) (c .word)))
+
+-- a turn changes the berth that it serves, and counts on its card
+unfoldable pub afterTurn : Held → ℕ → HandedOver → Held
+afterTurn h k o = withCards (withNode h (servedNode (h .node) k (o .berth))) (addedAt (h .cards) k (turnAdds (o .code)))
 
 unfoldable pub done : Held → Call → Held
-done h (frame id d) = afterFrame h (senderOf id) (cameAt h (senderOf id) d)
-done h tick = withNode h (tickedNode (h .node))
+done h (frame id d) = afterFrame h (senderOf id) d (cameAt h (senderOf id) d)
+done h tick = withCards (withNode h (tickedNode (h .node))) (tickedCards (h .node .berths) (h .cards))
 done h (send k m) =
     withOutgoing (withNode h (withBerth (h .node) k (sentBerth (berthAt (h .node) k) (length m))))
     (stored (h .node .settings .area) k 0 m (h .outgoing))
 done h (turn buffer) =
     pick (ltb (passedOver (h .node)) berthCount)
-    (withNode h (servedNode (h .node) (reached (h .node)) (handedAt h (reached (h .node)) .berth)))
+    (afterTurn h (reached (h .node)) (handedAt h (reached (h .node))))
     h
 done h (show k choice) = h
 
@@ -88,7 +95,7 @@ written h (turn buffer) =
     pick (ltb (passedOver (h .node)) berthCount) (handedAt h (reached (h .node)) .frame ++ drop frameSize buffer) buffer
 written h (show k choice) = []
 
--- ---- the outcome of a call: the answer, the node and both stores, the buffer. A refusal gives only its number; all else stays
+-- ---- the outcome of a call: the answer, the node, both stores and the cards, the buffer. A refusal gives only its number; all else stays
 
 pub record Outcome : Type 0 where
   pub answer : Answer
@@ -102,7 +109,7 @@ unfoldable pub outcome : Held → Call → Outcome
 outcome h c =
     unless (refusal h c) (refusedOutcome h (bufferOf c)) (record { answer = reply h c; held = done h c; buffer = written h c })
 
--- set-up touches no store
+-- set-up touches no store and no card
 unfoldable pub setUpOutcome : Held → ℕ → ℕ → ℕ → Outcome
 setUpOutcome h a bs stmin =
     unless (setUpRefusal a bs stmin) (refusedOutcome h [])

@@ -3,8 +3,9 @@
 use Prim.Native.Nat.{ℕ, _+_}
 use mathlib.Core.List.{List, [], _∷_, _++_}
 use lib.ListN.{length, replicate}
-use Rattle.rules.specs.Nodes.{fresh, withRx, withTx, Held}
+use Rattle.rules.specs.Nodes.{fresh, withRx, withTx, Held, withCards}
 use Rattle.rules.specs.Events.{Call, frame, tick, send, turn}
+use Rattle.rules.specs.Cards.{zeroCard}
 use Rattle.rules.specs.Refusals.{refusal, setUpRefusal}
 use Rattle.rules.specs.declared.Settings.{Settings}
 use Rattle.rules.specs.declared.Taking.{Taking}
@@ -20,9 +21,19 @@ pub data Edge : Type 0 where
   setUpEdge : ℕ → ℕ → ℕ → ℕ → Edge
   nodeEdge : Settings → ℕ → Berth → ℕ → Edge
 
--- a node with these settings, berth served last and berths, and stores of so many zeros
+-- a node with these settings, berth served last and berths, stores of so many zeros, and ten cards
 abbrev pub heldWith : Settings → ℕ → List Berth → ℕ → ℕ → Held
-heldWith s at bs i o = record { node = record { settings = s; served = at; berths = bs }; incoming = replicate i 0; outgoing = replicate o 0 }
+heldWith s at bs i o =
+    record {
+      node = record { settings = s; served = at; berths = bs };
+      incoming = replicate i 0;
+      outgoing = replicate o 0;
+      cards = replicate 10 zeroCard;
+    }
+
+-- and with so many cards
+abbrev pub cardsAre : ℕ → Held → Held
+cardsAre n h = withCards h (replicate n zeroCard)
 
 -- the refusal that the rules give, and the number that the row says
 abbrev pub rowGives : Edge → ℕ
@@ -99,6 +110,17 @@ calls =
     ∷ callEdge (stores 80 79) (turn (zeros 8)) 2
     ∷ callEdge (stores 79 80) (turn (zeros 8)) 0
     ∷ callEdge (stores 80 81) (turn (zeros 8)) 2
+    -- 12: 9, 10 and 11 cards; a send takes none
+    ∷ callEdge (cardsAre 9 fine) (frame 0x640 []) 12
+    ∷ callEdge (cardsAre 10 fine) (frame 0x640 []) 0
+    ∷ callEdge (cardsAre 11 fine) (frame 0x640 []) 12
+    ∷ callEdge (cardsAre 9 fine) tick 12
+    ∷ callEdge (cardsAre 10 fine) tick 0
+    ∷ callEdge (cardsAre 11 fine) tick 12
+    ∷ callEdge (cardsAre 9 fine) (turn (zeros 8)) 12
+    ∷ callEdge (cardsAre 10 fine) (turn (zeros 8)) 0
+    ∷ callEdge (cardsAre 11 fine) (turn (zeros 8)) 12
+    ∷ callEdge (cardsAre 9 fine) (send 0 (1 ∷ [])) 0
     -- 5: berth 9 and 10
     ∷ callEdge fine (send 9 (1 ∷ [])) 0
     ∷ callEdge fine (send 10 (1 ∷ [])) 5
@@ -129,12 +151,14 @@ calls =
     ∷ setUpEdge 40 2 0xFA 10
     ∷ []
 
--- ---- both hold: the lower number is given
+-- ---- both hold: the one that is tested first is given
 
 abbrev pub both : List Edge
 both =
     callEdge (broken 79 80) (frame 0x63F (zeros 9)) 1
     ∷ callEdge (stores 79 80) (frame 0x63F (zeros 9)) 2
+    ∷ callEdge (cardsAre 9 (stores 79 80)) (frame 0x640 []) 2
+    ∷ callEdge (cardsAre 9 fine) (frame 0x64A (zeros 9)) 12
     ∷ callEdge fine (frame 0x64A (zeros 9)) 3
     ∷ callEdge fine (frame 0x64A []) 3
     ∷ callEdge fine (frame 0x640 (0x70 ∷ zeros 8)) 4
@@ -146,9 +170,12 @@ both =
     ∷ callEdge sendingAt0 (send 0 (zeros 9)) 7
     ∷ callEdge (broken 80 79) (turn (zeros 7)) 1
     ∷ callEdge (stores 80 79) (turn (zeros 7)) 2
+    ∷ callEdge (cardsAre 9 (stores 80 79)) (turn (zeros 8)) 2
+    ∷ callEdge (cardsAre 9 fine) (turn (zeros 7)) 12
     -- 9 before nothing due
     ∷ callEdge fine (turn (zeros 7)) 9
     ∷ callEdge (broken 80 80) tick 1
+    ∷ callEdge (cardsAre 9 (broken 80 80)) tick 1
     ∷ []
 
 -- ---- the ranges

@@ -1,4 +1,4 @@
--- Paper 01 as definitions, in its order.
+-- Papers 01 and 02 as definitions, in their order.
 pub mod Tests
 pub mod Numbers
 pub mod Nodes
@@ -10,6 +10,7 @@ pub mod Turns
 pub mod Stores
 pub mod Answers
 pub mod Events
+pub mod Cards
 pub mod Refusals
 pub mod Calls
 pub mod Alone

@@ -10,6 +10,7 @@ use Rattle.rules.specs.declared.Rx.{Rx}
 use Rattle.rules.specs.declared.Tx.{Tx}
 use Rattle.rules.specs.declared.Berth.{Berth}
 use Rattle.rules.specs.declared.Node.{Node}
+use Rattle.rules.specs.declared.Card.{Card}
 
 -- ---- one berth
 
@@ -44,19 +45,23 @@ withBerth n k b = withBerths n (set (n .berths) k b)
 abbrev pub withServed : Node → ℕ → Node
 withServed n k = record { settings = n .settings; served = k; berths = n .berths }
 
--- ---- what the calls are lent: the node and the two stores
+-- ---- what the calls are lent: the node, the two stores and the cards
 
 pub record Held : Type 0 where
   pub node : Node
   pub incoming : List ℕ
   pub outgoing : List ℕ
+  pub cards : List Card
 
--- with one of the three anew
+-- with one of the four anew
 abbrev pub withNode : Held → Node → Held
-withNode h n = record { node = n; incoming = h .incoming; outgoing = h .outgoing }
+withNode h n = record { node = n; incoming = h .incoming; outgoing = h .outgoing; cards = h .cards }
 
 abbrev pub withIncoming : Held → List ℕ → Held
-withIncoming h store = record { node = h .node; incoming = store; outgoing = h .outgoing }
+withIncoming h store = record { node = h .node; incoming = store; outgoing = h .outgoing; cards = h .cards }
 
 abbrev pub withOutgoing : Held → List ℕ → Held
-withOutgoing h store = record { node = h .node; incoming = h .incoming; outgoing = store }
+withOutgoing h store = record { node = h .node; incoming = h .incoming; outgoing = store; cards = h .cards }
+
+abbrev pub withCards : Held → List Card → Held
+withCards h cards = record { node = h .node; incoming = h .incoming; outgoing = h .outgoing; cards = cards }

@@ -8,6 +8,7 @@ use Rattle.rules.specs.Frames.{framesNeeded}
 use Rattle.rules.specs.Turns.{sent as sentBerth}
 use Rattle.rules.specs.Answers.{Answer, heard, codes, sent, handed}
 use Rattle.rules.specs.Events.{Call, frame, tick, send, turn, Event, arrives, turns}
+use Rattle.rules.specs.Cards.{zeroCard}
 use Rattle.rules.specs.Calls.{answers}
 use Rattle.rules.specs.Alone.{Part, Says, hands, saysAll}
 use Rattle.rules.specs.declared.Settings.{Settings}
@@ -57,9 +58,15 @@ AllShown (r ∷ rs) = Shown r × AllShown rs
 abbrev pub paper : Settings
 paper = record { area = 40; block = 2; stmin = 5 }
 
--- these berths, 9 served last, and stores of zeros; with all berths fresh; a turn's buffer
+-- these berths, 9 served last, and stores and cards of zeros; with all berths fresh; a turn's buffer
 abbrev pub heldBy : List Berth → Held
-heldBy bs = record { node = record { settings = paper; served = 9; berths = bs }; incoming = replicate 400 0; outgoing = replicate 400 0 }
+heldBy bs =
+    record {
+      node = record { settings = paper; served = 9; berths = bs };
+      incoming = replicate 400 0;
+      outgoing = replicate 400 0;
+      cards = replicate 10 zeroCard;
+    }
 
 abbrev pub start : Held
 start = heldBy (replicate 10 fresh)
@@ -110,7 +117,7 @@ expired = pair 2 0 ∷ pair 2 0 ∷ pair 4 0 ∷ pair 0 2 ∷ pair 0 2 ∷ pair 
 
 -- the berth that is about to send the longest message
 abbrev pub longest : Part
-longest = record { berth = sentBerth fresh 4095; incoming = []; outgoing = rising 4095 0 }
+longest = record { berth = sentBerth fresh 4095; incoming = []; outgoing = rising 4095 0; card = zeroCard }
 
 -- the starred cases, in the paper's order
 abbrev pub table : List Row

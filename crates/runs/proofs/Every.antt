@@ -9,13 +9,14 @@ use lib.Seq.{take-at}
 use lib.Dec.{ltb}
 use Rattle.rules.specs.Tests.{firstUnmet}
 use Rattle.rules.specs.Numbers.{berthCount, toBerth, frameSize}
-use Rattle.rules.specs.Nodes.{Held, withNode}
+use Rattle.rules.specs.Nodes.{Held, withNode, withCards}
 use Rattle.rules.specs.Ticks.{codesOf}
 use Rattle.rules.specs.Events.{Call, frame, tick, send, turn, show, senderOf}
 use Rattle.rules.specs.Stores.{passedOver, reached, cameAt, handedAt, servedNode, setUpNode}
 use Rattle.rules.specs.Answers.{handed, setUpSays, frameSays, tickSays, sendSays, turnSays}
+use Rattle.rules.specs.Cards.{addedAt, turnAdds}
 use Rattle.rules.specs.Refusals.{needs, refusal, setUpRefusal}
-use Rattle.rules.specs.Calls.{Outcome, refusedOutcome, showing, afterFrame, done, reply, written, outcome, setUpOutcome}
+use Rattle.rules.specs.Calls.{Outcome, refusedOutcome, showable, shownLength, showing, afterFrame, afterTurn, done, reply, written, outcome, setUpOutcome}
 use Rattle.rules.specs.declared.Settings.{Settings}
 use Rattle.rules.specs.declared.Node.{Node}
 use Rattle.rules.specs.declared.SetUpAnswer.{SetUpAnswer}
@@ -40,11 +41,11 @@ module _ (h : Held) where
     where
       go : (number : ℕ) → refusal h (frame id d) ≡ number → Step h (frame id d) (outcome h (frame id d))
       go zero e =
-          as-outcome (frameStep id d (FrameAnswer.Heard (senderOf id) (cameAt h (senderOf id) d .old) (cameAt h (senderOf id) d .word)) (done h (frame id d) .node) (done h (frame id d) .incoming)
-          (λ outgoing. does (lent (h .node) (h .incoming) outgoing) (frame id d) refl (sym e) refl))
+          as-outcome (frameStep id d (FrameAnswer.Heard (senderOf id) (cameAt h (senderOf id) d .old) (cameAt h (senderOf id) d .word)) (done h (frame id d) .node) (done h (frame id d) .cards) (done h (frame id d) .incoming)
+          (λ outgoing. does (lent (h .node) (h .cards) (h .incoming) outgoing) (frame id d) refl (sym e) refl))
       go (suc number) e =
-          as-outcome (frameStep id d (FrameAnswer.Refused (suc number)) (h .node) (h .incoming)
-          (λ outgoing. refuses (lent (h .node) (h .incoming) outgoing) (frame id d) (suc number) (λ z. omega arith) refl refl (sym e)))
+          as-outcome (frameStep id d (FrameAnswer.Refused (suc number)) (h .node) (h .cards) (h .incoming)
+          (λ outgoing. refuses (lent (h .node) (h .cards) (h .incoming) outgoing) (frame id d) (suc number) (λ z. omega arith) refl refl (sym e)))
 
   tick-step : Step h tick (outcome h tick)
   unfolding refusal needs tickSays reply done written
@@ -52,12 +53,12 @@ module _ (h : Held) where
     where
       go : (number : ℕ) → refusal h tick ≡ number → Step h tick (outcome h tick)
       go zero e =
-          as-outcome (tickStep (record { refused = 0; codes = map codesOf (h .node .berths) }) (done h tick .node)
-          (record { agrees = λ incoming outgoing. does (lent (h .node) incoming outgoing) tick refl (sym e) refl; beside = tt }))
+          as-outcome (tickStep (record { refused = 0; codes = map codesOf (h .node .berths) }) (done h tick .node) (done h tick .cards)
+          (record { agrees = λ incoming outgoing. does (lent (h .node) (h .cards) incoming outgoing) tick refl (sym e) refl; beside = tt }))
       go (suc number) e =
-          as-outcome (tickStep (record { refused = suc number; codes = replicate berthCount (record { receive = 0; send = 0 }) }) (h .node)
+          as-outcome (tickStep (record { refused = suc number; codes = replicate berthCount (record { receive = 0; send = 0 }) }) (h .node) (h .cards)
           (record {
-            agrees = λ incoming outgoing. refuses (lent (h .node) incoming outgoing) tick (suc number) (λ z. omega arith) refl refl (sym e);
+            agrees = λ incoming outgoing. refuses (lent (h .node) (h .cards) incoming outgoing) tick (suc number) (λ z. omega arith) refl refl (sym e);
             beside = refl;
           }))
 
@@ -68,13 +69,13 @@ module _ (h : Held) where
       go : (number : ℕ) → refusal h (send k m) ≡ number → Step h (send k m) (outcome h (send k m))
       go zero e =
           as-outcome (sendStep k m (SendAnswer.Sent k) (done h (send k m) .node) (done h (send k m) .outgoing)
-          (λ incoming. does (lent (h .node) incoming (h .outgoing)) (send k m) refl (sym e) refl))
+          (λ cards incoming. does (lent (h .node) cards incoming (h .outgoing)) (send k m) refl (sym e) refl))
       go (suc number) e =
           as-outcome (sendStep k m (SendAnswer.Refused (suc number)) (h .node) (h .outgoing)
-          (λ incoming. refuses (lent (h .node) incoming (h .outgoing)) (send k m) (suc number) (λ z. omega arith) refl refl (sym e)))
+          (λ cards incoming. refuses (lent (h .node) cards incoming (h .outgoing)) (send k m) (suc number) (λ z. omega arith) refl refl (sym e)))
 
   turn-step : (buffer : List ℕ) → Step h (turn buffer) (outcome h (turn buffer))
-  unfolding refusal needs turnSays reply done written handedAt outcome
+  unfolding refusal needs turnSays reply done afterTurn written handedAt outcome
   turn-step buffer = go (refusal h (turn buffer)) refl (ltb-cases (passedOver (h .node)) berthCount)
     where
       k : ℕ
@@ -86,26 +87,27 @@ module _ (h : Held) where
       go zero e (holds t l) =
           let says : outcome h (turn buffer) .answer ≡ handed (toBerth + k) (handedAt h k .frame) (handedAt h k .code) (passedOver (h .node)) = rw (e, t) in
           let eight = handed-fit h buffer _ _ _ _ says .0 .eight in
-          as-outcome (turnStep buffer (TurnAnswer.HandedOver (toBerth + k) (handedAt h k .code) (passedOver (h .node))) (servedNode (h .node) k (handedAt h k .berth)) (handedAt h k .frame ++ drop frameSize buffer)
-          (λ incoming. does (lent (h .node) incoming (h .outgoing)) (turn buffer) refl (sym e)
-          (rw t (ap (λ (f : List ℕ). left (handed (toBerth + k) f (handedAt h k .code) (passedOver (h .node))) (lent (servedNode (h .node) k (handedAt h k .berth)) incoming (h .outgoing)) (handedAt h k .frame ++ drop frameSize buffer))
+          as-outcome (turnStep buffer (TurnAnswer.HandedOver (toBerth + k) (handedAt h k .code) (passedOver (h .node))) (servedNode (h .node) k (handedAt h k .berth)) (addedAt (h .cards) k (turnAdds (handedAt h k .code))) (handedAt h k .frame ++ drop frameSize buffer)
+          (λ incoming. does (lent (h .node) (h .cards) incoming (h .outgoing)) (turn buffer) refl (sym e)
+          (rw t (ap (λ (f : List ℕ). left (handed (toBerth + k) f (handedAt h k .code) (passedOver (h .node))) (lent (servedNode (h .node) k (handedAt h k .berth)) (addedAt (h .cards) k (turnAdds (handedAt h k .code))) incoming (h .outgoing)) (handedAt h k .frame ++ drop frameSize buffer))
           (take-at (handedAt h k .frame) (drop frameSize buffer) frameSize eight)))))
       go zero e (fails t l) =
-          as-outcome (turnStep buffer (TurnAnswer.None berthCount) (h .node) buffer
-          (λ incoming. does (lent (h .node) incoming (h .outgoing)) (turn buffer) refl (sym e) (rw t)))
+          as-outcome (turnStep buffer (TurnAnswer.None berthCount) (h .node) (h .cards) buffer
+          (λ incoming. does (lent (h .node) (h .cards) incoming (h .outgoing)) (turn buffer) refl (sym e) (rw t)))
       go (suc number) e t =
-          as-outcome (turnStep buffer (TurnAnswer.Refused (suc number)) (h .node) buffer
-          (λ incoming. refuses (lent (h .node) incoming (h .outgoing)) (turn buffer) (suc number) (λ z. omega arith) refl refl (sym e)))
+          as-outcome (turnStep buffer (TurnAnswer.Refused (suc number)) (h .node) (h .cards) buffer
+          (λ incoming. refuses (lent (h .node) (h .cards) incoming (h .outgoing)) (turn buffer) (suc number) (λ z. omega arith) refl refl (sym e)))
 
   -- EVERY CALL HAS A STEP
   pub every-step : (c : Call) → Step h c (outcome h c)
+  unfolding showing shownLength showable
   every-step (frame id d) = frame-step id d
   every-step tick = tick-step
   every-step (send k m) = send-step k m
   every-step (turn buffer) = turn-step buffer
   every-step (show k choice) =
       as-outcome (showStep k choice (showing h k choice) (0, 0) (0, 0) (startsAt h k choice (0, 0) (0, 0))
-      (record { agrees = unfold refusal needs firstUnmet reply done written in (does h (show k choice) refl refl refl); starts = refl }))
+      (record { agrees = λ cards. unfold refusal needs firstUnmet reply done written in (does (withCards h cards) (show k choice) refl refl refl); starts = λ cards. refl }))
 
 -- EVERY LIST OF CALLS HAS A CHAIN, from any start
 pub every-chain : (h : Held) (cs : List Call) → Chain h (madeOf h cs)
@@ -117,7 +119,7 @@ every-chain h (c ∷ cs) = (every-step h c, every-chain (outcome h c .held) cs)
 every-ready : (n : Node) (s : Settings) → setUpRefusal (s .area) (s .block) (s .stmin) ≡ 0
     → SetUpPromise n (s .area) (s .block) (s .stmin) SetUpAnswer.Ready (setUpNode s)
 unfolding setUpSays setUpOutcome
-every-ready n s e incoming outgoing = rw e (agrees refl)
+every-ready n s e cards incoming outgoing = rw e (agrees refl)
 
 pub every-set-up : (n : Node) (area block stmin : ℕ) → (a : SetUpAnswer) × (n′ : Node) × SetUpPromise n area block stmin a n′
 unfolding setUpSays setUpOutcome refusedOutcome
@@ -125,7 +127,7 @@ every-set-up n area block stmin = go (setUpRefusal area block stmin) refl
   where
     go : (number : ℕ) → setUpRefusal area block stmin ≡ number → (a : SetUpAnswer) × (n′ : Node) × SetUpPromise n area block stmin a n′
     go zero e = (SetUpAnswer.Ready, setUpNode (record { area = area; block = block; stmin = stmin }), every-ready n (record { area = area; block = block; stmin = stmin }) e)
-    go (suc number) e = (SetUpAnswer.Refused (suc number), n, λ incoming outgoing. rw e (agrees refl))
+    go (suc number) e = (SetUpAnswer.Refused (suc number), n, λ cards incoming outgoing. rw e (agrees refl))
 
 -- and after one with allowed settings every list of calls has a chain
 pub every-after-set-up : (h : Held) (s : Settings) (cs : List Call) → setUpRefusal (s .area) (s .block) (s .stmin) ≡ 0

@@ -14,18 +14,20 @@ use Rattle.rules.specs.Turns.{due, handOver, beginsWith, sent as sentBerth}
 use Rattle.rules.specs.Events.{Call, frame, tick, send, turn, ticks, arrives, sends}
 use Rattle.rules.specs.Stores.{rightStore, areaOf, stored, inside, servedNode, setUpNode, distance, leastDistance, passedOver, reached, cameAt, handedAt}
 use Rattle.rules.specs.Answers.{refused}
-use Rattle.rules.specs.Refusals.{needs, refusal}
-use Rattle.rules.specs.Calls.{Outcome, afterFrame, done, outcome}
-use Rattle.rules.specs.Alone.{partOf, partAfter, says, hears}
+use Rattle.rules.specs.Cards.{rightCards, addedAt}
+use Rattle.rules.specs.Refusals.{needs, refusal, setUpRefusal}
+use Rattle.rules.specs.Calls.{Outcome, afterFrame, afterTurn, done, outcome, setUpOutcome, final}
+use Rattle.rules.specs.Alone.{partOf, stateAfter, partAfter, says, hears}
 use Rattle.rules.specs.declared.Word.the-variants.{Delivered}
 use Rattle.rules.specs.declared.Settings.{Settings}
 use Rattle.rules.specs.declared.Tx.{Tx}
 use Rattle.laws.specs.Own.{ownDone, own, over}
+use Rattle.laws.specs.Cards.{zeroCards, TalliesAt}
 use Rattle.laws.specs.Rounds.{turnOf, StaysDue, Fair}
 use Rattle.laws.specs.Line.{blank}
-use Rattle.laws.proofs.Examples.{two, twoRun, afresh-computed, crowd, crowdRun, crowd-computed}
-use Rattle.runs.specs.Chains.{Made, AfterSetUp, madeOf, saidBy, leftBy, DueIn, EachAlone}
-use Rattle.runs.proofs.Runs.{chain-fair, chain-alone-after-set-up}
+use Rattle.laws.proofs.Examples.{two, twoRun, afresh-computed, afresh-cards, crowd, crowdRun, crowd-computed}
+use Rattle.runs.specs.Chains.{Made, AfterSetUp, madeOf, saidBy, leftBy, DueIn, historyIn, EachAlone}
+use Rattle.runs.proofs.Runs.{chain-fair, chain-alone-after-set-up, chain-tallies-after-set-up}
 use Rattle.runs.proofs.Every.{every-chain, every-after-set-up}
 use Rattle.runs.proofs.PoorNodes.{one-more, refusing-again, idle-again-timers, idle-again-message, counting-again, fixed-again, fixed-again-bytes}
 
@@ -44,10 +46,24 @@ due-made k h (c ∷ cs) t = (t .0, due-made k (outcome h c .held) cs (t .1))
 pub fair-here : Fair 4 (over turnOf (saidBy (madeOf crowd crowdRun)))
 fair-here = chain-fair 4 (lit< tt) crowd (madeOf crowd crowdRun) (every-chain crowd crowdRun) (due-made 4 crowd crowdRun (crowd-computed .1))
 
--- ---- poor nodes after a set-up with A 8, BS 0, STmin 0, of a node that no set-up had filled, with stores of zeros
+-- ---- the law of the cards: the same run and a tick, with cards of zeros
+
+abbrev start : Held
+start = withNode two (setUpNode (two .node .settings))
+
+abbrev lastTick : Made
+lastTick = record { call = tick; out = outcome (leftBy start (madeOf start twoRun)) tick }
+
+pub cards-here : TalliesAt 5 (leftBy start (madeOf start twoRun ++ lastTick ∷ [])) (historyIn 5 start (madeOf start twoRun ++ lastTick ∷ []))
+unfolding madeOf leftBy final setUpOutcome setUpRefusal firstUnmet settingsAllowed all
+cards-here =
+    chain-tallies-after-set-up two (two .node .settings) (setUpNode (two .node .settings)) (madeOf start twoRun) lastTick
+    (every-after-set-up two (two .node .settings) (twoRun ++ tick ∷ []) (afresh-computed .0)) refl 5 (lit< tt) (afresh-cards .0)
+
+-- ---- poor nodes after a set-up with A 8, BS 0, STmin 0, of a node that no set-up had filled, with stores and cards of zeros
 
 abbrev unset : Held
-unset = record { node = blankNode; incoming = replicate 80 0; outgoing = replicate 80 0 }
+unset = record { node = blankNode; incoming = replicate 80 0; outgoing = replicate 80 0; cards = zeroCards }
 
 abbrev eight : Settings
 eight = record { area = 8; block = 0; stmin = 0 }
@@ -57,14 +73,14 @@ made c o = record { call = c; out = o }
 
 -- refusing: a tick that is answered with a refusal is no run
 pub refusing-here : (o : Outcome) (number : ℕ) → AfterSetUp unset eight (setUpNode eight) (made tick o ∷ []) → o .answer ≡ refused number → ⊥
-unfolding own ownDone leftBy refusal needs firstUnmet inOrder all each settingsAllowed berthInOrder setUpNode
+unfolding own ownDone leftBy refusal needs firstUnmet rightCards inOrder all each settingsAllowed berthInOrder setUpNode
 refusing-here o number r = refusing-again (one-more [] (made tick o) 0 ticks r (lit< tt) refl) number
 
 -- a fixed answer, and fixed bytes: two single frames of other lengths, and of other bytes
 pub fixed-here : (o q : Outcome) → AfterSetUp unset eight (setUpNode eight) (made (frame 0x640 (0x01 ∷ 7 ∷ [])) o ∷ [])
     → AfterSetUp unset eight (setUpNode eight) (made (frame 0x640 (0x02 ∷ 7 ∷ 8 ∷ [])) q ∷ []) → o .answer ≡ q .answer → ⊥
 unfolding
-    own ownDone leftBy refusal needs firstUnmet rightStore inside inOrder all each settingsAllowed berthInOrder setUpNode berthAt
+    own ownDone leftBy refusal needs firstUnmet rightStore rightCards inside inOrder all each settingsAllowed berthInOrder setUpNode berthAt
     cameAt frameCame byKind kind low heardBy singleCame singleFits partOf says
 fixed-here o q r x =
     fixed-again (one-more [] (made (frame 0x640 (0x01 ∷ 7 ∷ [])) o) 0 (arrives (0x01 ∷ 7 ∷ [])) r (lit< tt) refl)
@@ -74,8 +90,8 @@ fixed-here o q r x =
 pub fixed-bytes-here : (o q : Outcome) → AfterSetUp unset eight (setUpNode eight) (made (frame 0x640 (0x01 ∷ 7 ∷ [])) o ∷ [])
     → AfterSetUp unset eight (setUpNode eight) (made (frame 0x640 (0x01 ∷ 8 ∷ [])) q ∷ []) → partOf 0 (o .held) .incoming ≡ partOf 0 (q .held) .incoming → ⊥
 unfolding
-    own ownDone leftBy refusal needs firstUnmet rightStore inside inOrder all each settingsAllowed berthInOrder setUpNode berthAt
-    cameAt frameCame byKind kind low heardBy singleCame singleFits partOf partAfter areaOf
+    own ownDone leftBy refusal needs firstUnmet rightStore rightCards inside inOrder all each settingsAllowed berthInOrder setUpNode berthAt
+    cameAt frameCame byKind kind low heardBy singleCame singleFits partOf stateAfter partAfter areaOf
 fixed-bytes-here o q r x =
     fixed-again-bytes (one-more [] (made (frame 0x640 (0x01 ∷ 7 ∷ [])) o) 0 (arrives (0x01 ∷ 7 ∷ [])) r (lit< tt) refl)
     (one-more [] (made (frame 0x640 (0x01 ∷ 8 ∷ [])) q) 0 (arrives (0x01 ∷ 8 ∷ [])) x (lit< tt) refl)
@@ -88,14 +104,14 @@ afterSend = madeOf (withNode unset (setUpNode eight)) (send 0 (1 ∷ []) ∷ [])
 pub idle-here : (o : Outcome) → AfterSetUp unset eight (setUpNode eight) (afterSend ++ made tick o ∷ [])
     → partOf 0 (o .held) .berth ≡ partOf 0 (leftBy (withNode unset (setUpNode eight)) afterSend) .berth → ⊥
 unfolding
-    madeOf own ownDone leftBy refusal needs firstUnmet rightStore inOrder all each settingsAllowed berthInOrder setUpNode berthAt
+    madeOf own ownDone leftBy refusal needs firstUnmet rightStore rightCards inOrder all each settingsAllowed berthInOrder setUpNode berthAt
     outcome done withBerth sentBerth beginsWith partOf
 idle-here o r = idle-again-timers (one-more afterSend (made tick o) 0 ticks r (lit< tt) refl) (λ e. let f : Tx.SingleDue 1 0 ≡ Tx.Idle = e .1 in let z : _≡_ {A = ℕ} 0 1 = cc in omega arith)
 
 -- and a send leaves the outgoing area as it was
 pub idle-message-here : (o : Outcome) → AfterSetUp unset eight (setUpNode eight) (made (send 0 (1 ∷ [])) o ∷ [])
     → partOf 0 (o .held) .outgoing ≡ partOf 0 (withNode unset (setUpNode eight)) .outgoing → ⊥
-unfolding own ownDone leftBy refusal needs firstUnmet rightStore inOrder all each settingsAllowed berthInOrder setUpNode berthAt partOf areaOf
+unfolding own ownDone leftBy refusal needs firstUnmet rightStore rightCards inOrder all each settingsAllowed berthInOrder setUpNode berthAt partOf areaOf
 idle-message-here o r =
     idle-again-message (1 ∷ []) (one-more [] (made (send 0 (1 ∷ [])) o) 0 (sends (1 ∷ [])) r (lit< tt) refl)
     (λ e. let z : _≡_ {A = ℕ} 0 1 = ap (λ (l : List ℕ). getD l 0 0) e in omega arith)
@@ -107,8 +123,8 @@ afterGo = madeOf (withNode unset (setUpNode eight)) (frame 0x640 (0x10 ∷ 8 ∷
 pub counting-here : (o : Outcome) → AfterSetUp unset eight (setUpNode eight) (afterGo ++ made (frame 0x640 (0x21 ∷ 7 ∷ 8 ∷ [])) o ∷ [])
     → partOf 0 (o .held) .incoming ≡ partOf 0 (leftBy (withNode unset (setUpNode eight)) afterGo) .incoming → ⊥
 unfolding
-    madeOf own ownDone leftBy refusal needs firstUnmet rightStore inside inOrder all each settingsAllowed berthInOrder takingInRange inBlock setUpNode berthAt
-    outcome done afterFrame stored withBerth cameAt frameCame byKind kind low heardBy firstCame firstFits announced shortLength escapeLength begun
+    madeOf own ownDone leftBy refusal needs firstUnmet rightStore rightCards inside inOrder all each settingsAllowed berthInOrder takingInRange inBlock setUpNode berthAt
+    outcome done afterFrame afterTurn addedAt stored withBerth cameAt frameCame byKind kind low heardBy firstCame firstFits announced shortLength escapeLength begun
     awaitedCame completed consecutiveFits piece share passedOver leastDistance distance due reached servedNode handedAt handOver partOf areaOf
 counting-here o r =
     counting-again (0x21 ∷ 7 ∷ 8 ∷ []) (record { total = 8; got = 6; sn = record { 0 = 1 }; taken = 0 }) 0

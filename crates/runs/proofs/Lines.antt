@@ -7,7 +7,7 @@ use Rattle.rules.specs.Numbers.{fromBerth}
 use Rattle.rules.specs.Nodes.{Held}
 use Rattle.rules.specs.Events.{frame, send}
 use Rattle.rules.specs.Calls.{Outcome, outcome}
-use Rattle.node.proofs.Determined.{set-up-is}
+use Rattle.node.proofs.Determined.{same}
 use Rattle.laws.specs.Own.{over}
 use Rattle.laws.specs.Line.{World, leftA, leftB, stillToA, stillToB, carriedA, carriedB, Deed, atA, atB, setUpA, setUpB, carryA, carryB, acts, living, AllApart, AtRest, quiet, begin, MayBegin, Arrived, deedsOf}
 use Rattle.laws.proofs.World.{line-law}
@@ -23,8 +23,8 @@ module _ (i j : ℕ) where
   unfolding acts carriedA carriedB
   did-is {w} (callsA s) = ap (leftA i w) (step-is s)
   did-is {w} (callsB s) = ap (leftB j w) (step-is s)
-  did-is {w} (setsUpA area block stmin a n p) = ap (leftA i w) (set-up-is (w .a .node) n area block stmin a p (w .a .incoming) (w .a .outgoing))
-  did-is {w} (setsUpB area block stmin a n p) = ap (leftB j w) (set-up-is (w .b .node) n area block stmin a p (w .b .incoming) (w .b .outgoing))
+  did-is {w} (setsUpA area block stmin a n p) = ap (leftA i w) (same (p (w .a .cards) (w .a .incoming) (w .a .outgoing)))
+  did-is {w} (setsUpB area block stmin a n p) = ap (leftB j w) (same (p (w .b .cards) (w .b .incoming) (w .b .outgoing)))
   did-is {w} (bringsA d q e s) = ap (leftA i (stillToA w q)) (step-is s) ∙ ap (carriedA i w) (sym e)
   did-is {w} (bringsB d q e s) = ap (leftB j (stillToB w q)) (step-is s) ∙ ap (carriedB j w) (sym e)
   did-is {w} (noneToA e) = ap (carriedA i w) (sym e)
@@ -69,11 +69,11 @@ module _ (i j : ℕ) where
   every-along w (d ∷ ds) t = goes (every-deed w d) (t .0) (every-along (acts i j w d) ds (t .1))
 
   module _ (m : List ℕ) (a b : Held) (may : MayBegin i j m a b) where
-    -- THE LINE'S LAW OF THE CODE. The code takes a message of 1 to A bytes on node A for berth i; berth j of node B is idle and its area holds
-    -- the message; both nodes are in order and every store has its length. Then any calls of the code on both nodes, with each frame
-    -- that the code handed over for berth i carried to B's berth j and its flow control back, under the identifiers expected, once
-    -- and in order; each keeps apart. When none is on the way and neither has one due or a gap left, the same bytes have arrived and
-    -- the sender has reported 1.
+    -- THE LINE'S LAW OF THE CODE. The code takes a message of 1 to A bytes on node A for berth i; berth j of node B is idle and its
+    -- area holds the message; both nodes are in order, every store has its length and every list ten cards. Then any calls of the code
+    -- on both nodes, with each frame that the code handed over for berth i carried to B's berth j and its flow control back, under the
+    -- identifiers expected, once and in order; each keeps apart. When none is on the way and neither has one due or a gap left, the
+    -- same bytes have arrived and the sender has reported 1.
     pub chain-line-law : {o : Outcome} {ds : List Deed} {w : World} → Step a (send i m) o → Along i j (quiet (o .held) b) ds w → AtRest i j w → Arrived i j m w
     chain-line-law {o} {ds} {w} s r rest =
         let begun : quiet (o .held) b ≡ begin i m a b = ap (λ (x : Outcome). quiet (x .held) b) (step-is s) in

@@ -16,7 +16,7 @@ use Rattle.rules.specs.Events.{Call, frame, tick, send, turn, show, senderOf, E
 use Rattle.rules.specs.Stores.{passedOver, reached, cameAt}
 use Rattle.rules.specs.Answers.{refused}
 use Rattle.rules.specs.Refusals.{refusal}
-use Rattle.rules.specs.Alone.{Part, partOf, Says, partAfter, says, alone, saysAll}
+use Rattle.rules.specs.Alone.{Part, partOf, Says, stateAfter, partAfter, says, alone, saysAll}
 use Rattle.rules.specs.declared.Settings.{Settings}
 use Rattle.rules.specs.declared.Taking.{Taking}
 use Rattle.rules.specs.declared.Rx.{Rx}
@@ -31,8 +31,8 @@ use Rattle.rules.proofs.Facts.{consecutive-came}
 use Rattle.node.proofs.PoorNodes.{still-idle, stood-before}
 use Rattle.laws.specs.Own.{over, ownDone, own, saysOf, freshPart}
 use Rattle.laws.proofs.Isolation.{alone-append, says-append}
-use Rattle.runs.specs.Chains.{Made, Chain, AfterSetUp, saidBy, leftBy, ownIn, OneMore}
-use Rattle.runs.proofs.Runs.{chain-alone-after-set-up}
+use Rattle.runs.specs.Chains.{Made, AfterSetUp, saidBy, leftBy, ownIn, OneMore}
+use Rattle.runs.proofs.Runs.{chain-front, chain-alone-after-set-up}
 
 -- two numbers that are not the same
 clash : {X : Type 0} → _≡_ {A = ℕ} 0 1 → X
@@ -197,14 +197,14 @@ module _ {h : Held} {s : Settings} {n : Node} {ms : List Made} {k : ℕ} {p : Pa
   -- DOING NOTHING, AGAIN: a tick of a berth with a side that is not idle does not leave the berth as it was,
   pub idle-again-timers : OneMore h s n ms k p ticks m → ((p .berth .rx ≡ Rx.Idle) × (p .berth .tx ≡ Tx.Idle) → ⊥)
       → partOf k (m .out .held) .berth ≡ p .berth → ⊥
-  unfolding partAfter
+  unfolding stateAfter partAfter
   idle-again-timers r busy same = busy (still-idle (p .berth) (sym (ap (λ (q : Part). q .berth) (part-now r)) ∙ same))
 
   -- nor does a frame whose bytes differ from those at their place leave the berth's incoming area,
   pub idle-again-bytes : (d : List ℕ) → OneMore h s n ms k p (arrives d) m
       → (take (length (frameCame s (p .berth) d .bytes)) (drop (frameCame s (p .berth) d .place) (p .incoming)) ≡ frameCame s (p .berth) d .bytes → ⊥)
       → partOf k (m .out .held) .incoming ≡ p .incoming → ⊥
-  unfolding partAfter
+  unfolding stateAfter partAfter
   idle-again-bytes d r differ same =
       let fits = rw (r .given) at (frame-within k (leftBy (withNode h n) ms) (m .call) d s (r .small) (r .its)) in
       differ (stood-before (p .incoming) _ _ fits (sym (ap (λ (q : Part). q .incoming) (part-now r)) ∙ same))
@@ -212,7 +212,7 @@ module _ {h : Held} {s : Settings} {n : Node} {ms : List Made} {k : ℕ} {p : Pa
   -- nor a send whose message differs from the bytes at the front leave the outgoing one
   pub idle-again-message : (v : List ℕ) → OneMore h s n ms k p (sends v) m → (take (length v) (p .outgoing) ≡ v → ⊥)
       → partOf k (m .out .held) .outgoing ≡ p .outgoing → ⊥
-  unfolding partAfter
+  unfolding stateAfter partAfter
   idle-again-message v r differ same =
       let fits = rw (r .given) at (message-within k (leftBy (withNode h n) ms) (m .call) v (r .its)) in
       differ (stood-before (p .outgoing) 0 v (omega arith) (sym (ap (λ (q : Part). q .outgoing) (part-now r)) ∙ same))
@@ -240,11 +240,6 @@ module _ {h g : Held} {s t : Settings} {n o : Node} {ms ls : List Made} {k : ℕ
       differ (ap (λ (y : Part). y .incoming) (sym (part-now r)) ∙ same ∙ ap (λ (y : Part). y .incoming) (part-now x))
 
 -- ---- the code's calls
-
-chain-front : (h : Held) (ms : List Made) (m : Made) → Chain h (ms ++ m ∷ []) → Chain h ms
-unfolding Chain
-chain-front h [] m c = tt
-chain-front h (x ∷ ms) m c = (c .0, chain-front (x .out .held) ms m (c .1))
 
 -- EVERY CALL OF THE CODE AFTER A SET-UP is such a call, so a chain in which one of the answers above stands is no run
 pub one-more : {h : Held} {s : Settings} {n : Node} (ms : List Made) (m : Made) (k : ℕ) (e : Event) → AfterSetUp h s n (ms ++ m ∷ []) → k < berthCount

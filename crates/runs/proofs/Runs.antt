@@ -1,13 +1,15 @@
 -- A chain of the code's calls is a run of the rules: each call's promise says that it left the rule's outcome, so by induction the chain
 -- says `answers` and leaves `final`, and what the laws say of these holds of the chain.
 use Prim.Native.Nat.{ℕ, zero, suc, _<_}
-use mathlib.Core.Path.{_≡_, refl, ap, ap₂, _∙_}
+use mathlib.Core.Path.{_≡_, refl, sym, ap, ap₂, _∙_, subst}
+use mathlib.Core.Bool.{true, false}
 use mathlib.Core.List.{List, [], _∷_, _++_, map}
 use Rattle.rules.specs.Tests.{unless}
 use Rattle.rules.specs.Numbers.{berthCount}
-use Rattle.rules.specs.Nodes.{Held, withNode}
+use Rattle.rules.specs.Nodes.{berthAt, Held, withNode}
 use Rattle.rules.specs.Events.{Call, Event}
 use Rattle.rules.specs.Stores.{setUpNode}
+use Rattle.rules.specs.Cards.{cardAt}
 use Rattle.rules.specs.Answers.{Side, Answer, ready, setUpSays}
 use Rattle.rules.specs.Refusals.{setUpRefusal}
 use Rattle.rules.specs.Calls.{Outcome, refusedOutcome, outcome, setUpOutcome, outcomes, answers, final}
@@ -15,23 +17,25 @@ use Rattle.rules.specs.Alone.{Part, partOf}
 use Rattle.rules.specs.declared.Settings.{Settings}
 use Rattle.rules.specs.declared.Node.{Node}
 use Rattle.rules.specs.declared.SetUpAnswer.{SetUpAnswer}
-use Rattle.node.specs.Promises.{lent, left, SetUpPromise}
-use Rattle.node.proofs.Determined.{set-up-is, frame-is, tick-is, send-is, turn-is, show-is}
-use Rattle.laws.specs.Own.{own, owns, over, setUp, freshPart, Alone}
+use Rattle.node.specs.Promises.{left, SetUpPromise}
+use Rattle.node.proofs.Determined.{same}
+use Rattle.laws.specs.Own.{own, owns, saysOf, over, setUp, freshPart, Alone}
+use Rattle.laws.specs.Cards.{zeroCards, Moment, moments, historyOf, TalliesAt, UnbegunAt, frozenAt}
 use Rattle.laws.specs.Sides.{sideOf, sideEvents, SideAlone}
 use Rattle.laws.specs.Rounds.{StaysDue, turnOf, Fair}
 use Rattle.laws.proofs.SetUp.{each-alone, each-alone-after-set-up}
+use Rattle.laws.proofs.Cards.{run-tallies, run-frozen-stays, set-up-unbegun}
 use Rattle.laws.proofs.SideRuns.{side-alone-in-run}
 use Rattle.laws.proofs.Fairness.{fair}
-use Rattle.runs.specs.Chains.{Step, frameStep, tickStep, sendStep, turnStep, showStep, Made, Chain, AfterSetUp, callsOf, saidBy, leftBy, ownIn, DueIn, EachAlone}
+use Rattle.runs.specs.Chains.{Step, frameStep, tickStep, sendStep, turnStep, showStep, Made, Chain, AfterSetUp, callsOf, saidBy, leftBy, ownIn, DueIn, historyIn, EachAlone}
 
 -- EACH CALL'S PROMISE says that it answered and left the rule's outcome.
 pub step-is : {h : Held} {c : Call} {o : Outcome} → Step h c o → o ≡ outcome h c
-step-is {h} (frameStep id d a n incoming p) = frame-is (h .node) n (h .incoming) incoming id d a p (h .outgoing)
-step-is {h} (tickStep a n p) = tick-is (h .node) n a p (h .incoming) (h .outgoing)
-step-is {h} (sendStep k m a n outgoing p) = send-is (h .node) n (h .outgoing) outgoing k m a p (h .incoming)
-step-is {h} (turnStep buffer a n buffer′ p) = turn-is (h .node) n (h .outgoing) buffer buffer′ a p (h .incoming)
-step-is {h} (showStep k choice part in-at out-at part-at p) = show-is (h .node) (h .incoming) (h .outgoing) k choice part in-at out-at part-at p
+step-is {h} (frameStep id d a n cards incoming p) = same (p (h .outgoing))
+step-is {h} (tickStep a n cards p) = same (p .agrees (h .incoming) (h .outgoing))
+step-is {h} (sendStep k m a n outgoing p) = same (p (h .cards) (h .incoming))
+step-is {h} (turnStep buffer a n cards buffer′ p) = same (p (h .incoming))
+step-is {h} (showStep k choice part in-at out-at part-at p) = same (p .agrees (h .cards))
 
 -- ---- a chain is a run of the rules, from any start
 
@@ -72,6 +76,15 @@ chain-owns k h (m ∷ ms) c =
     ap (λ (es : List Event). own k h (m .call) ++ es)
     (chain-owns k (m .out .held) ms (c .1) ∙ ap (λ (g : Held). owns k g (callsOf ms)) (held-same h m (step-is (c .0))))
 
+-- its history too,
+chain-history : (k : ℕ) (h : Held) (ms : List Made) → Chain h ms → historyIn k h ms ≡ historyOf k h (callsOf ms)
+unfolding Chain historyIn historyOf
+chain-history k h [] c = refl
+chain-history k h (m ∷ ms) c =
+    let e = step-is (c .0) in
+    ap₂ (λ (a : Answer) (rest : List Moment). moments (berthAt (h .node) k .rx) (own k h (m .call)) (saysOf k a) ++ rest) (ap (λ (o : Outcome). o .answer) e)
+    (chain-history k (m .out .held) ms (c .1) ∙ ap (λ (g : Held). historyOf k g (callsOf ms)) (held-same h m e))
+
 -- and what is due in it is due in the run
 chain-due : (k : ℕ) (h : Held) (ms : List Made) → Chain h ms → DueIn k h ms → StaysDue k h (callsOf ms)
 unfolding Chain DueIn StaysDue
@@ -105,14 +118,14 @@ chain-fair k l h ms c t = rw (chain-says h ms c) (fair k l h (callsOf ms) (chain
 module _ (h : Held) (s : Settings) (n : Node) (p : SetUpPromise (h .node) (s .area) (s .block) (s .stmin) SetUpAnswer.Ready n) where
   set-up-left : left ready (withNode h n) [] ≡ setUpOutcome h (s .area) (s .block) (s .stmin)
   unfolding setUpSays
-  set-up-left = set-up-is (h .node) n (s .area) (s .block) (s .stmin) SetUpAnswer.Ready p (h .incoming) (h .outgoing)
+  set-up-left = same (p (h .cards) (h .incoming) (h .outgoing))
 
   ready-free : setUpRefusal (s .area) (s .block) (s .stmin) ≡ 0
   unfolding setUpOutcome refusedOutcome
   ready-free = go (setUpRefusal (s .area) (s .block) (s .stmin)) (ap (λ (o : Outcome). o .answer) set-up-left)
     where
       go : (number : ℕ)
-          → ready ≡ unless number (refusedOutcome h []) (left ready (lent (setUpNode s) (h .incoming) (h .outgoing)) []) .answer → number ≡ 0
+          → ready ≡ unless number (refusedOutcome h []) (left ready (withNode h (setUpNode s)) []) .answer → number ≡ 0
       go zero e = refl
       go (suc number) e = cc
 
@@ -120,9 +133,41 @@ module _ (h : Held) (s : Settings) (n : Node) (p : SetUpPromise (h .node) (s .ar
   ready-held = ap (λ (o : Outcome). o .held) set-up-left
 
 -- DEMAND 3, FIRST HALF, OF THE CODE. Take any chain of calls after a set-up that the code answered with Ready. Each berth's state,
--- areas, words, codes, frames and reports, and what is shown of it, are those that the rules give for that berth alone, fresh at
+-- areas, card, words, codes, frames and reports, and what is shown of it, are those that the rules give for that berth alone, fresh at
 -- the start: its own frames and sends, all ticks, and the turns it received, refused calls left out.
 pub chain-alone-after-set-up : (h : Held) (s : Settings) (n : Node) (ms : List Made) → AfterSetUp h s n ms → EachAlone h s n ms
 chain-alone-after-set-up h s n ms r k l =
     as-run s (freshPart h s k) k (withNode h n) ms (r .chain)
     (rw (ready-held h s n (r .ready)) (each-alone-after-set-up h s (callsOf ms) k l (ready-free h s n (r .ready))))
+
+-- ---- the cards
+
+pub chain-front : (h : Held) (ms : List Made) (m : Made) → Chain h (ms ++ m ∷ []) → Chain h ms
+unfolding Chain
+chain-front h [] m c = tt
+chain-front h (x ∷ ms) m c = (c .0, chain-front (x .out .held) ms m (c .1))
+
+calls-more : (ms : List Made) (m : Made) → callsOf (ms ++ m ∷ []) ≡ callsOf ms ++ m .call ∷ []
+calls-more [] m = refl
+calls-more (x ∷ ms) m = ap (λ (cs : List Call). x .call ∷ cs) (calls-more ms m)
+
+-- THE LAW OF THE CARDS, OF THE CODE. Take any chain of calls from a start where berth k's card is zeros and it has no reception under way,
+-- and one call more, before which the card was not frozen. After it each count is that of the history, as the code's own answers tell
+-- it, and begun equals delivered plus failed, plus one if the berth owes go or awaits.
+pub chain-tallies : (k : ℕ) (h : Held) (ms : List Made) (m : Made) → Chain h (ms ++ m ∷ []) → UnbegunAt k h → frozenAt k (leftBy h ms) ≡ false
+    → TalliesAt k (leftBy h (ms ++ m ∷ [])) (historyIn k h (ms ++ m ∷ []))
+chain-tallies k h ms m c start f =
+    let g : frozenAt k (final h (callsOf ms)) ≡ false = rw (chain-leaves h ms (chain-front h ms m c)) at f in
+    rw (chain-leaves h (ms ++ m ∷ []) c, chain-history k h (ms ++ m ∷ []) c, calls-more ms m) (run-tallies k h (callsOf ms) (m .call) start g)
+
+-- A FROZEN CARD STAYS FOR EVER, in any chain of calls.
+pub chain-frozen-stays : (k : ℕ) (h : Held) (ms : List Made) → Chain h ms → frozenAt k h ≡ true → cardAt (leftBy h ms .cards) k ≡ cardAt (h .cards) k
+chain-frozen-stays k h ms c f = rw (chain-leaves h ms c) (run-frozen-stays k h (callsOf ms) f)
+
+-- AFTER A SET-UP that the code answered with Ready, lent cards of zeros, the law is every berth's.
+pub chain-tallies-after-set-up : (h : Held) (s : Settings) (n : Node) (ms : List Made) (m : Made) → AfterSetUp h s n (ms ++ m ∷ []) → h .cards ≡ zeroCards
+    → (k : ℕ) → k < berthCount → frozenAt k (leftBy (withNode h n) ms) ≡ false
+    → TalliesAt k (leftBy (withNode h n) (ms ++ m ∷ [])) (historyIn k (withNode h n) (ms ++ m ∷ []))
+chain-tallies-after-set-up h s n ms m r z k l f =
+    chain-tallies k (withNode h n) ms m (r .chain)
+    (subst (UnbegunAt k) (sym (ready-held h s n (r .ready))) (set-up-unbegun h s k l (ready-free h s n (r .ready)) z)) f

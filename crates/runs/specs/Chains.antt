@@ -1,9 +1,10 @@
--- A run of the code: a chain of calls, the same node and the same two stores throughout. Of a call only its promise is known.
+-- A run of the code: a chain of calls, the same node, the same two stores and the same list of cards throughout. Of a call only its
+-- promise is known.
 use Prim.Native.Nat.{ℕ, _<_}
 use mathlib.Core.Path.{_≡_}
 use mathlib.Core.List.{List, [], _∷_, _++_, map}
 use Rattle.rules.specs.Numbers.{berthCount}
-use Rattle.rules.specs.Nodes.{Held, withNode, withIncoming, withOutgoing}
+use Rattle.rules.specs.Nodes.{berthAt, Held, withNode, withIncoming, withOutgoing, withCards}
 use Rattle.rules.specs.Events.{Call, frame, tick, send, turn, show, Event}
 use Rattle.rules.specs.Answers.{Answer, shown, frameSays, tickSays, sendSays, turnSays}
 use Rattle.rules.specs.Calls.{Outcome, outcome}
@@ -11,26 +12,30 @@ use Rattle.rules.specs.Alone.{Part, partOf}
 use Rattle.rules.specs.declared.Choice.{Choice}
 use Rattle.rules.specs.declared.Settings.{Settings}
 use Rattle.rules.specs.declared.Node.{Node}
+use Rattle.rules.specs.declared.Card.{Card}
 use Rattle.rules.specs.declared.SetUpAnswer.{SetUpAnswer}
 use Rattle.rules.specs.declared.FrameAnswer.{FrameAnswer}
 use Rattle.rules.specs.declared.TickAnswer.{TickAnswer}
 use Rattle.rules.specs.declared.SendAnswer.{SendAnswer}
 use Rattle.rules.specs.declared.TurnAnswer.{TurnAnswer}
 use Rattle.node.specs.Promises.{left, SetUpPromise, FramePromise, TickPromise, SendPromise, TurnPromise, ShowPromise}
-use Rattle.laws.specs.Own.{own, freshPart, Alone}
+use Rattle.laws.specs.Own.{own, saysOf, freshPart, Alone}
+use Rattle.laws.specs.Cards.{Moment, moments}
 use Rattle.laws.specs.Rounds.{DueAt}
 
--- one call of the code: it was given h, and answered and left this, of which its promise alone is known. A store that it is not given is
--- as it was
+-- one call of the code: it was given h, and answered and left this, of which its promise alone is known. A store that it is not given, and
+-- cards that it is not given, are as they were
 pub data Step (h : Held) : Call → Outcome → Type 0 where
-  frameStep : (id : ℕ) (d : List ℕ) (a : FrameAnswer) (n : Node) (incoming : List ℕ) → FramePromise (h .node) (h .incoming) id d a n incoming
-      → Step h (frame id d) (left (frameSays a) (withIncoming (withNode h n) incoming) [])
-  tickStep : (a : TickAnswer) (n : Node) → TickPromise (h .node) a n
-      → Step h tick (left (tickSays a) (withNode h n) [])
+  frameStep : (id : ℕ) (d : List ℕ) (a : FrameAnswer) (n : Node) (cards : List Card) (incoming : List ℕ)
+      → FramePromise (h .node) (h .cards) (h .incoming) id d a n cards incoming
+      → Step h (frame id d) (left (frameSays a) (withCards (withIncoming (withNode h n) incoming) cards) [])
+  tickStep : (a : TickAnswer) (n : Node) (cards : List Card) → TickPromise (h .node) (h .cards) a n cards
+      → Step h tick (left (tickSays a) (withCards (withNode h n) cards) [])
   sendStep : (k : ℕ) (m : List ℕ) (a : SendAnswer) (n : Node) (outgoing : List ℕ) → SendPromise (h .node) (h .outgoing) k m a n outgoing
       → Step h (send k m) (left (sendSays a) (withOutgoing (withNode h n) outgoing) [])
-  turnStep : (buffer : List ℕ) (a : TurnAnswer) (n : Node) (buffer′ : List ℕ) → TurnPromise (h .node) (h .outgoing) buffer a n buffer′
-      → Step h (turn buffer) (left (turnSays a buffer′) (withNode h n) buffer′)
+  turnStep : (buffer : List ℕ) (a : TurnAnswer) (n : Node) (cards : List Card) (buffer′ : List ℕ)
+      → TurnPromise (h .node) (h .cards) (h .outgoing) buffer a n cards buffer′
+      → Step h (turn buffer) (left (turnSays a buffer′) (withCards (withNode h n) cards) buffer′)
   showStep : (k : ℕ) (choice : Choice) (part : List ℕ) (in-at out-at part-at : ℕ × ℕ)
       → ShowPromise (h .node) (h .incoming) (h .outgoing) k choice part in-at out-at part-at
       → Step h (show k choice) (left (shown part) h [])
@@ -45,7 +50,7 @@ unfoldable pub Chain : Held → List Made → Type 0
 Chain h [] = Unit {0}
 Chain h (m ∷ ms) = Step h (m .call) (m .out) × Chain (m .out .held) ms
 
--- a set-up that the code answered with Ready, and a chain on the node that it left and the stores, which it does not touch
+-- a set-up that the code answered with Ready, and a chain on the node that it left, the stores and the cards, which it does not touch
 pub record AfterSetUp (h : Held) (s : Settings) (n : Node) (ms : List Made) : Type 0 where
   pub ready : SetUpPromise (h .node) (s .area) (s .block) (s .stmin) SetUpAnswer.Ready n
   pub chain : Chain (withNode h n) ms
@@ -77,6 +82,12 @@ ownIn k h (m ∷ ms) = own k h (m .call) ++ ownIn k (m .out .held) ms
 unfoldable pub DueIn : ℕ → Held → List Made → Type 0
 DueIn k h [] = Unit {0}
 DueIn k h (m ∷ ms) = DueAt k h (m .call) × DueIn k (m .out .held) ms
+
+-- berth k's history in it: at each of its own events the receive side that the call was given, and what the code's answer says of k
+unfoldable pub historyIn : ℕ → Held → List Made → List Moment
+historyIn k h [] = []
+historyIn k h (m ∷ ms) =
+    moments (berthAt (h .node) k .rx) (own k h (m .call)) (saysOf k (m .out .answer)) ++ historyIn k (m .out .held) ms
 
 -- what demand 3 says of the answers and of what is left after a set-up, of every berth
 abbrev pub EachAlone : Held → Settings → Node → List Made → Type 0

@@ -1,15 +1,17 @@
-// The records that go to the node's calls. A store comes as long as it is lent.
+// The records that go to the node's calls. A store comes as long as it is lent; of the cards so many are lent from the first on.
 ghost use Prim.Native.Nat.{_<_};
 use crate::judged;
 use crate::output;
+use rules::Card;
 use rules::Node;
 use rules::SetUpAnswer;
 use text::building::Text;
 
-// What a record leaves beside the stores: its text and the node.
+// What a record leaves beside the stores: its text, the node and the cards.
 pub(crate) struct Outcome {
     pub text: Text,
     pub node: Node,
+    pub cards: [Card; 12],
 }
 
 // At most 15 data bytes: the record's eight, and zeros behind them.
@@ -23,30 +25,47 @@ fn payload(record: &[u8; 16]) -> [u8; 15] {
     data
 }
 
-pub(crate) fn frame(number: u64, node: Node, record: &[u8; 16], incoming: &mut [u8]) -> Outcome {
+pub(crate) fn frame(
+    number: u64,
+    node: Node,
+    cards: [Card; 12],
+    count: usize,
+    record: &[u8; 16],
+    incoming: &mut [u8],
+) -> Outcome {
     let data = payload(record);
     let n = output::lent(&data, judged::two(0, record[4]) as usize);
     let id = judged::two(record[2], record[3]);
-    let came = carumpek::local::frame(node, incoming, id, &data[..n]);
+    let came = carumpek::local::frame(node, cards, count, incoming, id, &data[..n]);
     let answer = came.answer;
     let after = came.node;
+    let counted = came.cards;
     Outcome {
         text: text::answers::frame(number, answer),
         node: after,
+        cards: counted,
     }
 }
 
-pub(crate) fn tick(number: u64, node: Node) -> Outcome {
-    let came = carumpek::local::tick(node);
+pub(crate) fn tick(number: u64, node: Node, cards: [Card; 12], count: usize) -> Outcome {
+    let came = carumpek::local::tick(node, cards, count);
     let answer = came.answer;
     let after = came.node;
+    let counted = came.cards;
     Outcome {
         text: text::answers::tick(number, answer),
         node: after,
+        cards: counted,
     }
 }
 
-pub(crate) fn send(number: u64, node: Node, record: &[u8; 16], outgoing: &mut [u8]) -> Outcome {
+pub(crate) fn send(
+    number: u64,
+    node: Node,
+    cards: [Card; 12],
+    record: &[u8; 16],
+    outgoing: &mut [u8],
+) -> Outcome {
     let mut message = [0u8; 4096];
     records::message::rise(&mut message, record[8]);
     let n = output::lent(&message, judged::two(record[2], record[3]) as usize);
@@ -57,25 +76,42 @@ pub(crate) fn send(number: u64, node: Node, record: &[u8; 16], outgoing: &mut [u
     Outcome {
         text: text::answers::send(number, answer),
         node: after,
+        cards: cards,
     }
 }
 
 // The text goes on with the whole buffer, also after `none` and a refusal.
-fn turned(number: u64, node: Node, outgoing: &[u8], buffer: &mut [u8]) -> Outcome {
-    let came = carumpek::local::turn(node, outgoing, buffer);
+fn turned(
+    number: u64,
+    node: Node,
+    cards: [Card; 12],
+    count: usize,
+    outgoing: &[u8],
+    buffer: &mut [u8],
+) -> Outcome {
+    let came = carumpek::local::turn(node, cards, count, outgoing, buffer);
     let answer = came.answer;
     let after = came.node;
+    let counted = came.cards;
     let text = output::open(text::answers::turn(number, answer, buffer));
     Outcome {
         text: output::with_bytes(text.put_all(b" buffer"), buffer),
         node: after,
+        cards: counted,
     }
 }
 
-pub(crate) fn turn(number: u64, node: Node, record: &[u8; 16], outgoing: &[u8]) -> Outcome {
+pub(crate) fn turn(
+    number: u64,
+    node: Node,
+    cards: [Card; 12],
+    count: usize,
+    record: &[u8; 16],
+    outgoing: &[u8],
+) -> Outcome {
     let mut buffer = [0xEEu8; 32];
     let n = output::lent(&buffer, judged::buffer_length(record[1]));
-    turned(number, node, outgoing, &mut buffer[..n])
+    turned(number, node, cards, count, outgoing, &mut buffer[..n])
 }
 
 fn set_up_text(number: u64, answer: SetUpAnswer) -> Text {
@@ -86,7 +122,13 @@ fn set_up_text(number: u64, answer: SetUpAnswer) -> Text {
 }
 
 // Set-up on the node as it is, with the settings from a place of the record on.
-pub(crate) fn set_up(number: u64, node: Node, record: &[u8; 16], at: usize) -> Outcome
+pub(crate) fn set_up(
+    number: u64,
+    node: Node,
+    cards: [Card; 12],
+    record: &[u8; 16],
+    at: usize,
+) -> Outcome
     requires { ⌜ at < 2 ⌝ }
 {
     let area = judged::four(record, at);
@@ -98,5 +140,6 @@ pub(crate) fn set_up(number: u64, node: Node, record: &[u8; 16], at: usize) -> O
     Outcome {
         text: set_up_text(number, answer),
         node: after,
+        cards: cards,
     }
 }

@@ -66,6 +66,9 @@ pub(crate) fn is_good(record: &[u8; 16]) -> bool {
         11 => fits(record, 0, 0, 1),
         12 => fits(record, 255, 255, 9),
         13 => fits(record, 255, 255, 9),
+        14 => fits(record, 9, 8, 7),
+        15 => fits(record, 9, 0, 2),
+        16 => fits(record, 12, 0, 2),
         _ => false,
     }
 }

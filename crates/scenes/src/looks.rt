@@ -1,9 +1,10 @@
-// The records that look: a message shown, an area, a berth's state, the node's own, and the frames needed.
+// The records that look: a message shown, an area, a berth's state, the node's own, the frames needed, and a berth's card.
 use crate::judged;
 use crate::output;
 use crate::scene::Scene;
 use crate::words;
 use reading::output::Sink;
+use rules::Card;
 use rules::Choice;
 use rules::Node;
 use text::building::Text;
@@ -79,8 +80,8 @@ pub(crate) fn bytes<'a>(
     output::say_bytes(sink, out, word(number, record[0]), part)
 }
 
-// What has room in a text: a berth's state, the node's own, or the frames needed.
-pub(crate) fn text(number: u64, node: Node, record: &[u8; 16]) -> Text {
+// What has room in a text: a berth's state, the node's own, a berth's card, or the frames needed.
+pub(crate) fn text(number: u64, node: Node, cards: [Card; 12], record: &[u8; 16]) -> Text {
     match record[0] {
         10 => {
             let k = (record[1] % 10) as usize;
@@ -90,6 +91,11 @@ pub(crate) fn text(number: u64, node: Node, record: &[u8; 16]) -> Text {
         11 => {
             let settings = node.settings;
             words::own(number, settings, node.served)
+        }
+        15 => {
+            let k = (record[1] % 10) as usize;
+            let card = cards[k];
+            text::card::look(number, card)
         }
         _ => words::needed(number, carumpek::frames_needed(judged::eight(record))),
     }

@@ -18,6 +18,7 @@ use reading::input::Kind;
 use reading::input::Part;
 use reading::input::Source;
 use reading::output::Sink;
+use rules::Card;
 use rules::Node;
 
 const RECORD: usize = 16;
@@ -25,35 +26,49 @@ const RECORD: usize = 16;
 // The header's areas are lent whole. A header that is refused or bad leaves the stores empty.
 fn header(before: Scene, record: &[u8; 16]) -> Shown {
     let node = before.node;
+    let cards = before.cards;
+    let lent = before.lent;
     if !records::record::unused(record, 8, 16) {
-        return scene::left(text::answers::bad(0), node, 0, scene::lent_whole(0));
+        return scene::left(
+            text::answers::bad(0),
+            node,
+            cards,
+            0,
+            scene::lent_whole(0, lent.cards),
+        );
     }
-    let came = calls::set_up(0, node, record, 0);
+    let came = calls::set_up(0, node, cards, record, 0);
     let fresh = came.node;
     let text = came.text;
     let settings = fresh.settings;
-    scene::left(text, fresh, settings.area, scene::lent_whole(settings.area))
+    let next = scene::lent_whole(settings.area, lent.cards);
+    scene::left(text, fresh, cards, settings.area, next)
 }
 
-// A good record, with the stores as they are lent.
+// A good record, with the stores and cards as they are lent.
 fn answered(
     number: u64,
     node: Node,
+    cards: [Card; 12],
+    count: usize,
     record: &[u8; 16],
     incoming: &mut [u8],
     outgoing: &mut [u8],
 ) -> Outcome {
     match record[0] {
-        1 => calls::frame(number, node, record, incoming),
-        2 => calls::tick(number, node),
-        3 => calls::send(number, node, record, outgoing),
-        4 => calls::turn(number, node, record, outgoing),
-        7 | 8 => loads::side(number, node, record),
-        9 => loads::own(number, node, record),
-        12 => calls::set_up(number, node, record, 1),
+        1 => calls::frame(number, node, cards, count, record, incoming),
+        2 => calls::tick(number, node, cards, count),
+        3 => calls::send(number, node, cards, record, outgoing),
+        4 => calls::turn(number, node, cards, count, record, outgoing),
+        7 | 8 => loads::side(number, node, cards, record),
+        9 => loads::own(number, node, cards, record),
+        12 => calls::set_up(number, node, cards, record, 1),
+        14 => loads::count(number, node, cards, record),
+        16 => loads::loaded(number, node, cards),
         _ => Outcome {
-            text: looks::text(number, node, record),
+            text: looks::text(number, node, cards, record),
             node: node,
+            cards: cards,
         },
     }
 }
@@ -69,11 +84,21 @@ fn run_good(
     let a = output::lent(incoming, lent.incoming);
     let b = output::lent(outgoing, lent.outgoing);
     let node = before.node;
-    let came = answered(number, node, record, &mut incoming[..a], &mut outgoing[..b]);
+    let cards = before.cards;
+    let came = answered(
+        number,
+        node,
+        cards,
+        lent.cards,
+        record,
+        &mut incoming[..a],
+        &mut outgoing[..b],
+    );
     let text = came.text;
     let after = came.node;
+    let counted = came.cards;
     let next = sides::lent_after(record, before.area, lent);
-    scene::left(text, after, before.area, next)
+    scene::left(text, after, counted, before.area, next)
 }
 
 // What is no look at bytes has a text. The first record is the header.

@@ -1,4 +1,4 @@
-// A berth's sides as a record loads them, and how much of the stores it lends.
+// A berth's sides as a record loads them, and how much of the stores and how many cards it lends.
 use crate::judged;
 use crate::scene::Lent;
 use rules::Rx;
@@ -57,13 +57,16 @@ fn store_length(area: u32, more: u8) -> usize {
     whole + n - 256
 }
 
-// A record that loads the node's own says anew how much is lent.
+// A record that loads the node's own says anew how much of the stores is lent, and one of its own how many cards.
 pub(crate) fn lent_after(record: &[u8; 16], area: u32, lent: Lent) -> Lent {
-    if record[0] != 9 {
-        return lent;
+    let mut after = lent;
+    match record[0] {
+        9 => {
+            after.incoming = store_length(area, record[6]);
+            after.outgoing = store_length(area, record[7]);
+        }
+        16 => after.cards = judged::two(0, record[1]) as usize,
+        _ => {}
     }
-    Lent {
-        incoming: store_length(area, record[6]),
-        outgoing: store_length(area, record[7]),
-    }
+    after
 }

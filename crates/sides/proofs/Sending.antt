@@ -31,7 +31,7 @@ pub record Sendable (area at : ℕ) (outgoing m : List ℕ) : Type 0 where
 module _ {n : Node} {area at : ℕ} {outgoing m : List ℕ} (s : Sends n area at outgoing m) where
   pub sendable : Sendable area at outgoing m
   sendable =
-      let met = send-answered (lent n [] outgoing) at m (s .may []) in
+      let met = send-answered (lent n [] [] outgoing) at m (s .may [] []) in
       rw (s .size) (record { mine = met .mine; most = in-order-range n (met .order) .settings .area-most; store = met .store; fits = met .fits })
 
   pub begins : (tx : Tx) → tx ≡ beginsWith (length m) → (outgoing′ : List ℕ) → outgoing′ ≡ sets outgoing (at * area) m
@@ -39,4 +39,4 @@ module _ {n : Node} {area at : ℕ} {outgoing m : List ℕ} (s : Sends n area at
   unfolding sendSays done reply written sentBerth stored
   begins tx begun outgoing′ put =
       let front : at * n .settings .area + 0 ≡ at * n .settings .area = omega arith in
-      λ incoming. does (lent n incoming outgoing) (send at m) refl (sym (s .may incoming)) (rw (begun, put, s .size, front))
+      λ cards incoming. does (lent n cards incoming outgoing) (send at m) refl (sym (s .may cards incoming)) (rw (begun, put, s .size, front))

@@ -4,7 +4,7 @@ use Prim.Native.Nat.{ℕ, _+_, _-_, _*_, _≤_}
 use native.Mathlib.Omega.{arith}
 use mathlib.Core.Path.{_≡_, _∙_}
 use mathlib.Core.Bool.{Bool, true}
-use mathlib.Core.List.{List}
+use mathlib.Core.List.{List, []}
 use lib.ListN.{length, take, drop}
 use Rattle.rules.specs.Numbers.{berthCount}
 use Rattle.rules.specs.Nodes.{berthAt}
@@ -13,6 +13,7 @@ use Rattle.rules.specs.Calls.{showable, chosen}
 use Rattle.rules.specs.declared.Tx.{Tx}
 use Rattle.rules.specs.declared.Choice.{Choice}
 use Rattle.rules.specs.declared.Node.{Node}
+use Rattle.rules.specs.declared.Card.{Card}
 use Rattle.node.specs.Promises.{lent, ShowPromise}
 use Rattle.node.specs.Numbered.{canShow}
 use Rattle.node.proofs.Numbered.{show-found}
@@ -20,12 +21,12 @@ use Rattle.node.proofs.Shows.{shown-fits, Able, able, shows}
 use Rattle.sides.specs.Parts.{Showing}
 
 module _ {n : Node} {ordered : Bool} {area at last : ℕ} {tx : Tx} {k : ℕ} (o : Showing n ordered area at last tx k) (incoming outgoing : List ℕ) where
-  pub found : canShow ordered area (length incoming) (length outgoing) k ≡ showable (lent n incoming outgoing) k
-  found = rw (o .order, o .size) (show-found n incoming outgoing k)
+  pub found : (cards : List Card) → canShow ordered area (length incoming) (length outgoing) k ≡ showable (lent n cards incoming outgoing) k
+  found cards = rw (o .order, o .size) (show-found n cards incoming outgoing k)
 
-  module _ (yes : showable (lent n incoming outgoing) k ≡ true) (choice : Choice) (len : ℕ) (is : len ≡ chosen choice last (lengthSending tx)) where
+  module _ (yes : (cards : List Card) → showable (lent n cards incoming outgoing) k ≡ true) (choice : Choice) (len : ℕ) (is : len ≡ chosen choice last (lengthSending tx)) where
     can : Able n incoming outgoing k
-    can = able n incoming outgoing k yes
+    can = able n incoming outgoing k [] (yes [])
 
     own : len ≡ chosen choice (berthAt n k .last) (lengthSending (berthAt n k .tx))
     own = rw (o .length, o .side, o .place (can .mine)) at is

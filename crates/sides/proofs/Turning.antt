@@ -14,18 +14,21 @@ use Rattle.rules.specs.Nodes.{berthAt, withRx, withTx}
 use Rattle.rules.specs.Ranges.{TxRange}
 use Rattle.rules.specs.Turns.{flowDue, messageDue, due, flowFrame, afterFlow, messageFrame, messageCode, afterMessage, HandedOver, handOver}
 use Rattle.rules.specs.Stores.{areaOf, servedNode, passedOver, reached, handedAt}
+use Rattle.rules.specs.Cards.{addedAt, turnAdds}
 use Rattle.rules.specs.Answers.{turnSays}
 use Rattle.rules.specs.Events.{turn}
-use Rattle.rules.specs.Calls.{done, reply, written}
+use Rattle.rules.specs.Calls.{afterTurn, done, reply, written}
 use Rattle.rules.specs.declared.Settings.{Settings}
 use Rattle.rules.specs.declared.Rx.{Rx}
 use Rattle.rules.specs.declared.Tx.{Tx}
 use Rattle.rules.specs.declared.Node.{Node}
+use Rattle.rules.specs.declared.Card.{Card}
 use Rattle.rules.specs.declared.TurnAnswer.{TurnAnswer}
 use Rattle.rules.proofs.Cases.{is-true}
 use Rattle.rules.proofs.Answered.{turn-answered}
 use Rattle.rules.proofs.Ranges.{in-order-range}
 use Rattle.rules.proofs.Round.{reached-due}
+use Rattle.rules.proofs.Cards.{no-code-adds}
 use Rattle.node.specs.Promises.{lent, TurnPromise}
 use Rattle.node.proofs.Outcomes.{does}
 use Rattle.sides.specs.Parts.{Turning}
@@ -45,10 +48,10 @@ within : (n : Node) → reached n < berthCount
 unfolding reached
 within n = mod-lt (n .served + 1 + passedOver n) (lit< tt)
 
-module _ {n : Node} {s : Settings} {at passed : ℕ} {outgoing buffer : List ℕ} (t : Turning n s at passed outgoing buffer) where
+module _ {n : Node} {cards : List Card} {s : Settings} {at passed : ℕ} {outgoing buffer : List ℕ} (t : Turning n cards s at passed outgoing buffer) where
   pub ready : Ready n s at outgoing buffer
   ready =
-      let met = turn-answered (lent n [] outgoing) buffer (t .may []) in
+      let met = turn-answered (lent n cards [] outgoing) buffer (t .may []) in
       let o = in-order-range n (met .order) in
       rw (t .place, t .settings)
       (record {
@@ -64,22 +67,23 @@ module _ {n : Node} {s : Settings} {at passed : ℕ} {outgoing buffer : List ℕ
   -- what the berth hands over, with the frame at the front of the buffer
   hands : (h : HandedOver) → handOver s (berthAt n at) (areaOf (s .area) at outgoing) ≡ h → length (h .frame) ≡ frameSize
       → (a : TurnAnswer) → a ≡ TurnAnswer.HandedOver (toBerth + at) (h .code) passed
-      → TurnPromise n outgoing buffer a (servedNode n at (h .berth)) (h .frame ++ drop frameSize buffer)
-  unfolding turnSays done reply written handedAt
+      → TurnPromise n cards outgoing buffer a (servedNode n at (h .berth)) (addedAt cards at (turnAdds (h .code))) (h .frame ++ drop frameSize buffer)
+  unfolding turnSays afterTurn done reply written handedAt
   hands h said eight a is =
       let own = rw (t .settings) at said in
-      λ incoming. does (lent n incoming outgoing) (turn buffer) refl (sym (t .may incoming))
+      λ incoming. does (lent n cards incoming outgoing) (turn buffer) refl (sym (t .may incoming))
       (simp (is, ← t .place, ← t .counted, lt-ltb _ _ (t .some), own, take-at (h .frame) (drop frameSize buffer) frameSize eight))
 
   -- flow control, where it is owed
   module _ (rx : Rx) (owed : flowDue rx ≡ true) (side : rx ≡ berthAt n at .rx) where
     pub flow-hands : (rx′ : Rx) → rx′ ≡ afterFlow rx → (frame : List ℕ) → frame ≡ flowFrame s rx → length frame ≡ frameSize
         → (a : TurnAnswer) → a ≡ TurnAnswer.HandedOver (toBerth + at) 0 passed
-        → TurnPromise n outgoing buffer a (servedNode n at (withRx (berthAt n at) rx′ (berthAt n at .last))) (frame ++ drop frameSize buffer)
+        → TurnPromise n cards outgoing buffer a (servedNode n at (withRx (berthAt n at) rx′ (berthAt n at .last))) cards (frame ++ drop frameSize buffer)
     unfolding handOver
-    flow-hands rx′ after frame laid eight =
+    flow-hands rx′ after frame laid eight a is =
         let b = berthAt n at in
-        hands (record { berth = withRx b rx′ (b .last); frame = frame; code = 0 }) (rw (rw side at owed, after, laid, side)) eight
+        rw (no-code-adds cards at) at
+        (hands (record { berth = withRx b rx′ (b .last); frame = frame; code = 0 }) (rw (rw side at owed, after, laid, side)) eight a is)
 
   -- a frame of the message, where no flow control is owed
   module _ (tx : Tx) (none : flowDue (berthAt n at .rx) ≡ false) (side : tx ≡ berthAt n at .tx) where
@@ -93,7 +97,7 @@ module _ {n : Node} {s : Settings} {at passed : ℕ} {outgoing buffer : List ℕ
     pub message-hands : (tx′ : Tx) → tx′ ≡ afterMessage tx → (code : ℕ) → code ≡ messageCode tx
         → (frame : List ℕ) → frame ≡ messageFrame tx (areaOf (s .area) at outgoing) → length frame ≡ frameSize
         → (a : TurnAnswer) → a ≡ TurnAnswer.HandedOver (toBerth + at) code passed
-        → TurnPromise n outgoing buffer a (servedNode n at (withTx (berthAt n at) tx′)) (frame ++ drop frameSize buffer)
+        → TurnPromise n cards outgoing buffer a (servedNode n at (withTx (berthAt n at) tx′)) (addedAt cards at (turnAdds code)) (frame ++ drop frameSize buffer)
     unfolding handOver
     message-hands tx′ after code is frame laid eight =
         hands (record { berth = withTx (berthAt n at) tx′; frame = frame; code = code }) (rw (none, after, is, laid, side)) eight

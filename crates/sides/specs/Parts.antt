@@ -18,22 +18,23 @@ use Rattle.rules.specs.declared.Settings.{Settings}
 use Rattle.rules.specs.declared.Rx.{Rx}
 use Rattle.rules.specs.declared.Tx.{Tx}
 use Rattle.rules.specs.declared.Node.{Node}
+use Rattle.rules.specs.declared.Card.{Card}
 
--- ---- a frame on an identifier: no refusal below 11 holds it back, and the place is its sender's
+-- ---- a frame on an identifier: no refusal before 11 holds it back, and the place is its sender's
 
-pub record Arriving (n : Node) (id at : ℕ) (incoming d : List ℕ) : Type 0 where
-  pub may : firstUnmet (toHear n incoming id d) ≡ 0
+pub record Arriving (n : Node) (cards : List Card) (id at : ℕ) (incoming d : List ℕ) : Type 0 where
+  pub may : firstUnmet (toHear n incoming cards id d) ≡ 0
   pub place : at ≡ senderOf id
 
 -- flow control, and the send side
-pub record Telling (n : Node) (id at : ℕ) (tx : Tx) (incoming d : List ℕ) : Type 0 where
-  pub arriving : Arriving n id at incoming d
+pub record Telling (n : Node) (cards : List Card) (id at : ℕ) (tx : Tx) (incoming d : List ℕ) : Type 0 where
+  pub arriving : Arriving n cards id at incoming d
   pub side : tx ≡ berthAt n at .tx
   pub kind : isFlow d ≡ true
 
 -- any other kind with data, and the receive side with the last length
-pub record Hearing (n : Node) (id : ℕ) (s : Settings) (at : ℕ) (rx : Rx) (last : ℕ) (incoming d : List ℕ) : Type 0 where
-  pub arriving : Arriving n id at incoming d
+pub record Hearing (n : Node) (cards : List Card) (id : ℕ) (s : Settings) (at : ℕ) (rx : Rx) (last : ℕ) (incoming d : List ℕ) : Type 0 where
+  pub arriving : Arriving n cards id at incoming d
   pub settings : s ≡ n .settings
   pub some : 0 < length d
   pub side : rx ≡ berthAt n at .rx
@@ -43,13 +44,13 @@ pub record Hearing (n : Node) (id : ℕ) (s : Settings) (at : ℕ) (rx : Rx) (la
 -- ---- a send that is not refused
 
 pub record Sends (n : Node) (area at : ℕ) (outgoing m : List ℕ) : Type 0 where
-  pub may : (incoming : List ℕ) → refusal (lent n incoming outgoing) (send at m) ≡ 0
+  pub may : (cards : List Card) (incoming : List ℕ) → refusal (lent n cards incoming outgoing) (send at m) ≡ 0
   pub size : area ≡ n .settings .area
 
 -- ---- a turn that is not refused, at the berth that is passed to
 
-pub record Turning (n : Node) (s : Settings) (at passed : ℕ) (outgoing buffer : List ℕ) : Type 0 where
-  pub may : (incoming : List ℕ) → refusal (lent n incoming outgoing) (turn buffer) ≡ 0
+pub record Turning (n : Node) (cards : List Card) (s : Settings) (at passed : ℕ) (outgoing buffer : List ℕ) : Type 0 where
+  pub may : (incoming : List ℕ) → refusal (lent n cards incoming outgoing) (turn buffer) ≡ 0
   pub settings : s ≡ n .settings
   pub counted : passed ≡ passedOver n
   pub some : passed < berthCount

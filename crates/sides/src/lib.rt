@@ -10,6 +10,9 @@ ghost use Rattle.rules.specs.Turns.{flowDue, lengthSending};
 ghost use Rattle.rules.specs.Stores.{servedNode};
 ghost use Rattle.rules.specs.Calls.{chosen};
 ghost use Rattle.rules.specs.declared.Node.{Node};
+ghost use Rattle.rules.specs.declared.Card.{Card};
+ghost use Rattle.rules.specs.Cards.{addedAt, turnAdds};
+ghost use Rattle.cards.specs.Counting.{answerAdded};
 ghost use Rattle.rules.specs.declared.TurnAnswer.{TurnAnswer};
 ghost use Rattle.rules.specs.Answers.{heard, frameSays};
 ghost use Rattle.rules.specs.declared.Word.the-variants.{Ignored};
@@ -48,8 +51,8 @@ pub fn heard(
     incoming: &mut [u8],
     payload: &[u8],
 ) -> HeardAt
-    requires { ⌜ ((n : Node) × ((id : ℕ) × Hearing n id settings at rx last (now incoming) (now payload))) ⌝ }
-    ensures { λ r. ⌜ ((n : Node) (id : ℕ) → Hearing n id settings at rx last (now (incoming .entry)) (now (payload .entry)) → FramePromise n (now (incoming .entry)) id (now (payload .entry)) (r .answer) (withBerth n at (withRx (berthAt n at) (r .rx) (r .last))) (now (incoming .exit))) ⌝ }
+    requires { ⌜ ((n : Node) × ((cards : List Card) × ((id : ℕ) × Hearing n cards id settings at rx last (now incoming) (now payload)))) ⌝ }
+    ensures { λ r. ⌜ ((n : Node) (cards : List Card) (id : ℕ) → Hearing n cards id settings at rx last (now (incoming .entry)) (now (payload .entry)) → FramePromise n cards (now (incoming .entry)) id (now (payload .entry)) (r .answer) (withBerth n at (withRx (berthAt n at) (r .rx) (r .last))) (answerAdded cards at (now (payload .entry)) (r .answer)) (now (incoming .exit))) ⌝ }
 {
     let came = arrivals::rx_came(settings, rx, last, payload);
     if arrivals::areas::inside(settings.area, came.place, came.count) {
@@ -100,8 +103,8 @@ pub struct ToldAt {
 }
 
 pub fn told(at: usize, tx: Tx, payload: &[u8]) -> ToldAt
-    requires { ⌜ ((n : Node) × ((id : ℕ) × ((incoming : List ℕ) × Telling n id at tx incoming (now payload)))) ⌝ }
-    ensures { λ r. ⌜ ((n : Node) (id : ℕ) (incoming : List ℕ) → Telling n id at tx incoming (now (payload .entry)) → FramePromise n incoming id (now (payload .entry)) (r .answer) (withBerth n at (withTx (berthAt n at) (r .tx))) incoming) ⌝ }
+    requires { ⌜ ((n : Node) × ((cards : List Card) × ((id : ℕ) × ((incoming : List ℕ) × Telling n cards id at tx incoming (now payload))))) ⌝ }
+    ensures { λ r. ⌜ ((n : Node) (cards : List Card) (id : ℕ) (incoming : List ℕ) → Telling n cards id at tx incoming (now (payload .entry)) → FramePromise n cards incoming id (now (payload .entry)) (r .answer) (withBerth n at (withTx (berthAt n at) (r .tx))) (answerAdded cards at (now (payload .entry)) (r .answer)) incoming) ⌝ }
 {
     let told = arrivals::flow_came(tx, payload);
     let after = told.tx;
@@ -161,8 +164,8 @@ pub fn flow_handed(
     passed: u8,
     buffer: &mut [u8],
 ) -> FlowHanded
-    requires { ⌜ (flowDue rx ≡ true) × ((n : Node) × ((outgoing : List ℕ) × Turning n settings at passed outgoing (now buffer))) ⌝ }
-    ensures { λ r. ⌜ ((n : Node) (outgoing : List ℕ) → rx ≡ berthAt n at .rx → Turning n settings at passed outgoing (now (buffer .entry)) → TurnPromise n outgoing (now (buffer .entry)) (r .answer) (servedNode n at (withRx (berthAt n at) (r .rx) (berthAt n at .last))) (now (buffer .exit))) ⌝ }
+    requires { ⌜ (flowDue rx ≡ true) × ((n : Node) × ((cards : List Card) × ((outgoing : List ℕ) × Turning n cards settings at passed outgoing (now buffer)))) ⌝ }
+    ensures { λ r. ⌜ ((n : Node) (cards : List Card) (outgoing : List ℕ) → rx ≡ berthAt n at .rx → Turning n cards settings at passed outgoing (now (buffer .entry)) → TurnPromise n cards outgoing (now (buffer .entry)) (r .answer) (servedNode n at (withRx (berthAt n at) (r .rx) (berthAt n at .last))) cards (now (buffer .exit))) ⌝ }
 {
     berth::turns::flow_frame(settings, rx, &mut buffer[..8]);
     let after = berth::turns::after_flow(rx);
@@ -172,10 +175,11 @@ pub fn flow_handed(
     }
 }
 
-// What a turn leaves of a send side that has a frame due, and the answer.
+// What a turn leaves of a send side that has a frame due, the answer and the code in it.
 pub struct MessageHanded {
     pub tx: Tx,
     pub answer: TurnAnswer,
+    pub code: u8,
 }
 
 // The receive side owes no flow control, so a frame of the message is due.
@@ -187,16 +191,18 @@ pub fn message_handed(
     outgoing: &[u8],
     buffer: &mut [u8],
 ) -> MessageHanded
-    requires { ⌜ ((n : Node) × Turning n settings at passed (now outgoing) (now buffer) × (flowDue (berthAt n at .rx) ≡ false) × (tx ≡ berthAt n at .tx)) ⌝ }
-    ensures { λ r. ⌜ ((n : Node) → flowDue (berthAt n at .rx) ≡ false → tx ≡ berthAt n at .tx → Turning n settings at passed (now (outgoing .entry)) (now (buffer .entry)) → TurnPromise n (now (outgoing .entry)) (now (buffer .entry)) (r .answer) (servedNode n at (withTx (berthAt n at) (r .tx))) (now (buffer .exit))) ⌝ }
+    requires { ⌜ ((n : Node) × ((cards : List Card) × Turning n cards settings at passed (now outgoing) (now buffer) × (flowDue (berthAt n at .rx) ≡ false) × (tx ≡ berthAt n at .tx))) ⌝ }
+    ensures { λ r. ⌜ ((n : Node) (cards : List Card) → flowDue (berthAt n at .rx) ≡ false → tx ≡ berthAt n at .tx → Turning n cards settings at passed (now (outgoing .entry)) (now (buffer .entry)) → TurnPromise n cards (now (outgoing .entry)) (now (buffer .entry)) (r .answer) (servedNode n at (withTx (berthAt n at) (r .tx))) (addedAt cards at (turnAdds (r .code))) (now (buffer .exit))) ⌝ }
 {
     let lo = area_start(at, settings.area);
     let hi = lo + settings.area as usize;
     berth::turns::message_frame(settings, tx, &outgoing[lo..hi], &mut buffer[..8]);
     let after = berth::turns::after_message(settings, tx);
+    let code = berth::turns::message_code(settings, tx);
     MessageHanded {
         tx: after,
-        answer: handed_over(at, berth::turns::message_code(settings, tx), passed),
+        answer: handed_over(at, code, passed),
+        code: code,
     }
 }
 

@@ -1,5 +1,5 @@
--- No text of the exerciser is longer than the room for one: each number has at most the places of its type, a frame has eight bytes
--- and a tick ten berths. So nothing is ever clipped.
+-- No text of the exerciser is longer than the room for one, and none of a card: each number has at most the places of its type, a
+-- frame has eight bytes, a tick ten berths and a card nine counts. So nothing is ever clipped.
 use mathlib.Core.Path.{_≡_, refl}
 use Prim.Native.Nat.{ℕ, suc, _+_, _*_, _≤_, _<_}
 use native.Mathlib.Omega.{arith}
@@ -12,8 +12,11 @@ use Rattle.rules.specs.Answers.{Answer, refused, ready, heard, codes, sent, han
 use Rattle.rules.specs.declared.Word.{Word}
 use Rattle.rules.specs.declared.Word.the-variants.{Delivered, Begun, Failed, Ignored, TooLong, Took, Going, Waiting}
 use Rattle.rules.specs.declared.Codes.{Codes}
+use Rattle.rules.specs.Cards.{frozen}
+use Rattle.rules.specs.declared.Card.{Card}
 use Rattle.text.specs.Building.{clipped, decimal, hexText}
 use Rattle.text.specs.Answers.{idText, wordText, codeText, codesText, wordsOf, numberedText, answerText, badText, shortText}
+use Rattle.text.specs.Cards.{frozenName, frozenText, failedText, restText, spacedText, countedText, cardLine, cardText}
 use Rattle.text.proofs.Clip.{clip-short}
 use Rattle.text.proofs.Decimal.{decimal-length, decimal-one}
 
@@ -73,13 +76,13 @@ words-length (handed id frame code passed) s =
 words-length (none passed) s = omega arith
 words-length (shown part) s = absurd s
 
-pub text-whole : (n : ℕ) (words : List ℕ) → length words ≤ 106 → clipped (numberedText n words) ≡ numberedText n words
+pub text-whole : (n : ℕ) (words : List ℕ) → length words ≤ 170 → clipped (numberedText n words) ≡ numberedText n words
 unfolding numberedText
 text-whole n words h = clip-short _ (simp length-append (omega (arith, decimal-length 20 n)))
 
 pub answer-whole : (n : ℕ) (a : Answer) → Short a → clipped (answerText n a) ≡ answerText n a
 unfolding answerText
-answer-whole n a s = text-whole n (wordsOf a) (words-length a s)
+answer-whole n a s = text-whole n (wordsOf a) (omega (arith, words-length a s))
 
 pub bad-whole : (n : ℕ) → clipped (badText n) ≡ badText n
 unfolding badText
@@ -88,3 +91,55 @@ bad-whole n = text-whole n _ (omega arith)
 pub short-whole : (n : ℕ) → clipped (shortText n) ≡ shortText n
 unfolding shortText
 short-whole n = text-whole n _ (omega arith)
+
+-- ---- cards
+
+frozen-length : (c : Card) → length (frozenText c) ≤ 7
+unfolding frozenText
+frozen-length c = by (frozen c)
+  where
+    by : (t : Bool) → length (pick t frozenName []) ≤ 7
+    by true = omega arith
+    by false = omega arith
+
+failed-length : (c : Card) → length (failedText c) ≤ 59
+unfolding failedText
+failed-length c =
+    simp length-append
+    (omega (arith, decimal-length 10 (c .failed2), decimal-length 10 (c .failed4), decimal-length 10 (c .failed5), decimal-length 10 (c .failed7)))
+
+rest-length : (c : Card) → length (restText c) ≤ 53
+unfolding restText
+rest-length c =
+    simp length-append
+    (omega (arith, decimal-length 10 (c .toolong), decimal-length 10 (c .sent), decimal-length 10 (c .unsent)))
+
+pub line-length : (k : ℕ) (c : Card) → length (cardLine k c) ≤ 166
+unfolding cardLine
+line-length k c =
+    simp length-append
+    (omega (
+      arith,
+      decimal-length 3 k,
+      decimal-length 10 (c .begun),
+      decimal-length 10 (c .delivered),
+      failed-length c,
+      rest-length c,
+      frozen-length c,
+    ))
+
+pub line-whole : (k : ℕ) (c : Card) → clipped (cardLine k c) ≡ cardLine k c
+line-whole k c = clip-short _ (omega (arith, line-length k c))
+
+spaced-length : (ns : List ℕ) → length (spacedText ns) ≤ 11 * length ns
+unfolding spacedText
+spaced-length [] = omega arith
+spaced-length (n ∷ ns) = rw length-append (omega (arith, decimal-length 10 n, spaced-length ns))
+
+counted-length : (c : Card) → length (countedText c) ≤ 99
+unfolding countedText
+counted-length c = spaced-length _
+
+pub look-whole : (n : ℕ) (c : Card) → clipped (cardText n c) ≡ cardText n c
+unfolding cardText
+look-whole n c = text-whole n _ (simp length-append (omega (arith, counted-length c, frozen-length c)))

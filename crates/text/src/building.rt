@@ -1,13 +1,16 @@
 // A text that is put together part by part: bytes, numbers in decimal, bytes in upper-case hex. It goes by value from one part
-// to the next and has room for 128 bytes; what has no room is left off.
+// to the next and has room for so many bytes; what has no room is left off.
 ghost use mathlib.Core.Path.{_≡_};
 ghost use Prim.Native.Nat.{_%_, _≤_, min};
 ghost use mathlib.Core.List.{[], _∷_, _++_};
 ghost use lib.ListN.{length, take, drop};
 ghost use Rattle.text.specs.Building.{textOf, clipped, Fronts, decimal, smallPlaces, sizePlaces, hexDigit, hexText};
 
+// The longest text, a card's line, has 166 bytes.
+pub const ROOM: usize = 192;
+
 pub struct Text {
-    pub bytes: [u8; 128],
+    pub bytes: [u8; ROOM],
     pub length: usize,
 }
 
@@ -16,7 +19,7 @@ impl Text {
         ensures { λ r. ⌜ textOf r ≡ [] ⌝ }
     {
         Text {
-            bytes: [0u8; 128],
+            bytes: [0u8; ROOM],
             length: 0,
         }
     }
@@ -26,7 +29,7 @@ impl Text {
         ensures { λ r. ⌜ textOf r ≡ clipped (textOf self ++ (b ∷ [])) ⌝ }
     {
         let at = self.length;
-        if at < 128 {
+        if at < ROOM {
             self.bytes[at] = b;
             self.length = at + 1;
         }
@@ -102,7 +105,7 @@ pub fn copy(text: Text, output: &mut [u8]) -> usize
     ensures { λ r. ⌜ Fronts r (now (output .exit)) ⌝ }
 {
     let all = text.bytes;
-    let n = least(least(text.length, 128), output.len());
+    let n = least(least(text.length, ROOM), output.len());
     bytes::copy(&all[..n], output)
 }
 

@@ -49,7 +49,7 @@ use Rattle.rules.proofs.Settings as G
 use Rattle.rules.proofs.Settings.Laws as G′
 use Rattle.rules.proofs.Node as T
 use Rattle.rules.proofs.Node.Laws as T′
-use Rattle.looks.proofs.Lent.{Flat, enum, uint, boolean, opened, closed, lent, back, given-up, returned, had, uses}
+use Rattle.looks.proofs.Lent.{Flat, struct, enum, uint, boolean, opened, closed, lent, back, given-up, returned, had, uses}
 use Rattle.looks.proofs.Item.{lent-shr, back-shr}
 use Rattle.looks.proofs.Bodies.{env-of}
 use Rattle.looks.proofs.Ten.{FT, FG}
@@ -63,6 +63,9 @@ use Rattle.carumpek.proofs.Arms.{turn-refused, served-within, turn-idle
 use Rattle.rules.specs.declared.TurnAnswer.{TurnAnswer}
 use Rattle.rules.proofs.TurnAnswer as A4
 use Rattle.rules.proofs.TurnAnswer.Laws as A4′
+use Rattle.rules.specs.declared.Card.{Card}
+use Rattle.rules.proofs.Card as Ca
+use Rattle.rules.proofs.Card.Laws as Ca′
 use Rattle.looks.proofs.order as c1
 use Rattle.looks.proofs.order.Symbol as c1-def
 use Rattle.looks.proofs.order.Symbol.{name as #c1}
@@ -92,8 +95,11 @@ use Rattle.carumpek.proofs.turn.Code.Mir as body
 abbrev F·A4 : Flat
 F·A4 = enum A4.the-type A4′.the-laws tt A4′.the-plain
 
+abbrev F·Ca : Flat
+F·Ca = struct Ca.the-type Ca′.the-laws Ca′.the-plain
+
 abbrev stayed : Stays (self.ended .signature .params) (self.ended .kept)
-stayed = (stay-ref (0 ∷ []) tt (plain (λ _. T.the-row)), (stay-none-slice (1 ∷ []) tt (plain (λ _. u8)) yes, (gave-slice (2 ∷ []) tt (plain (λ _. u8)), tt)))
+stayed = (stay-ref (0 ∷ []) tt (plain (λ _. T.the-row)), (gave-slice (1 ∷ []) tt (plain (λ _. Ca.the-row)), (stay-none-slice (2 ∷ []) tt (plain (λ _. u8)) yes, (gave-slice (3 ∷ []) tt (plain (λ _. u8)), tt))))
 
 abbrev C1 : {M : Type 1} (𝓤 : URA M) (H : Heap 𝓤) (A : Atoms 𝓤) (at-mem : Memory → SProp 𝓤) (run : Routine → Fun 𝓤) → Contract 𝓤
 C1 𝓤 H A at-mem run = tripleOf 𝓤 H A c1.signature (c1.spec 𝓤 H A at-mem run)
@@ -110,44 +116,50 @@ C4 𝓤 H A at-mem run = tripleOf 𝓤 H A c4.signature (c4.spec 𝓤 H A at-mem
 abbrev C5 : {M : Type 1} (𝓤 : URA M) (H : Heap 𝓤) (A : Atoms 𝓤) (at-mem : Memory → SProp 𝓤) (run : Routine → Fun 𝓤) → Contract 𝓤
 C5 𝓤 H A at-mem run = tripleOf 𝓤 H A c5.signature (c5.spec 𝓤 H A at-mem run)
 
-module _ {M : Type 1} (𝓤 : URA M) (H : Heap 𝓤) (A : Atoms 𝓤) (W : Given 𝓤 H A) (at-mem : Memory → SProp 𝓤) (run : Routine → Fun 𝓤) (κ κ1 κ2 : Lft) (q q1 q2 : Share) (b o : ℕ) (γ : GName) (h : Node) (outgoing : RefT (List ℕ)) (buffer : RefT (List ℕ)) (outgoing-is : Is (ShrSlice (named 1) κ1 u8) outgoing (sliceVal (outgoing .ptr) (length (outgoing .now)) ∷ [])) (buffer-is : Is (MutSlice (named 2) κ2 u8) buffer (sliceVal (buffer .ptr) (length (buffer .now)) ∷ [])) where
-  abbrev x : (RefT Node × (RefT (List ℕ) × (RefT (List ℕ) × Unit {0})))
-  x = (record { ptr = (b, o); name = γ; now = h }, (outgoing, (buffer, tt)))
+module _ {M : Type 1} (𝓤 : URA M) (H : Heap 𝓤) (A : Atoms 𝓤) (W : Given 𝓤 H A) (at-mem : Memory → SProp 𝓤) (run : Routine → Fun 𝓤) (κ κ1 κ2 κ3 : Lft) (q q1 q2 q3 : Share) (b o : ℕ) (γ : GName) (h : Node) (cards : RefT (List Card)) (outgoing : RefT (List ℕ)) (buffer : RefT (List ℕ)) (cards-is : Is (MutSlice (named 1) κ1 Ca.the-row) cards (sliceVal (cards .ptr) (length (cards .now)) ∷ [])) (outgoing-is : Is (ShrSlice (named 2) κ2 u8) outgoing (sliceVal (outgoing .ptr) (length (outgoing .now)) ∷ [])) (buffer-is : Is (MutSlice (named 3) κ3 u8) buffer (sliceVal (buffer .ptr) (length (buffer .now)) ∷ [])) where
+  abbrev x : (RefT Node × (RefT (List Card) × (RefT (List ℕ) × (RefT (List ℕ) × Unit {0}))))
+  x = (record { ptr = (b, o); name = γ; now = h }, (cards, (outgoing, (buffer, tt))))
+
+  abbrev cards·v : Val
+  cards·v = sliceVal (cards .ptr) (length (cards .now))
+
+  abbrev cards·own : Fml
+  cards·own = MutSlice (named 1) κ1 Ca.the-row .own cards (cards·v ∷ [])
 
   abbrev outgoing·v : Val
   outgoing·v = sliceVal (outgoing .ptr) (length (outgoing .now))
 
   abbrev outgoing·own : Fml
-  outgoing·own = ShrSlice (named 1) κ1 u8 .own outgoing (outgoing·v ∷ [])
+  outgoing·own = ShrSlice (named 2) κ2 u8 .own outgoing (outgoing·v ∷ [])
 
   abbrev buffer·v : Val
   buffer·v = sliceVal (buffer .ptr) (length (buffer .now))
 
   abbrev buffer·own : Fml
-  buffer·own = MutSlice (named 2) κ2 u8 .own buffer (buffer·v ∷ [])
+  buffer·own = MutSlice (named 3) κ3 u8 .own buffer (buffer·v ∷ [])
 
-  abbrev at : (List Val × (List Val × (List Val × Unit {0})))
-  at = (vptr b o ∷ [], (outgoing·v ∷ [], (buffer·v ∷ [], tt)))
+  abbrev at : (List Val × (List Val × (List Val × (List Val × Unit {0}))))
+  at = (vptr b o ∷ [], (cards·v ∷ [], (outgoing·v ∷ [], (buffer·v ∷ [], tt))))
 
   abbrev Post : Val → SProp 𝓤
-  Post = walkOf 𝓤 H A self.ended stayed (self.clauses 𝓤 H A at-mem run) .post (((κ, (κ1, (κ2, tt))), (q, (q1, (q2, tt))), tt, x, at), tt)
+  Post = walkOf 𝓤 H A self.ended stayed (self.clauses 𝓤 H A at-mem run) .post (((κ, (κ1, (κ2, (κ3, tt)))), (q, (q1, (q2, (q3, tt)))), tt, x, at), tt)
 
-  abbrev Ensured : TurnAnswer → Node → List ℕ → Type 0
-  Ensured r h′ buffer′ = TurnPromise h (outgoing .now) (buffer .now) r h′ buffer′
+  abbrev Ensured : TurnAnswer → Node → List Card → List ℕ → Type 0
+  Ensured r h′ cards′ buffer′ = TurnPromise h (cards .now) (outgoing .now) (buffer .now) r h′ cards′ buffer′
 
-  abbrev Left : Node → List ℕ → List (Item 𝓤)
-  Left h′ buffer′ = ‵ (fobs γ (T.the-row .coded .code h′)) ∷ ‵ (fbor κ (Body (mem T.the-row) b o γ)) ∷ ‵ (flft κ q) ∷ ‵ (flft κ1 q1) ∷ ‵ (flft κ2 q2) ∷ ‵ (finally u8 (buffer .name) buffer′) ∷ ‵ outgoing·own ∷ []
+  abbrev Left : Node → List Card → List ℕ → List (Item 𝓤)
+  Left h′ cards′ buffer′ = ‵ (fobs γ (T.the-row .coded .code h′)) ∷ ‵ (fbor κ (Body (mem T.the-row) b o γ)) ∷ ‵ (flft κ q) ∷ ‵ (flft κ1 q1) ∷ ‵ (flft κ2 q2) ∷ ‵ (flft κ3 q3) ∷ ‵ (finally Ca.the-row (cards .name) cards′) ∷ ‵ (finally u8 (buffer .name) buffer′) ∷ ‵ outgoing·own ∷ []
 
-  exits : (r : TurnAnswer) (h′ : Node) (buffer′ : List ℕ) → Ensured r h′ buffer′ → length buffer′ ≡ length (buffer .now) → Is (F·A4 .row) r (F·A4 .val r ∷ []) → ent 𝓤 (⋆ 𝓤 H A (Left h′ buffer′)) (Post (F·A4 .val r))
-  exits r h′ buffer′ e buffer-len is =
-      qed W (Left h′ buffer′) ∵ suffices ! _ (ends-at 𝓤 H A self.ended stayed (self.clauses 𝓤 H A at-mem run) W (((κ, (κ1, (κ2, tt))), (q, (q1, (q2, tt))), tt, x, at), tt) (F·A4 .val r) r (h′, (tt, (buffer′, tt))) (tt, (tt, (buffer-len, tt)))) $ says ! e $
-      nothing ! $ move ! (5 ∷ 0 ∷ []) $ join ! $ move ! (4 ∷ 0 ∷ []) $ join ! $ move ! (3 ∷ 0 ∷ []) $ join ! $ frame ! $ feqI ! (List Val) (vptr b o ∷ []) (vptr b o ∷ []) refl $ fjoin3 ! $ nothing ! $ move ! (2 ∷ 0 ∷ []) $ fjoin ! $ move ! (2 ∷ 0 ∷ []) $ fjoin ! $ move ! (1 ∷ 0 ∷ []) $ fjoin ! $ had ! F·A4 r is $ move ! (1 ∷ 0 ∷ []) $ done !
+  exits : (r : TurnAnswer) (h′ : Node) (cards′ : List Card) (buffer′ : List ℕ) → Ensured r h′ cards′ buffer′ → length cards′ ≡ length (cards .now) → length buffer′ ≡ length (buffer .now) → Is (F·A4 .row) r (F·A4 .val r ∷ []) → ent 𝓤 (⋆ 𝓤 H A (Left h′ cards′ buffer′)) (Post (F·A4 .val r))
+  exits r h′ cards′ buffer′ e cards-len buffer-len is =
+      qed W (Left h′ cards′ buffer′) ∵ suffices ! _ (ends-at 𝓤 H A self.ended stayed (self.clauses 𝓤 H A at-mem run) W (((κ, (κ1, (κ2, (κ3, tt)))), (q, (q1, (q2, (q3, tt)))), tt, x, at), tt) (F·A4 .val r) r (h′, (cards′, (tt, (buffer′, tt)))) (tt, (cards-len, (tt, (buffer-len, tt))))) $ says ! e $
+      nothing ! $ move ! (6 ∷ 0 ∷ []) $ join ! $ move ! (5 ∷ 0 ∷ []) $ join ! $ move ! (4 ∷ 0 ∷ []) $ join ! $ move ! (3 ∷ 0 ∷ []) $ join ! $ frame ! $ feqI ! (List Val) (vptr b o ∷ []) (vptr b o ∷ []) refl $ fjoin3 ! $ nothing ! $ move ! (3 ∷ 0 ∷ []) $ fjoin ! $ move ! (3 ∷ 0 ∷ []) $ fjoin ! $ move ! (2 ∷ 0 ∷ []) $ fjoin ! $ move ! (1 ∷ 0 ∷ []) $ fjoin ! $ had ! F·A4 r is $ move ! (1 ∷ 0 ∷ []) $ done !
 
   goes-c1 : (α : ℕ) (δ : GName) (h : Node) → ent 𝓤 (⋆ 𝓤 H A (‵ (flft (α ∷ []) fullShare) ∷ ‵ (ShrRef (named 0) (α ∷ []) T.the-row .own (record { ptr = (b, o); name = δ; now = h }) (vptr b o ∷ [])) ∷ [])) (C1 𝓤 H A at-mem run .pre (((α ∷ [], tt), (fullShare, tt), tt, ((record { ptr = (b, o); name = δ; now = h }), tt), (vptr b o ∷ [], tt)), tt))
   goes-c1 α δ h = qed W (‵ (flft (α ∷ []) fullShare) ∷ ‵ (ShrRef (named 0) (α ∷ []) T.the-row .own (record { ptr = (b, o); name = δ; now = h }) (vptr b o ∷ [])) ∷ []) ∵ nothing ! $ move ! (2 ∷ 0 ∷ []) $ fjoin ! $ nothing ! $ move ! (2 ∷ 0 ∷ []) $ join ! $ join ! $ nothing ! $ move ! (1 ∷ 0 ∷ []) $ join ! $ done !
 
-  goes-c2 : (a₀ : Bool) (a₁ : ℕ) (a₂ : ℕ) (a₃ : ℕ) (a₀-is : Is bool a₀ (boolean .val a₀ ∷ [])) (a₁-is : Is u32 a₁ ((uint w32) .val a₁ ∷ [])) (a₂-is : Is usize a₂ ((uint w64) .val a₂ ∷ [])) (a₃-is : Is usize a₃ ((uint w64) .val a₃ ∷ [])) → ent 𝓤 (emp 𝓤) (C2 𝓤 H A at-mem run .pre ((tt, tt, tt, (a₀, (a₁, (a₂, (a₃, tt)))), (boolean .val a₀ ∷ [], ((uint w32) .val a₁ ∷ [], ((uint w64) .val a₂ ∷ [], ((uint w64) .val a₃ ∷ [], tt))))), tt))
-  goes-c2 a₀ a₁ a₂ a₃ a₀-is a₁-is a₂-is a₃-is = qed W [] ∵ nothing ! $ had ! (uint w64) a₃ a₃-is $ fjoin ! $ had ! (uint w64) a₂ a₂-is $ fjoin ! $ had ! (uint w32) a₁ a₁-is $ fjoin ! $ had ! boolean a₀ a₀-is $ fjoin ! $ nothing ! $ join ! $ nothing ! $ move ! (1 ∷ 0 ∷ []) $ join ! $ done !
+  goes-c2 : (a₀ : Bool) (a₁ : ℕ) (a₂ : ℕ) (a₃ : ℕ) (a₄ : ℕ) (a₀-is : Is bool a₀ (boolean .val a₀ ∷ [])) (a₁-is : Is u32 a₁ ((uint w32) .val a₁ ∷ [])) (a₂-is : Is usize a₂ ((uint w64) .val a₂ ∷ [])) (a₃-is : Is usize a₃ ((uint w64) .val a₃ ∷ [])) (a₄-is : Is usize a₄ ((uint w64) .val a₄ ∷ [])) → ent 𝓤 (emp 𝓤) (C2 𝓤 H A at-mem run .pre ((tt, tt, tt, (a₀, (a₁, (a₂, (a₃, (a₄, tt))))), (boolean .val a₀ ∷ [], ((uint w32) .val a₁ ∷ [], ((uint w64) .val a₂ ∷ [], ((uint w64) .val a₃ ∷ [], ((uint w64) .val a₄ ∷ [], tt)))))), tt))
+  goes-c2 a₀ a₁ a₂ a₃ a₄ a₀-is a₁-is a₂-is a₃-is a₄-is = qed W [] ∵ nothing ! $ had ! (uint w64) a₄ a₄-is $ fjoin ! $ had ! (uint w64) a₃ a₃-is $ fjoin ! $ had ! (uint w64) a₂ a₂-is $ fjoin ! $ had ! (uint w32) a₁ a₁-is $ fjoin ! $ had ! boolean a₀ a₀-is $ fjoin ! $ nothing ! $ join ! $ nothing ! $ move ! (1 ∷ 0 ∷ []) $ join ! $ done !
 
   goes-c3 : (α : ℕ) (δ : GName) (h : Node) → h .served < berthCount → ent 𝓤 (⋆ 𝓤 H A (‵ (flft (α ∷ []) fullShare) ∷ ‵ (ShrRef (named 0) (α ∷ []) T.the-row .own (record { ptr = (b, o); name = δ; now = h }) (vptr b o ∷ [])) ∷ [])) (C3 𝓤 H A at-mem run .pre (((α ∷ [], tt), (fullShare, tt), tt, ((record { ptr = (b, o); name = δ; now = h }), tt), (vptr b o ∷ [], tt)), tt))
   goes-c3 α δ h rq = qed W (‵ (flft (α ∷ []) fullShare) ∷ ‵ (ShrRef (named 0) (α ∷ []) T.the-row .own (record { ptr = (b, o); name = δ; now = h }) (vptr b o ∷ [])) ∷ []) ∵ says ! rq $ nothing ! $ move ! (2 ∷ 0 ∷ []) $ fjoin ! $ nothing ! $ move ! (2 ∷ 0 ∷ []) $ join ! $ join ! $ done !
@@ -155,8 +167,8 @@ module _ {M : Type 1} (𝓤 : URA M) (H : Heap 𝓤) (A : Atoms 𝓤) (W : Given
   goes-c4 : (a₀ : ℕ) (a₁ : ℕ) (a₀-is : Is u8 a₀ ((uint w8) .val a₀ ∷ [])) (a₁-is : Is u8 a₁ ((uint w8) .val a₁ ∷ [])) → ent 𝓤 (emp 𝓤) (C4 𝓤 H A at-mem run .pre ((tt, tt, tt, (a₀, (a₁, tt)), ((uint w8) .val a₀ ∷ [], ((uint w8) .val a₁ ∷ [], tt))), tt))
   goes-c4 a₀ a₁ a₀-is a₁-is = qed W [] ∵ nothing ! $ had ! (uint w8) a₁ a₁-is $ fjoin ! $ had ! (uint w8) a₀ a₀-is $ fjoin ! $ nothing ! $ join ! $ nothing ! $ move ! (1 ∷ 0 ∷ []) $ join ! $ done !
 
-  goes-c5 : (α : ℕ) (δ : GName) (h : Node) (a₀ : Settings) (a₁ : ℕ) (a₂ : ℕ) (a₀-is : Is (FG .row) a₀ (FG .val a₀ ∷ [])) (a₁-is : Is usize a₁ ((uint w64) .val a₁ ∷ [])) (a₂-is : Is u8 a₂ ((uint w8) .val a₂ ∷ [])) → Turning h a₀ a₁ a₂ (outgoing .now) (buffer .now) → ent 𝓤 (⋆ 𝓤 H A (‵ (flft (α ∷ []) fullShare) ∷ ‵ (flft (κ1) q1) ∷ ‵ (flft (κ2) q2) ∷ ‵ (MutRef (named 0) (α ∷ []) T.the-row .own (record { ptr = (b, o); name = δ; now = h }) (vptr b o ∷ [])) ∷ ‵ outgoing·own ∷ ‵ buffer·own ∷ [])) (C5 𝓤 H A at-mem run .pre (((α ∷ [], (κ1, (κ2, tt))), (fullShare, (q1, (q2, tt))), tt, ((record { ptr = (b, o); name = δ; now = h }), (a₀, (a₁, (a₂, (outgoing, (buffer, tt)))))), (vptr b o ∷ [], (FG .val a₀ ∷ [], ((uint w64) .val a₁ ∷ [], ((uint w8) .val a₂ ∷ [], (outgoing·v ∷ [], (buffer·v ∷ [], tt))))))), tt))
-  goes-c5 α δ h a₀ a₁ a₂ a₀-is a₁-is a₂-is rq = qed W (‵ (flft (α ∷ []) fullShare) ∷ ‵ (flft (κ1) q1) ∷ ‵ (flft (κ2) q2) ∷ ‵ (MutRef (named 0) (α ∷ []) T.the-row .own (record { ptr = (b, o); name = δ; now = h }) (vptr b o ∷ [])) ∷ ‵ outgoing·own ∷ ‵ buffer·own ∷ []) ∵ says ! rq $ nothing ! $ move ! (6 ∷ 0 ∷ []) $ fjoin ! $ move ! (5 ∷ 0 ∷ []) $ fjoin ! $ had ! (uint w8) a₂ a₂-is $ fjoin ! $ had ! (uint w64) a₁ a₁-is $ fjoin ! $ had ! FG a₀ a₀-is $ fjoin ! $ move ! (4 ∷ 0 ∷ []) $ fjoin ! $ nothing ! $ move ! (4 ∷ 0 ∷ []) $ join ! $ move ! (3 ∷ 0 ∷ []) $ join ! $ move ! (2 ∷ 0 ∷ []) $ join ! $ join ! $ done !
+  goes-c5 : (α : ℕ) (δ : GName) (h : Node) (a₁ : Settings) (a₂ : ℕ) (a₃ : ℕ) (a₁-is : Is (FG .row) a₁ (FG .val a₁ ∷ [])) (a₂-is : Is usize a₂ ((uint w64) .val a₂ ∷ [])) (a₃-is : Is u8 a₃ ((uint w8) .val a₃ ∷ [])) → Turning h (cards .now) a₁ a₂ a₃ (outgoing .now) (buffer .now) → ent 𝓤 (⋆ 𝓤 H A (‵ (flft (α ∷ []) fullShare) ∷ ‵ (flft (κ1) q1) ∷ ‵ (flft (κ2) q2) ∷ ‵ (flft (κ3) q3) ∷ ‵ (MutRef (named 0) (α ∷ []) T.the-row .own (record { ptr = (b, o); name = δ; now = h }) (vptr b o ∷ [])) ∷ ‵ cards·own ∷ ‵ outgoing·own ∷ ‵ buffer·own ∷ [])) (C5 𝓤 H A at-mem run .pre (((α ∷ [], (κ1, (κ2, (κ3, tt)))), (fullShare, (q1, (q2, (q3, tt)))), tt, ((record { ptr = (b, o); name = δ; now = h }), (cards, (a₁, (a₂, (a₃, (outgoing, (buffer, tt))))))), (vptr b o ∷ [], (cards·v ∷ [], (FG .val a₁ ∷ [], ((uint w64) .val a₂ ∷ [], ((uint w8) .val a₃ ∷ [], (outgoing·v ∷ [], (buffer·v ∷ [], tt)))))))), tt))
+  goes-c5 α δ h a₁ a₂ a₃ a₁-is a₂-is a₃-is rq = qed W (‵ (flft (α ∷ []) fullShare) ∷ ‵ (flft (κ1) q1) ∷ ‵ (flft (κ2) q2) ∷ ‵ (flft (κ3) q3) ∷ ‵ (MutRef (named 0) (α ∷ []) T.the-row .own (record { ptr = (b, o); name = δ; now = h }) (vptr b o ∷ [])) ∷ ‵ cards·own ∷ ‵ outgoing·own ∷ ‵ buffer·own ∷ []) ∵ says ! rq $ nothing ! $ move ! (8 ∷ 0 ∷ []) $ fjoin ! $ move ! (7 ∷ 0 ∷ []) $ fjoin ! $ had ! (uint w8) a₃ a₃-is $ fjoin ! $ had ! (uint w64) a₂ a₂-is $ fjoin ! $ had ! FG a₁ a₁-is $ fjoin ! $ move ! (6 ∷ 0 ∷ []) $ fjoin ! $ move ! (5 ∷ 0 ∷ []) $ fjoin ! $ nothing ! $ move ! (5 ∷ 0 ∷ []) $ join ! $ move ! (4 ∷ 0 ∷ []) $ join ! $ move ! (3 ∷ 0 ∷ []) $ join ! $ move ! (2 ∷ 0 ∷ []) $ join ! $ join ! $ done !
 
   module _ (𝓣 : Tables 𝓤 H) (fm : FmC 𝓤 H (W .laws) (𝓣 .C)) (known-c1 : Triple 𝓤 (𝓣 .C #c1) (C1 𝓤 H A at-mem run)) (known-c2 : Triple 𝓤 (𝓣 .C #c2) (C2 𝓤 H A at-mem run)) (known-c3 : Triple 𝓤 (𝓣 .C #c3) (C3 𝓤 H A at-mem run)) (known-c4 : Triple 𝓤 (𝓣 .C #c4) (C4 𝓤 H A at-mem run)) (known-c5 : Triple 𝓤 (𝓣 .C #c5) (C5 𝓤 H A at-mem run)) where
     abbrev C : Calls 𝓤 H
@@ -165,124 +177,130 @@ module _ {M : Type 1} (𝓤 : URA M) (H : Heap 𝓤) (A : Atoms 𝓤) (W : Given
     abbrev Λ : Loops 𝓤 H
     Λ = 𝓣 .Λ
 
-    walk : ent 𝓤 (onEntry 𝓤 H A self.signature (κ, (κ1, (κ2, tt))) (q, (q1, (q2, tt))) x at) (WpFn 𝓤 H C Λ code.function (vptr b o ∷ outgoing·v ∷ buffer·v ∷ []) Post)
+    walk : ent 𝓤 (onEntry 𝓤 H A self.signature (κ, (κ1, (κ2, (κ3, tt)))) (q, (q1, (q2, (q3, tt)))) x at) (WpFn 𝓤 H C Λ code.function (vptr b o ∷ cards·v ∷ outgoing·v ∷ buffer·v ∷ []) Post)
     walk =
-        qed W ((‵ (flft κ q) ⊛ ‵ (flft κ1 q1) ⊛ ‵ (flft κ2 q2) ⊛ ‵ ftrue) ∷ ‵ (owns (MutRef (named 0) κ T.the-row ∷ ShrSlice (named 1) κ1 u8 ∷ MutSlice (named 2) κ2 u8 ∷ []) x at) ∷ []) ∵ split ! $ move ! (1 ∷ []) $ split ! $ move ! (1 ∷ []) $ split ! $ move ! (1 ∷ []) $ drop ! $ move ! (3 ∷ []) $ fsplit ! $ move ! (1 ∷ []) $ fsplit ! $ move ! (1 ∷ []) $ fsplit ! $ move ! (1 ∷ []) $ drop ! $ move ! (2 ∷ []) $ fsplit3 ! $ drop ! $ move ! (0 ∷ 1 ∷ 6 ∷ []) $
-        enter ! C Λ code.function (vptr b o ∷ outgoing·v ∷ buffer·v ∷ []) _ $
-        alloc1 ! (λ l₀. alloc1 ! (λ l₁. alloc1 ! (λ l₂. alloc1 ! (λ l₃. alloc1 ! (λ l₄. alloc1 ! (λ l₅. alloc1 ! (λ l₆. alloc1 ! (λ l₇. alloc1 ! (λ l₈. alloc1 ! (λ l₉. alloc1 ! (λ l₁₀. alloc1 ! (λ l₁₁. alloc1 ! (λ l₁₂. alloc1 ! (λ l₁₃. alloc1 ! (λ l₁₄. alloc1 ! (λ l₁₅. alloc1 ! (λ l₁₆. alloc1 ! (λ l₁₇. alloc1 ! (λ l₁₈. alloc0 ! $ params1 ! $
-        pass1 ! (init ! 34 refl (tt, tt)) $ pass1 ! (init ! 32 refl (shr-slice-lawful 𝓤 H A W (named 1) κ1 u8 .typed outgoing (outgoing·v ∷ []) outgoing-is .0)) $ pass1 ! (init ! 30 refl (mut-slice-lawful 𝓤 H A W (named 2) κ2 u8 .typed buffer (buffer·v ∷ []) buffer-is .0)) $ pass0 ! $
-        move ! (38 ∷ 39 ∷ 40 ∷ []) $ opened ! tt FT {h = h} b o (λ was. use1 W (‵ (fat fullShare T′.mir b o (FT .val h))) (W .laws .raw-at fullShare T′.mir b o (FT .val h)) $
+        qed W ((‵ (flft κ q) ⊛ ‵ (flft κ1 q1) ⊛ ‵ (flft κ2 q2) ⊛ ‵ (flft κ3 q3) ⊛ ‵ ftrue) ∷ ‵ (owns (MutRef (named 0) κ T.the-row ∷ MutSlice (named 1) κ1 Ca.the-row ∷ ShrSlice (named 2) κ2 u8 ∷ MutSlice (named 3) κ3 u8 ∷ []) x at) ∷ []) ∵ split ! $ move ! (1 ∷ []) $ split ! $ move ! (1 ∷ []) $ split ! $ move ! (1 ∷ []) $ split ! $ move ! (1 ∷ []) $ drop ! $ move ! (4 ∷ []) $ fsplit ! $ move ! (1 ∷ []) $ fsplit ! $ move ! (1 ∷ []) $ fsplit ! $ move ! (1 ∷ []) $ fsplit ! $ move ! (1 ∷ []) $ drop ! $ move ! (3 ∷ []) $ fsplit3 ! $ drop ! $ move ! (0 ∷ 1 ∷ 8 ∷ []) $
+        enter ! C Λ code.function (vptr b o ∷ cards·v ∷ outgoing·v ∷ buffer·v ∷ []) _ $
+        alloc1 ! (λ l₀. alloc1 ! (λ l₁. alloc1 ! (λ l₂. alloc1 ! (λ l₃. alloc1 ! (λ l₄. alloc1 ! (λ l₅. alloc1 ! (λ l₆. alloc1 ! (λ l₇. alloc1 ! (λ l₈. alloc1 ! (λ l₉. alloc1 ! (λ l₁₀. alloc1 ! (λ l₁₁. alloc1 ! (λ l₁₂. alloc1 ! (λ l₁₃. alloc1 ! (λ l₁₄. alloc1 ! (λ l₁₅. alloc1 ! (λ l₁₆. alloc1 ! (λ l₁₇. alloc1 ! (λ l₁₈. alloc1 ! (λ l₁₉. alloc1 ! (λ l₂₀. alloc1 ! (λ l₂₁. alloc1 ! (λ l₂₂. alloc0 ! $ params1 ! $
+        pass1 ! (init ! 42 refl (tt, tt)) $ pass1 ! (init ! 40 refl (mut-slice-lawful 𝓤 H A W (named 1) κ1 Ca.the-row .typed cards (cards·v ∷ []) cards-is .0)) $ pass1 ! (init ! 38 refl (shr-slice-lawful 𝓤 H A W (named 2) κ2 u8 .typed outgoing (outgoing·v ∷ []) outgoing-is .0)) $ pass1 ! (init ! 36 refl (mut-slice-lawful 𝓤 H A W (named 3) κ3 u8 .typed buffer (buffer·v ∷ []) buffer-is .0)) $ pass0 ! $
+        move ! (46 ∷ 47 ∷ 48 ∷ []) $ opened ! tt FT {h = h} b o (λ was. use1 W (‵ (fat fullShare T′.mir b o (FT .val h))) (W .laws .raw-at fullShare T′.mir b o (FT .val h)) $
         -- let order = looks::order(&*node);
-        assigns ! (addr ! (from ! (hop ! (look ! 38 refl) (stop !)))) (from ! (stop !)) (init ! 20 refl (tt, tt)) $
+        assigns ! (addr ! (from ! (hop ! (look ! 46 refl) (stop !)))) (from ! (stop !)) (init ! 26 refl (tt, tt)) $
         use1 W (‵ (cellAt fullShare (T.the-row .mir) (FT .val h ∷ []) b o)) (W .laws .at-raw fullShare T′.mir b o (FT .val h)) $ lent-shr ! tt FT fullShare h b o was (λ α1 δ1.
         uses W (‵ (flft (α1 ∷ []) fullShare) ∷ ‵ (ShrRef (named 0) (α1 ∷ []) T.the-row .own (record { ptr = (b, o); name = δ1; now = h }) (vptr b o ∷ [])) ∷ []) (raw (C1 𝓤 H A at-mem run .pre (((α1 ∷ [], tt), (fullShare, tt), tt, ((record { ptr = (b, o); name = δ1; now = h }), tt), (vptr b o ∷ [], tt)), tt))) (goes-c1 α1 δ1 h) $
-        calls-at ! fm (C1 𝓤 H A at-mem run) known-c1 (((α1 ∷ [], tt), (fullShare, tt), tt, ((record { ptr = (b, o); name = δ1; now = h }), tt), (vptr b o ∷ [], tt)), tt) (and-then ! (load ! (from ! (stop !)) (look ! 21 refl)) (no-more !)) (λ v1.
+        calls-at ! fm (C1 𝓤 H A at-mem run) known-c1 (((α1 ∷ [], tt), (fullShare, tt), tt, ((record { ptr = (b, o); name = δ1; now = h }), tt), (vptr b o ∷ [], tt)), tt) (and-then ! (load ! (from ! (stop !)) (look ! 27 refl)) (no-more !)) (λ v1.
         use1 W (later (some (λ (o· : ℕ). ((‵ (flft (α1 ∷ []) fullShare) ⊛ ‵ ftrue) ⊛ ‵ (usize .own o· (v1 ∷ []))) ⊛ raw (ensured 𝓤 H A c1.ended (c1.clauses 𝓤 H A at-mem run) (α1 ∷ [], tt) ((record { ptr = (b, o); name = δ1; now = h }), tt) tt o·)))) (id⊢ 𝓤 _) $ await ! tt $ pick ! (λ o·.
         split ! $ move ! (1 ∷ []) $ use1 W (raw (fact 𝓤 (o· ≡ orderOf h))) (exE 𝓤 _ (λ ws. snd∗ 𝓤 (sem 𝓤 H A (lasts c1.ended (α1 ∷ [], tt) ((record { ptr = (b, o); name = δ1; now = h }), tt) ws)) (fact 𝓤 (o· ≡ orderOf h)))) $ heard ! (o· ≡ orderOf h) (λ eo. split ! $ move ! (1 ∷ []) $ returned ! (uint w64) o· v1 (λ o-is.
-        land ! (from ! (stop !)) (init ! 33 refl ((uint w64) .lawful 𝓤 H A W .typed o· _ o-is .0)) $
+        land ! (from ! (stop !)) (init ! 39 refl ((uint w64) .lawful 𝓤 H A W .typed o· _ o-is .0)) $
         split ! $ move ! (1 ∷ []) $ drop ! $
         back-shr ! tt FT fullShare h b o (use1 W (‵ (fat fullShare T′.mir b o (FT .val h))) (W .laws .raw-at fullShare T′.mir b o (FT .val h)) $
         -- let ordered = order < looks::UNORDERED;
-        assigns ! (bin ! (load ! (from ! (stop !)) (look ! 32 refl)) (lit ! tt) tt) (from ! (stop !)) (init ! 30 refl (tt, tt)) $
+        assigns ! (bin ! (load ! (from ! (stop !)) (look ! 38 refl)) (lit ! tt) tt) (from ! (stop !)) (init ! 36 refl (tt, tt)) $
         -- let settings = node.settings;
-        assigns ! (of-opd ! (load ! (from ! (hop ! (look ! 38 refl) (fld ! {τ = G′.mir} {d = 0} refl (stop !)))) (look-in ! 0 (sub ! 0 {τ = G′.mir} {d = 0} refl (whole !))))) (from ! (stop !)) (init ! 28 refl (FG .lawful 𝓤 H A W .typed (h .settings) _ (LL.owed T.the-type T′.the-laws h _ was .0) .0)) $
-        -- let number = node::refusals::turn(ordered, settings.area, outgoing.len(), buffer.len());
-        assigns ! (of-opd ! (load ! (from ! (fld ! refl (stop !))) (look-in ! 36 (sub ! 1 refl (whole !))))) (from ! (stop !)) (init ! 18 refl ((uint w64) .lawful 𝓤 H A W .typed (length (outgoing .now)) _ (refl, outgoing-is .0 .1 .0) .0)) $
-        assigns ! (of-opd ! (load ! (from ! (fld ! refl (stop !))) (look-in ! 34 (sub ! 1 refl (whole !))))) (from ! (stop !)) (init ! 16 refl ((uint w64) .lawful 𝓤 H A W .typed (length (buffer .now)) _ (refl, buffer-is .0 .1 .0) .0)) $
-        use0 W (raw (C2 𝓤 H A at-mem run .pre ((tt, tt, tt, ((ltb o· 11), (((h .settings) .area), ((length (outgoing .now)), ((length (buffer .now)), tt)))), (boolean .val (ltb o· 11) ∷ [], ((uint w32) .val ((h .settings) .area) ∷ [], ((uint w64) .val (length (outgoing .now)) ∷ [], ((uint w64) .val (length (buffer .now)) ∷ [], tt))))), tt))) (goes-c2 (ltb o· 11) ((h .settings) .area) (length (outgoing .now)) (length (buffer .now)) refl (LL.owed G.the-type G′.the-laws (h .settings) _ (LL.owed T.the-type T′.the-laws h _ was .0) .0) (refl, outgoing-is .0 .1 .0) (refl, buffer-is .0 .1 .0)) $
-        calls-at ! fm (C2 𝓤 H A at-mem run) known-c2 ((tt, tt, tt, ((ltb o· 11), (((h .settings) .area), ((length (outgoing .now)), ((length (buffer .now)), tt)))), (boolean .val (ltb o· 11) ∷ [], ((uint w32) .val ((h .settings) .area) ∷ [], ((uint w64) .val (length (outgoing .now)) ∷ [], ((uint w64) .val (length (buffer .now)) ∷ [], tt))))), tt) (and-then ! (load ! (from ! (stop !)) (look ! 31 refl)) (and-then ! (load ! (from ! (fld ! {τ = tyInt w32} {d = 0} refl (stop !))) (look-in ! 29 (sub ! 0 {τ = tyInt w32} {d = 0} refl (whole !)))) (and-then ! (load ! (from ! (stop !)) (look ! 19 refl)) (and-then ! (load ! (from ! (stop !)) (look ! 17 refl)) (no-more !))))) (λ v2.
-        use1 W (later (some (λ (n· : ℕ). ((‵ ftrue) ⊛ ‵ (u8 .own n· (v2 ∷ []))) ⊛ raw (ensured 𝓤 H A c2.ended (c2.clauses 𝓤 H A at-mem run) tt ((ltb o· 11), (((h .settings) .area), ((length (outgoing .now)), ((length (buffer .now)), tt)))) tt n·)))) (id⊢ 𝓤 _) $ await ! tt $ pick ! (λ n·.
-        split ! $ move ! (1 ∷ []) $ use1 W (raw (fact 𝓤 (n· ≡ turnRefusal (ltb o· 11) ((h .settings) .area) (length (outgoing .now)) (length (buffer .now))))) (exE 𝓤 _ (λ ws. snd∗ 𝓤 (sem 𝓤 H A (lasts c2.ended tt ((ltb o· 11), (((h .settings) .area), ((length (outgoing .now)), ((length (buffer .now)), tt)))) ws)) (fact 𝓤 (n· ≡ turnRefusal (ltb o· 11) ((h .settings) .area) (length (outgoing .now)) (length (buffer .now)))))) $ heard ! (n· ≡ turnRefusal (ltb o· 11) ((h .settings) .area) (length (outgoing .now)) (length (buffer .now))) (λ en. split ! $ move ! (1 ∷ []) $ returned ! (uint w8) n· v2 (λ n-is.
-        land ! (from ! (stop !)) (init ! 27 refl ((uint w8) .lawful 𝓤 H A W .typed n· _ n-is .0)) $
+        assigns ! (of-opd ! (load ! (from ! (hop ! (look ! 46 refl) (fld ! {τ = G′.mir} {d = 0} refl (stop !)))) (look-in ! 0 (sub ! 0 {τ = G′.mir} {d = 0} refl (whole !))))) (from ! (stop !)) (init ! 34 refl (FG .lawful 𝓤 H A W .typed (h .settings) _ (LL.owed T.the-type T′.the-laws h _ was .0) .0)) $
+        -- let number = node::refusals::turn( ordered, settings.area, outgoing.len(), cards.len(), buffer.len(), );
+        assigns ! (of-opd ! (load ! (from ! (fld ! refl (stop !))) (look-in ! 42 (sub ! 1 refl (whole !))))) (from ! (stop !)) (init ! 24 refl ((uint w64) .lawful 𝓤 H A W .typed (length (outgoing .now)) _ (refl, outgoing-is .0 .1 .0) .0)) $
+        assigns ! (of-opd ! (load ! (from ! (fld ! refl (stop !))) (look-in ! 44 (sub ! 1 refl (whole !))))) (from ! (stop !)) (init ! 22 refl ((uint w64) .lawful 𝓤 H A W .typed (length (cards .now)) _ (refl, cards-is .0 .1 .0) .0)) $
+        assigns ! (of-opd ! (load ! (from ! (fld ! refl (stop !))) (look-in ! 40 (sub ! 1 refl (whole !))))) (from ! (stop !)) (init ! 20 refl ((uint w64) .lawful 𝓤 H A W .typed (length (buffer .now)) _ (refl, buffer-is .0 .1 .0) .0)) $
+        use0 W (raw (C2 𝓤 H A at-mem run .pre ((tt, tt, tt, ((ltb o· 11), (((h .settings) .area), ((length (outgoing .now)), ((length (cards .now)), ((length (buffer .now)), tt))))), (boolean .val (ltb o· 11) ∷ [], ((uint w32) .val ((h .settings) .area) ∷ [], ((uint w64) .val (length (outgoing .now)) ∷ [], ((uint w64) .val (length (cards .now)) ∷ [], ((uint w64) .val (length (buffer .now)) ∷ [], tt)))))), tt))) (goes-c2 (ltb o· 11) ((h .settings) .area) (length (outgoing .now)) (length (cards .now)) (length (buffer .now)) refl (LL.owed G.the-type G′.the-laws (h .settings) _ (LL.owed T.the-type T′.the-laws h _ was .0) .0) (refl, outgoing-is .0 .1 .0) (refl, cards-is .0 .1 .0) (refl, buffer-is .0 .1 .0)) $
+        calls-at ! fm (C2 𝓤 H A at-mem run) known-c2 ((tt, tt, tt, ((ltb o· 11), (((h .settings) .area), ((length (outgoing .now)), ((length (cards .now)), ((length (buffer .now)), tt))))), (boolean .val (ltb o· 11) ∷ [], ((uint w32) .val ((h .settings) .area) ∷ [], ((uint w64) .val (length (outgoing .now)) ∷ [], ((uint w64) .val (length (cards .now)) ∷ [], ((uint w64) .val (length (buffer .now)) ∷ [], tt)))))), tt) (and-then ! (load ! (from ! (stop !)) (look ! 37 refl)) (and-then ! (load ! (from ! (fld ! {τ = tyInt w32} {d = 0} refl (stop !))) (look-in ! 35 (sub ! 0 {τ = tyInt w32} {d = 0} refl (whole !)))) (and-then ! (load ! (from ! (stop !)) (look ! 25 refl)) (and-then ! (load ! (from ! (stop !)) (look ! 23 refl)) (and-then ! (load ! (from ! (stop !)) (look ! 21 refl)) (no-more !)))))) (λ v2.
+        use1 W (later (some (λ (n· : ℕ). ((‵ ftrue) ⊛ ‵ (u8 .own n· (v2 ∷ []))) ⊛ raw (ensured 𝓤 H A c2.ended (c2.clauses 𝓤 H A at-mem run) tt ((ltb o· 11), (((h .settings) .area), ((length (outgoing .now)), ((length (cards .now)), ((length (buffer .now)), tt))))) tt n·)))) (id⊢ 𝓤 _) $ await ! tt $ pick ! (λ n·.
+        split ! $ move ! (1 ∷ []) $ use1 W (raw (fact 𝓤 (n· ≡ turnRefusal (ltb o· 11) ((h .settings) .area) (length (outgoing .now)) (length (cards .now)) (length (buffer .now))))) (exE 𝓤 _ (λ ws. snd∗ 𝓤 (sem 𝓤 H A (lasts c2.ended tt ((ltb o· 11), (((h .settings) .area), ((length (outgoing .now)), ((length (cards .now)), ((length (buffer .now)), tt))))) ws)) (fact 𝓤 (n· ≡ turnRefusal (ltb o· 11) ((h .settings) .area) (length (outgoing .now)) (length (cards .now)) (length (buffer .now)))))) $ heard ! (n· ≡ turnRefusal (ltb o· 11) ((h .settings) .area) (length (outgoing .now)) (length (cards .now)) (length (buffer .now))) (λ en. split ! $ move ! (1 ∷ []) $ returned ! (uint w8) n· v2 (λ n-is.
+        land ! (from ! (stop !)) (init ! 33 refl ((uint w8) .lawful 𝓤 H A W .typed n· _ n-is .0)) $
         drop ! $
         -- if number != 0 {
-        assigns ! (bin ! (load ! (from ! (stop !)) (look ! 26 refl)) (lit ! tt) tt) (from ! (stop !)) (init ! 14 refl (tt, tt)) $
-        first ! $ branches ! (load ! (from ! (stop !)) (look ! 14 refl))
+        assigns ! (bin ! (load ! (from ! (stop !)) (look ! 32 refl)) (lit ! tt) tt) (from ! (stop !)) (init ! 18 refl (tt, tt)) $
+        first ! $ branches ! (load ! (from ! (stop !)) (look ! 18 refl))
         (λ found.
         -- return TurnAnswer::Refused(number);
-        assigns ! (agg ! (and-then ! (lit ! tt) (and-then ! (load ! (from ! (stop !)) (look ! 26 refl)) (no-more !)))) (from ! (stop !)) (init ! 40 refl (F·A4 .lawful 𝓤 H A W .typed (TurnAnswer.Refused n·) _ (EL.owes A4.the-type A4′.the-laws (TurnAnswer.Refused n·) (n-is, tt)) .0)) $
-        move ! (42 ∷ []) $ given-up ! u8 buffer (buffer·v ∷ []) $
-        move ! (1 ∷ 2 ∷ 3 ∷ 4 ∷ []) $ use1 W (‵ (cellAt fullShare (T.the-row .mir) (FT .val h ∷ []) b o)) (W .laws .at-raw fullShare T′.mir b o (FT .val h)) $ closed ! tt FT h b o was $
-        returns-within ! Post refl (look ! 40 refl) $ forget ! 14 refl $ forget ! 16 refl $ forget ! 18 refl $ forget ! 20 refl $ forget ! 26 refl $ forget ! 28 refl $ forget ! 30 refl $ forget ! 32 refl $ forget ! 34 refl $ forget ! 36 refl $ forget ! 38 refl $ forget ! 40 refl $
-        move ! (40 ∷ 41 ∷ []) $ free1 ! $ move ! (38 ∷ 39 ∷ []) $ free1 ! $ move ! (36 ∷ 37 ∷ []) $ free1 ! $ move ! (34 ∷ 35 ∷ []) $ free1 ! $ move ! (32 ∷ 33 ∷ []) $ free1 ! $ move ! (30 ∷ 31 ∷ []) $ free1 ! $ move ! (28 ∷ 29 ∷ []) $ free1 ! $ move ! (26 ∷ 27 ∷ []) $ free1 ! $ move ! (24 ∷ 25 ∷ []) $ free1 ! $ move ! (22 ∷ 23 ∷ []) $ free1 ! $ move ! (20 ∷ 21 ∷ []) $ free1 ! $ move ! (18 ∷ 19 ∷ []) $ free1 ! $ move ! (16 ∷ 17 ∷ []) $ free1 ! $ move ! (14 ∷ 15 ∷ []) $ free1 ! $ move ! (12 ∷ 13 ∷ []) $ free1 ! $ move ! (10 ∷ 11 ∷ []) $ free1 ! $ move ! (8 ∷ 9 ∷ []) $ free1 ! $ move ! (6 ∷ 7 ∷ []) $ free1 ! $ move ! (4 ∷ 5 ∷ []) $ free1 ! $ free0 ! $
-        keep ! (0 ∷ 1 ∷ 2 ∷ 6 ∷ 5 ∷ 3 ∷ 4 ∷ []) $ by ! (exits (TurnAnswer.Refused n·) h (buffer .now) (turn-refused h eo (outgoing .now) (buffer .now) en found) refl (EL.owes A4.the-type A4′.the-laws (TurnAnswer.Refused n·) (n-is, tt))))
+        assigns ! (agg ! (and-then ! (lit ! tt) (and-then ! (load ! (from ! (stop !)) (look ! 32 refl)) (no-more !)))) (from ! (stop !)) (init ! 48 refl (F·A4 .lawful 𝓤 H A W .typed (TurnAnswer.Refused n·) _ (EL.owes A4.the-type A4′.the-laws (TurnAnswer.Refused n·) (n-is, tt)) .0)) $
+        move ! (52 ∷ []) $ given-up ! Ca.the-row cards (cards·v ∷ []) $
+        move ! (51 ∷ []) $ given-up ! u8 buffer (buffer·v ∷ []) $
+        move ! (2 ∷ 3 ∷ 4 ∷ 5 ∷ []) $ use1 W (‵ (cellAt fullShare (T.the-row .mir) (FT .val h ∷ []) b o)) (W .laws .at-raw fullShare T′.mir b o (FT .val h)) $ closed ! tt FT h b o was $
+        returns-within ! Post refl (look ! 49 refl) $ forget ! 19 refl $ forget ! 21 refl $ forget ! 23 refl $ forget ! 25 refl $ forget ! 27 refl $ forget ! 33 refl $ forget ! 35 refl $ forget ! 37 refl $ forget ! 39 refl $ forget ! 41 refl $ forget ! 43 refl $ forget ! 45 refl $ forget ! 47 refl $ forget ! 49 refl $
+        move ! (49 ∷ 50 ∷ []) $ free1 ! $ move ! (47 ∷ 48 ∷ []) $ free1 ! $ move ! (45 ∷ 46 ∷ []) $ free1 ! $ move ! (43 ∷ 44 ∷ []) $ free1 ! $ move ! (41 ∷ 42 ∷ []) $ free1 ! $ move ! (39 ∷ 40 ∷ []) $ free1 ! $ move ! (37 ∷ 38 ∷ []) $ free1 ! $ move ! (35 ∷ 36 ∷ []) $ free1 ! $ move ! (33 ∷ 34 ∷ []) $ free1 ! $ move ! (31 ∷ 32 ∷ []) $ free1 ! $ move ! (29 ∷ 30 ∷ []) $ free1 ! $ move ! (27 ∷ 28 ∷ []) $ free1 ! $ move ! (25 ∷ 26 ∷ []) $ free1 ! $ move ! (23 ∷ 24 ∷ []) $ free1 ! $ move ! (21 ∷ 22 ∷ []) $ free1 ! $ move ! (19 ∷ 20 ∷ []) $ free1 ! $ move ! (17 ∷ 18 ∷ []) $ free1 ! $ move ! (15 ∷ 16 ∷ []) $ free1 ! $ move ! (13 ∷ 14 ∷ []) $ free1 ! $ move ! (11 ∷ 12 ∷ []) $ free1 ! $ move ! (9 ∷ 10 ∷ []) $ free1 ! $ move ! (7 ∷ 8 ∷ []) $ free1 ! $ move ! (5 ∷ 6 ∷ []) $ free1 ! $ free0 ! $
+        keep ! (0 ∷ 1 ∷ 2 ∷ 8 ∷ 7 ∷ 6 ∷ 4 ∷ 3 ∷ 5 ∷ []) $ by ! (exits (TurnAnswer.Refused n·) h (cards .now) (buffer .now) (turn-refused h eo (cards .now) (outgoing .now) (buffer .now) en found) refl refl (EL.owes A4.the-type A4′.the-laws (TurnAnswer.Refused n·) (n-is, tt))))
         (λ fine.
         skips ! $
-        exec ! C Λ (env-of body.locals (l₀ ∷ l₁ ∷ l₂ ∷ l₃ ∷ l₄ ∷ l₅ ∷ l₆ ∷ l₇ ∷ l₈ ∷ l₉ ∷ l₁₀ ∷ l₁₁ ∷ l₁₂ ∷ l₁₃ ∷ l₁₄ ∷ l₁₅ ∷ l₁₆ ∷ l₁₇ ∷ l₁₈ ∷ [])) (body.t-10) (atRet (env-of body.locals (l₀ ∷ l₁ ∷ l₂ ∷ l₃ ∷ l₄ ∷ l₅ ∷ l₆ ∷ l₇ ∷ l₈ ∷ l₉ ∷ l₁₀ ∷ l₁₁ ∷ l₁₂ ∷ l₁₃ ∷ l₁₄ ∷ l₁₅ ∷ l₁₆ ∷ l₁₇ ∷ l₁₈ ∷ [])) Post) $
+        exec ! C Λ (env-of body.locals (l₀ ∷ l₁ ∷ l₂ ∷ l₃ ∷ l₄ ∷ l₅ ∷ l₆ ∷ l₇ ∷ l₈ ∷ l₉ ∷ l₁₀ ∷ l₁₁ ∷ l₁₂ ∷ l₁₃ ∷ l₁₄ ∷ l₁₅ ∷ l₁₆ ∷ l₁₇ ∷ l₁₈ ∷ l₁₉ ∷ l₂₀ ∷ l₂₁ ∷ l₂₂ ∷ [])) (body.t-11) (atRet (env-of body.locals (l₀ ∷ l₁ ∷ l₂ ∷ l₃ ∷ l₄ ∷ l₅ ∷ l₆ ∷ l₇ ∷ l₈ ∷ l₉ ∷ l₁₀ ∷ l₁₁ ∷ l₁₂ ∷ l₁₃ ∷ l₁₄ ∷ l₁₅ ∷ l₁₆ ∷ l₁₇ ∷ l₁₈ ∷ l₁₉ ∷ l₂₀ ∷ l₂₁ ∷ l₂₂ ∷ [])) Post) $
         -- if order == looks::ALL_IDLE {
-        assigns ! (bin ! (load ! (from ! (stop !)) (look ! 32 refl)) (lit ! tt) tt) (from ! (stop !)) (store ! 14 refl (tt, tt)) $
-        first ! $ branches ! (load ! (from ! (stop !)) (look ! 14 refl))
+        assigns ! (bin ! (load ! (from ! (stop !)) (look ! 38 refl)) (lit ! tt) tt) (from ! (stop !)) (store ! 18 refl (tt, tt)) $
+        first ! $ branches ! (load ! (from ! (stop !)) (look ! 18 refl))
         (λ is-ten.
         -- return TurnAnswer::None(rules::BERTH_COUNT);
-        assigns ! (agg ! (and-then ! (lit ! tt) (and-then ! (lit ! tt) (no-more !)))) (from ! (stop !)) (init ! 40 refl (F·A4 .lawful 𝓤 H A W .typed (TurnAnswer.None 10) _ (EL.owes A4.the-type A4′.the-laws (TurnAnswer.None 10) ((refl, lit< tt), tt)) .0)) $
-        move ! (42 ∷ []) $ given-up ! u8 buffer (buffer·v ∷ []) $
-        move ! (1 ∷ 2 ∷ 3 ∷ 4 ∷ []) $ use1 W (‵ (cellAt fullShare (T.the-row .mir) (FT .val h ∷ []) b o)) (W .laws .at-raw fullShare T′.mir b o (FT .val h)) $ closed ! tt FT h b o was $
-        returns-within ! Post refl (look ! 40 refl) $ forget ! 14 refl $ forget ! 16 refl $ forget ! 18 refl $ forget ! 20 refl $ forget ! 26 refl $ forget ! 28 refl $ forget ! 30 refl $ forget ! 32 refl $ forget ! 34 refl $ forget ! 36 refl $ forget ! 38 refl $ forget ! 40 refl $
-        move ! (40 ∷ 41 ∷ []) $ free1 ! $ move ! (38 ∷ 39 ∷ []) $ free1 ! $ move ! (36 ∷ 37 ∷ []) $ free1 ! $ move ! (34 ∷ 35 ∷ []) $ free1 ! $ move ! (32 ∷ 33 ∷ []) $ free1 ! $ move ! (30 ∷ 31 ∷ []) $ free1 ! $ move ! (28 ∷ 29 ∷ []) $ free1 ! $ move ! (26 ∷ 27 ∷ []) $ free1 ! $ move ! (24 ∷ 25 ∷ []) $ free1 ! $ move ! (22 ∷ 23 ∷ []) $ free1 ! $ move ! (20 ∷ 21 ∷ []) $ free1 ! $ move ! (18 ∷ 19 ∷ []) $ free1 ! $ move ! (16 ∷ 17 ∷ []) $ free1 ! $ move ! (14 ∷ 15 ∷ []) $ free1 ! $ move ! (12 ∷ 13 ∷ []) $ free1 ! $ move ! (10 ∷ 11 ∷ []) $ free1 ! $ move ! (8 ∷ 9 ∷ []) $ free1 ! $ move ! (6 ∷ 7 ∷ []) $ free1 ! $ move ! (4 ∷ 5 ∷ []) $ free1 ! $ free0 ! $
-        keep ! (0 ∷ 1 ∷ 2 ∷ 6 ∷ 5 ∷ 3 ∷ 4 ∷ []) $ by ! (exits (TurnAnswer.None 10) h (buffer .now) (turn-idle h eo (outgoing .now) (buffer .now) en fine is-ten) refl (EL.owes A4.the-type A4′.the-laws (TurnAnswer.None 10) ((refl, lit< tt), tt))))
+        assigns ! (agg ! (and-then ! (lit ! tt) (and-then ! (lit ! tt) (no-more !)))) (from ! (stop !)) (init ! 48 refl (F·A4 .lawful 𝓤 H A W .typed (TurnAnswer.None 10) _ (EL.owes A4.the-type A4′.the-laws (TurnAnswer.None 10) ((refl, lit< tt), tt)) .0)) $
+        move ! (52 ∷ []) $ given-up ! Ca.the-row cards (cards·v ∷ []) $
+        move ! (51 ∷ []) $ given-up ! u8 buffer (buffer·v ∷ []) $
+        move ! (2 ∷ 3 ∷ 4 ∷ 5 ∷ []) $ use1 W (‵ (cellAt fullShare (T.the-row .mir) (FT .val h ∷ []) b o)) (W .laws .at-raw fullShare T′.mir b o (FT .val h)) $ closed ! tt FT h b o was $
+        returns-within ! Post refl (look ! 49 refl) $ forget ! 19 refl $ forget ! 21 refl $ forget ! 23 refl $ forget ! 25 refl $ forget ! 27 refl $ forget ! 33 refl $ forget ! 35 refl $ forget ! 37 refl $ forget ! 39 refl $ forget ! 41 refl $ forget ! 43 refl $ forget ! 45 refl $ forget ! 47 refl $ forget ! 49 refl $
+        move ! (49 ∷ 50 ∷ []) $ free1 ! $ move ! (47 ∷ 48 ∷ []) $ free1 ! $ move ! (45 ∷ 46 ∷ []) $ free1 ! $ move ! (43 ∷ 44 ∷ []) $ free1 ! $ move ! (41 ∷ 42 ∷ []) $ free1 ! $ move ! (39 ∷ 40 ∷ []) $ free1 ! $ move ! (37 ∷ 38 ∷ []) $ free1 ! $ move ! (35 ∷ 36 ∷ []) $ free1 ! $ move ! (33 ∷ 34 ∷ []) $ free1 ! $ move ! (31 ∷ 32 ∷ []) $ free1 ! $ move ! (29 ∷ 30 ∷ []) $ free1 ! $ move ! (27 ∷ 28 ∷ []) $ free1 ! $ move ! (25 ∷ 26 ∷ []) $ free1 ! $ move ! (23 ∷ 24 ∷ []) $ free1 ! $ move ! (21 ∷ 22 ∷ []) $ free1 ! $ move ! (19 ∷ 20 ∷ []) $ free1 ! $ move ! (17 ∷ 18 ∷ []) $ free1 ! $ move ! (15 ∷ 16 ∷ []) $ free1 ! $ move ! (13 ∷ 14 ∷ []) $ free1 ! $ move ! (11 ∷ 12 ∷ []) $ free1 ! $ move ! (9 ∷ 10 ∷ []) $ free1 ! $ move ! (7 ∷ 8 ∷ []) $ free1 ! $ move ! (5 ∷ 6 ∷ []) $ free1 ! $ free0 ! $
+        keep ! (0 ∷ 1 ∷ 2 ∷ 8 ∷ 7 ∷ 6 ∷ 4 ∷ 3 ∷ 5 ∷ []) $ by ! (exits (TurnAnswer.None 10) h (cards .now) (buffer .now) (turn-idle h eo (cards .now) (outgoing .now) (buffer .now) en fine is-ten) refl refl (EL.owes A4.the-type A4′.the-laws (TurnAnswer.None 10) ((refl, lit< tt), tt))))
         (λ is-less.
         skips ! $
-        exec ! C Λ (env-of body.locals (l₀ ∷ l₁ ∷ l₂ ∷ l₃ ∷ l₄ ∷ l₅ ∷ l₆ ∷ l₇ ∷ l₈ ∷ l₉ ∷ l₁₀ ∷ l₁₁ ∷ l₁₂ ∷ l₁₃ ∷ l₁₄ ∷ l₁₅ ∷ l₁₆ ∷ l₁₇ ∷ l₁₈ ∷ [])) (body.t-12) (atRet (env-of body.locals (l₀ ∷ l₁ ∷ l₂ ∷ l₃ ∷ l₄ ∷ l₅ ∷ l₆ ∷ l₇ ∷ l₈ ∷ l₉ ∷ l₁₀ ∷ l₁₁ ∷ l₁₂ ∷ l₁₃ ∷ l₁₄ ∷ l₁₅ ∷ l₁₆ ∷ l₁₇ ∷ l₁₈ ∷ [])) Post) $
+        exec ! C Λ (env-of body.locals (l₀ ∷ l₁ ∷ l₂ ∷ l₃ ∷ l₄ ∷ l₅ ∷ l₆ ∷ l₇ ∷ l₈ ∷ l₉ ∷ l₁₀ ∷ l₁₁ ∷ l₁₂ ∷ l₁₃ ∷ l₁₄ ∷ l₁₅ ∷ l₁₆ ∷ l₁₇ ∷ l₁₈ ∷ l₁₉ ∷ l₂₀ ∷ l₂₁ ∷ l₂₂ ∷ [])) (body.t-13) (atRet (env-of body.locals (l₀ ∷ l₁ ∷ l₂ ∷ l₃ ∷ l₄ ∷ l₅ ∷ l₆ ∷ l₇ ∷ l₈ ∷ l₉ ∷ l₁₀ ∷ l₁₁ ∷ l₁₂ ∷ l₁₃ ∷ l₁₄ ∷ l₁₅ ∷ l₁₆ ∷ l₁₇ ∷ l₁₈ ∷ l₁₉ ∷ l₂₀ ∷ l₂₁ ∷ l₂₂ ∷ [])) Post) $
         -- let passed = looks::passed_over(&*node);
-        assigns ! (addr ! (from ! (hop ! (look ! 38 refl) (stop !)))) (from ! (stop !)) (init ! 12 refl (tt, tt)) $
+        assigns ! (addr ! (from ! (hop ! (look ! 46 refl) (stop !)))) (from ! (stop !)) (init ! 16 refl (tt, tt)) $
         use1 W (‵ (cellAt fullShare (T.the-row .mir) (FT .val h ∷ []) b o)) (W .laws .at-raw fullShare T′.mir b o (FT .val h)) $ lent-shr ! tt FT fullShare h b o was (λ α3 δ3.
-        uses W (‵ (flft (α3 ∷ []) fullShare) ∷ ‵ (ShrRef (named 0) (α3 ∷ []) T.the-row .own (record { ptr = (b, o); name = δ3; now = h }) (vptr b o ∷ [])) ∷ []) (raw (C3 𝓤 H A at-mem run .pre (((α3 ∷ [], tt), (fullShare, tt), tt, ((record { ptr = (b, o); name = δ3; now = h }), tt), (vptr b o ∷ [], tt)), tt))) (goes-c3 α3 δ3 h (served-within h eo (outgoing .now) (buffer .now) en fine)) $
-        calls-at ! fm (C3 𝓤 H A at-mem run) known-c3 (((α3 ∷ [], tt), (fullShare, tt), tt, ((record { ptr = (b, o); name = δ3; now = h }), tt), (vptr b o ∷ [], tt)), tt) (and-then ! (load ! (from ! (stop !)) (look ! 13 refl)) (no-more !)) (λ v3.
+        uses W (‵ (flft (α3 ∷ []) fullShare) ∷ ‵ (ShrRef (named 0) (α3 ∷ []) T.the-row .own (record { ptr = (b, o); name = δ3; now = h }) (vptr b o ∷ [])) ∷ []) (raw (C3 𝓤 H A at-mem run .pre (((α3 ∷ [], tt), (fullShare, tt), tt, ((record { ptr = (b, o); name = δ3; now = h }), tt), (vptr b o ∷ [], tt)), tt))) (goes-c3 α3 δ3 h (served-within h eo (cards .now) (outgoing .now) (buffer .now) en fine)) $
+        calls-at ! fm (C3 𝓤 H A at-mem run) known-c3 (((α3 ∷ [], tt), (fullShare, tt), tt, ((record { ptr = (b, o); name = δ3; now = h }), tt), (vptr b o ∷ [], tt)), tt) (and-then ! (load ! (from ! (stop !)) (look ! 17 refl)) (no-more !)) (λ v3.
         use1 W (later (some (λ (p· : ℕ). ((‵ (flft (α3 ∷ []) fullShare) ⊛ ‵ ftrue) ⊛ ‵ (u8 .own p· (v3 ∷ []))) ⊛ raw (ensured 𝓤 H A c3.ended (c3.clauses 𝓤 H A at-mem run) (α3 ∷ [], tt) ((record { ptr = (b, o); name = δ3; now = h }), tt) tt p·)))) (id⊢ 𝓤 _) $ await ! tt $ pick ! (λ p·.
         split ! $ move ! (1 ∷ []) $ use1 W (raw (fact 𝓤 (p· ≡ passedOver h))) (exE 𝓤 _ (λ ws. snd∗ 𝓤 (sem 𝓤 H A (lasts c3.ended (α3 ∷ [], tt) ((record { ptr = (b, o); name = δ3; now = h }), tt) ws)) (fact 𝓤 (p· ≡ passedOver h)))) $ heard ! (p· ≡ passedOver h) (λ ep. split ! $ move ! (1 ∷ []) $ returned ! (uint w8) p· v3 (λ p-is.
-        land ! (from ! (stop !)) (init ! 25 refl ((uint w8) .lawful 𝓤 H A W .typed p· _ p-is .0)) $
+        land ! (from ! (stop !)) (init ! 31 refl ((uint w8) .lawful 𝓤 H A W .typed p· _ p-is .0)) $
         split ! $ move ! (1 ∷ []) $ drop ! $
         back-shr ! tt FT fullShare h b o (use1 W (‵ (fat fullShare T′.mir b o (FT .val h))) (W .laws .raw-at fullShare T′.mir b o (FT .val h)) $
         -- if rules::BERTH_COUNT <= passed {
-        assigns ! (bin ! (lit ! tt) (load ! (from ! (stop !)) (look ! 24 refl)) tt) (from ! (stop !)) (store ! 14 refl (tt, tt)) $
-        first ! $ branches ! (load ! (from ! (stop !)) (look ! 14 refl))
+        assigns ! (bin ! (lit ! tt) (load ! (from ! (stop !)) (look ! 30 refl)) tt) (from ! (stop !)) (store ! 18 refl (tt, tt)) $
+        first ! $ branches ! (load ! (from ! (stop !)) (look ! 18 refl))
         (λ is-all.
         -- return TurnAnswer::None(passed);
-        assigns ! (agg ! (and-then ! (lit ! tt) (and-then ! (load ! (from ! (stop !)) (look ! 24 refl)) (no-more !)))) (from ! (stop !)) (init ! 40 refl (F·A4 .lawful 𝓤 H A W .typed (TurnAnswer.None p·) _ (EL.owes A4.the-type A4′.the-laws (TurnAnswer.None p·) (p-is, tt)) .0)) $
-        move ! (42 ∷ []) $ given-up ! u8 buffer (buffer·v ∷ []) $
-        move ! (1 ∷ 2 ∷ 3 ∷ 4 ∷ []) $ use1 W (‵ (cellAt fullShare (T.the-row .mir) (FT .val h ∷ []) b o)) (W .laws .at-raw fullShare T′.mir b o (FT .val h)) $ closed ! tt FT h b o was $
-        returns-within ! Post refl (look ! 40 refl) $ forget ! 12 refl $ forget ! 14 refl $ forget ! 16 refl $ forget ! 18 refl $ forget ! 20 refl $ forget ! 24 refl $ forget ! 26 refl $ forget ! 28 refl $ forget ! 30 refl $ forget ! 32 refl $ forget ! 34 refl $ forget ! 36 refl $ forget ! 38 refl $ forget ! 40 refl $
-        move ! (40 ∷ 41 ∷ []) $ free1 ! $ move ! (38 ∷ 39 ∷ []) $ free1 ! $ move ! (36 ∷ 37 ∷ []) $ free1 ! $ move ! (34 ∷ 35 ∷ []) $ free1 ! $ move ! (32 ∷ 33 ∷ []) $ free1 ! $ move ! (30 ∷ 31 ∷ []) $ free1 ! $ move ! (28 ∷ 29 ∷ []) $ free1 ! $ move ! (26 ∷ 27 ∷ []) $ free1 ! $ move ! (24 ∷ 25 ∷ []) $ free1 ! $ move ! (22 ∷ 23 ∷ []) $ free1 ! $ move ! (20 ∷ 21 ∷ []) $ free1 ! $ move ! (18 ∷ 19 ∷ []) $ free1 ! $ move ! (16 ∷ 17 ∷ []) $ free1 ! $ move ! (14 ∷ 15 ∷ []) $ free1 ! $ move ! (12 ∷ 13 ∷ []) $ free1 ! $ move ! (10 ∷ 11 ∷ []) $ free1 ! $ move ! (8 ∷ 9 ∷ []) $ free1 ! $ move ! (6 ∷ 7 ∷ []) $ free1 ! $ move ! (4 ∷ 5 ∷ []) $ free1 ! $ free0 ! $
-        keep ! (0 ∷ 1 ∷ 2 ∷ 6 ∷ 5 ∷ 3 ∷ 4 ∷ []) $ by ! (exits (TurnAnswer.None p·) h (buffer .now) (turn-none h eo (outgoing .now) (buffer .now) en fine ep is-all) refl (EL.owes A4.the-type A4′.the-laws (TurnAnswer.None p·) (p-is, tt))))
+        assigns ! (agg ! (and-then ! (lit ! tt) (and-then ! (load ! (from ! (stop !)) (look ! 30 refl)) (no-more !)))) (from ! (stop !)) (init ! 48 refl (F·A4 .lawful 𝓤 H A W .typed (TurnAnswer.None p·) _ (EL.owes A4.the-type A4′.the-laws (TurnAnswer.None p·) (p-is, tt)) .0)) $
+        move ! (52 ∷ []) $ given-up ! Ca.the-row cards (cards·v ∷ []) $
+        move ! (51 ∷ []) $ given-up ! u8 buffer (buffer·v ∷ []) $
+        move ! (2 ∷ 3 ∷ 4 ∷ 5 ∷ []) $ use1 W (‵ (cellAt fullShare (T.the-row .mir) (FT .val h ∷ []) b o)) (W .laws .at-raw fullShare T′.mir b o (FT .val h)) $ closed ! tt FT h b o was $
+        returns-within ! Post refl (look ! 49 refl) $ forget ! 17 refl $ forget ! 19 refl $ forget ! 21 refl $ forget ! 23 refl $ forget ! 25 refl $ forget ! 27 refl $ forget ! 31 refl $ forget ! 33 refl $ forget ! 35 refl $ forget ! 37 refl $ forget ! 39 refl $ forget ! 41 refl $ forget ! 43 refl $ forget ! 45 refl $ forget ! 47 refl $ forget ! 49 refl $
+        move ! (49 ∷ 50 ∷ []) $ free1 ! $ move ! (47 ∷ 48 ∷ []) $ free1 ! $ move ! (45 ∷ 46 ∷ []) $ free1 ! $ move ! (43 ∷ 44 ∷ []) $ free1 ! $ move ! (41 ∷ 42 ∷ []) $ free1 ! $ move ! (39 ∷ 40 ∷ []) $ free1 ! $ move ! (37 ∷ 38 ∷ []) $ free1 ! $ move ! (35 ∷ 36 ∷ []) $ free1 ! $ move ! (33 ∷ 34 ∷ []) $ free1 ! $ move ! (31 ∷ 32 ∷ []) $ free1 ! $ move ! (29 ∷ 30 ∷ []) $ free1 ! $ move ! (27 ∷ 28 ∷ []) $ free1 ! $ move ! (25 ∷ 26 ∷ []) $ free1 ! $ move ! (23 ∷ 24 ∷ []) $ free1 ! $ move ! (21 ∷ 22 ∷ []) $ free1 ! $ move ! (19 ∷ 20 ∷ []) $ free1 ! $ move ! (17 ∷ 18 ∷ []) $ free1 ! $ move ! (15 ∷ 16 ∷ []) $ free1 ! $ move ! (13 ∷ 14 ∷ []) $ free1 ! $ move ! (11 ∷ 12 ∷ []) $ free1 ! $ move ! (9 ∷ 10 ∷ []) $ free1 ! $ move ! (7 ∷ 8 ∷ []) $ free1 ! $ move ! (5 ∷ 6 ∷ []) $ free1 ! $ free0 ! $
+        keep ! (0 ∷ 1 ∷ 2 ∷ 8 ∷ 7 ∷ 6 ∷ 4 ∷ 3 ∷ 5 ∷ []) $ by ! (exits (TurnAnswer.None p·) h (cards .now) (buffer .now) (turn-none h eo (cards .now) (outgoing .now) (buffer .now) en fine ep is-all) refl refl (EL.owes A4.the-type A4′.the-laws (TurnAnswer.None p·) (p-is, tt))))
         (λ is-few.
         skips ! $
-        exec ! C Λ (env-of body.locals (l₀ ∷ l₁ ∷ l₂ ∷ l₃ ∷ l₄ ∷ l₅ ∷ l₆ ∷ l₇ ∷ l₈ ∷ l₉ ∷ l₁₀ ∷ l₁₁ ∷ l₁₂ ∷ l₁₃ ∷ l₁₄ ∷ l₁₅ ∷ l₁₆ ∷ l₁₇ ∷ l₁₈ ∷ [])) (body.t-16) (atRet (env-of body.locals (l₀ ∷ l₁ ∷ l₂ ∷ l₃ ∷ l₄ ∷ l₅ ∷ l₆ ∷ l₇ ∷ l₈ ∷ l₉ ∷ l₁₀ ∷ l₁₁ ∷ l₁₂ ∷ l₁₃ ∷ l₁₄ ∷ l₁₅ ∷ l₁₆ ∷ l₁₇ ∷ l₁₈ ∷ [])) Post) $
+        exec ! C Λ (env-of body.locals (l₀ ∷ l₁ ∷ l₂ ∷ l₃ ∷ l₄ ∷ l₅ ∷ l₆ ∷ l₇ ∷ l₈ ∷ l₉ ∷ l₁₀ ∷ l₁₁ ∷ l₁₂ ∷ l₁₃ ∷ l₁₄ ∷ l₁₅ ∷ l₁₆ ∷ l₁₇ ∷ l₁₈ ∷ l₁₉ ∷ l₂₀ ∷ l₂₁ ∷ l₂₂ ∷ [])) (body.t-17) (atRet (env-of body.locals (l₀ ∷ l₁ ∷ l₂ ∷ l₃ ∷ l₄ ∷ l₅ ∷ l₆ ∷ l₇ ∷ l₈ ∷ l₉ ∷ l₁₀ ∷ l₁₁ ∷ l₁₂ ∷ l₁₃ ∷ l₁₄ ∷ l₁₅ ∷ l₁₆ ∷ l₁₇ ∷ l₁₈ ∷ l₁₉ ∷ l₂₀ ∷ l₂₁ ∷ l₂₂ ∷ [])) Post) $
         -- let at = looks::probe(node.served, passed);
-        assigns ! (of-opd ! (load ! (from ! (hop ! (look ! 38 refl) (fld ! {τ = tyInt w8} {d = 8} refl (stop !)))) (look-in ! 0 (sub ! 1 {τ = tyInt w8} {d = 8} refl (whole !))))) (from ! (stop !)) (init ! 10 refl ((uint w8) .lawful 𝓤 H A W .typed (h .served) _ (LL.owed T.the-type T′.the-laws h _ was .1 .0) .0)) $
+        assigns ! (of-opd ! (load ! (from ! (hop ! (look ! 46 refl) (fld ! {τ = tyInt w8} {d = 8} refl (stop !)))) (look-in ! 0 (sub ! 1 {τ = tyInt w8} {d = 8} refl (whole !))))) (from ! (stop !)) (init ! 14 refl ((uint w8) .lawful 𝓤 H A W .typed (h .served) _ (LL.owed T.the-type T′.the-laws h _ was .1 .0) .0)) $
         use0 W (raw (C4 𝓤 H A at-mem run .pre ((tt, tt, tt, ((h .served), (p·, tt)), ((uint w8) .val (h .served) ∷ [], ((uint w8) .val p· ∷ [], tt))), tt))) (goes-c4 (h .served) p· (LL.owed T.the-type T′.the-laws h _ was .1 .0) p-is) $
-        calls-at ! fm (C4 𝓤 H A at-mem run) known-c4 ((tt, tt, tt, ((h .served), (p·, tt)), ((uint w8) .val (h .served) ∷ [], ((uint w8) .val p· ∷ [], tt))), tt) (and-then ! (load ! (from ! (stop !)) (look ! 11 refl)) (and-then ! (load ! (from ! (stop !)) (look ! 25 refl)) (no-more !))) (λ v4.
+        calls-at ! fm (C4 𝓤 H A at-mem run) known-c4 ((tt, tt, tt, ((h .served), (p·, tt)), ((uint w8) .val (h .served) ∷ [], ((uint w8) .val p· ∷ [], tt))), tt) (and-then ! (load ! (from ! (stop !)) (look ! 15 refl)) (and-then ! (load ! (from ! (stop !)) (look ! 31 refl)) (no-more !))) (λ v4.
         use1 W (later (some (λ (j· : ℕ). ((‵ ftrue) ⊛ ‵ (usize .own j· (v4 ∷ []))) ⊛ raw (ensured 𝓤 H A c4.ended (c4.clauses 𝓤 H A at-mem run) tt ((h .served), (p·, tt)) tt j·)))) (id⊢ 𝓤 _) $ await ! tt $ pick ! (λ j·.
         split ! $ move ! (1 ∷ []) $ use1 W (raw (fact 𝓤 ((j· ≡ probeAt (h .served) p·) × (j· < berthCount)))) (exE 𝓤 _ (λ ws. snd∗ 𝓤 (sem 𝓤 H A (lasts c4.ended tt ((h .served), (p·, tt)) ws)) (fact 𝓤 ((j· ≡ probeAt (h .served) p·) × (j· < berthCount))))) $ heard ! ((j· ≡ probeAt (h .served) p·) × (j· < berthCount)) (λ ej. split ! $ move ! (1 ∷ []) $ returned ! (uint w64) j· v4 (λ j-is.
-        land ! (from ! (stop !)) (init ! 23 refl ((uint w64) .lawful 𝓤 H A W .typed j· _ j-is .0)) $
+        land ! (from ! (stop !)) (init ! 29 refl ((uint w64) .lawful 𝓤 H A W .typed j· _ j-is .0)) $
         drop ! $
-        -- hand_over(&mut *node, settings, at, passed, outgoing, buffer)
-        assigns ! (addr ! (from ! (hop ! (look ! 38 refl) (stop !)))) (from ! (stop !)) (init ! 8 refl (tt, tt)) $
-        assigns ! (addr ! (from ! (fld ! refl (hop ! (look-in ! 34 (sub ! 0 refl (whole !))) (stop !))))) (from ! (stop !)) (init ! 6 refl (tt, tt)) $
-        assigns ! (agg ! (and-then ! (load ! (from ! (stop !)) (look ! 6 refl)) (and-then ! (load ! (from ! (fld ! refl (stop !))) (look-in ! 34 (sub ! 1 refl (whole !)))) (no-more !)))) (from ! (stop !)) (init ! 4 refl (tt, (tt, (record { fits = buffer-is .0 .1 .0 }, tt)))) $
+        -- hand_over( &mut *node, &mut *cards, settings, at, passed, outgoing, buffer, )
+        assigns ! (addr ! (from ! (hop ! (look ! 46 refl) (stop !)))) (from ! (stop !)) (init ! 12 refl (tt, tt)) $
+        assigns ! (addr ! (from ! (fld ! refl (hop ! (look-in ! 44 (sub ! 0 refl (whole !))) (stop !))))) (from ! (stop !)) (init ! 10 refl (tt, tt)) $
+        assigns ! (agg ! (and-then ! (load ! (from ! (stop !)) (look ! 10 refl)) (and-then ! (load ! (from ! (fld ! refl (stop !))) (look-in ! 44 (sub ! 1 refl (whole !)))) (no-more !)))) (from ! (stop !)) (init ! 8 refl (tt, (tt, (record { fits = cards-is .0 .1 .0 }, tt)))) $
+        assigns ! (addr ! (from ! (fld ! refl (hop ! (look-in ! 40 (sub ! 0 refl (whole !))) (stop !))))) (from ! (stop !)) (init ! 6 refl (tt, tt)) $
+        assigns ! (agg ! (and-then ! (load ! (from ! (stop !)) (look ! 6 refl)) (and-then ! (load ! (from ! (fld ! refl (stop !))) (look-in ! 40 (sub ! 1 refl (whole !)))) (no-more !)))) (from ! (stop !)) (init ! 4 refl (tt, (tt, (record { fits = buffer-is .0 .1 .0 }, tt)))) $
         use1 W (‵ (cellAt fullShare (T.the-row .mir) (FT .val h ∷ []) b o)) (W .laws .at-raw fullShare T′.mir b o (FT .val h)) $ lent ! tt FT h b o was (λ α5 δ5.
-        move ! (45 ∷ []) $ use1 W (‵ outgoing·own ⊛ ‵ outgoing·own) (shr-slice-copy 𝓤 H A W (named 1) κ1 u8 .twice outgoing (outgoing·v ∷ [])) $ split ! $
-        move ! (2 ∷ 48 ∷ 47 ∷ 3 ∷ 0 ∷ 46 ∷ []) $ uses W (‵ (flft (α5 ∷ []) fullShare) ∷ ‵ (flft (κ1) q1) ∷ ‵ (flft (κ2) q2) ∷ ‵ (MutRef (named 0) (α5 ∷ []) T.the-row .own (record { ptr = (b, o); name = δ5; now = h }) (vptr b o ∷ [])) ∷ ‵ outgoing·own ∷ ‵ buffer·own ∷ []) (raw (C5 𝓤 H A at-mem run .pre (((α5 ∷ [], (κ1, (κ2, tt))), (fullShare, (q1, (q2, tt))), tt, ((record { ptr = (b, o); name = δ5; now = h }), ((h .settings), (j·, (p·, (outgoing, (buffer, tt)))))), (vptr b o ∷ [], (FG .val (h .settings) ∷ [], ((uint w64) .val j· ∷ [], ((uint w8) .val p· ∷ [], (outgoing·v ∷ [], (buffer·v ∷ [], tt))))))), tt))) (goes-c5 α5 δ5 h (h .settings) j· p· (LL.owed T.the-type T′.the-laws h _ was .0) j-is p-is (turning h eo (outgoing .now) (buffer .now) en fine ep is-few (ej .0))) $
-        calls-at ! fm (C5 𝓤 H A at-mem run) known-c5 (((α5 ∷ [], (κ1, (κ2, tt))), (fullShare, (q1, (q2, tt))), tt, ((record { ptr = (b, o); name = δ5; now = h }), ((h .settings), (j·, (p·, (outgoing, (buffer, tt)))))), (vptr b o ∷ [], (FG .val (h .settings) ∷ [], ((uint w64) .val j· ∷ [], ((uint w8) .val p· ∷ [], (outgoing·v ∷ [], (buffer·v ∷ [], tt))))))), tt) (and-then ! (load ! (from ! (stop !)) (look ! 10 refl)) (and-then ! (load ! (from ! (stop !)) (look ! 30 refl)) (and-then ! (load ! (from ! (stop !)) (look ! 24 refl)) (and-then ! (load ! (from ! (stop !)) (look ! 26 refl)) (and-then ! (load ! (from ! (stop !)) (look ! 38 refl)) (and-then ! (load ! (from ! (stop !)) (look ! 6 refl)) (no-more !))))))) (λ v5.
-        use1 W (later (some (λ (r· : TurnAnswer). ((‵ (flft (α5 ∷ []) fullShare) ⊛ ‵ (flft (κ1) q1) ⊛ ‵ (flft (κ2) q2) ⊛ ‵ ftrue) ⊛ ‵ ((F·A4 .row) .own r· (v5 ∷ []))) ⊛ raw (ensured 𝓤 H A c5.ended (c5.clauses 𝓤 H A at-mem run) (α5 ∷ [], (κ1, (κ2, tt))) ((record { ptr = (b, o); name = δ5; now = h }), ((h .settings), (j·, (p·, (outgoing, (buffer, tt)))))) tt r·)))) (id⊢ 𝓤 _) $ await ! tt $ pick ! (λ r·.
-        split ! $ move ! (1 ∷ []) $ use1 W (some (λ (zs5 : Lasts c5.ended (α5 ∷ [], (κ1, (κ2, tt))) ((record { ptr = (b, o); name = δ5; now = h }), ((h .settings), (j·, (p·, (outgoing, (buffer, tt))))))). ‵ (lasts c5.ended (α5 ∷ [], (κ1, (κ2, tt))) ((record { ptr = (b, o); name = δ5; now = h }), ((h .settings), (j·, (p·, (outgoing, (buffer, tt)))))) zs5) ⊛ raw (fact 𝓤 (TurnPromise h (outgoing .now) (buffer .now) r· (zs5 .0) (zs5 .1 .1 .1 .1 .1 .0))))) (id⊢ 𝓤 _) $ pick ! (λ zs5.
-        split ! $ move ! (1 ∷ []) $ heard ! (TurnPromise h (outgoing .now) (buffer .now) r· (zs5 .0) (zs5 .1 .1 .1 .1 .1 .0)) (λ er.
-        fsplit ! $ move ! (1 ∷ []) $ fsplit ! $ drop ! $ fsplit ! $ drop ! $ fsplit ! $ drop ! $ fsplit ! $ drop ! $ fsplit ! $ fsplit ! $ move ! (1 ∷ []) $ feqL ! (λ buffer-len. move ! (1 ∷ []) $ drop ! $
-        move ! (2 ∷ []) $ split ! $ move ! (1 ∷ []) $ returned ! F·A4 r· v5 (λ r-is.
-        land ! (from ! (stop !)) (init ! 44 refl (F·A4 .lawful 𝓤 H A W .typed r· _ r-is .0)) $
-        split ! $ move ! (1 ∷ []) $ split ! $ move ! (1 ∷ []) $ split ! $ move ! (1 ∷ []) $ drop ! $
-        move ! (2 ∷ 6 ∷ 4 ∷ []) $ back ! tt FT (zs5 .0) b o (λ was5. use1 W (‵ (fat fullShare T′.mir b o (FT .val (zs5 .0)))) (W .laws .raw-at fullShare T′.mir b o (FT .val (zs5 .0))) $
-        move ! (0 ∷ 5 ∷ 6 ∷ 7 ∷ []) $ use1 W (‵ (cellAt fullShare (T.the-row .mir) (FT .val (zs5 .0) ∷ []) b o)) (W .laws .at-raw fullShare T′.mir b o (FT .val (zs5 .0))) $ closed ! tt FT (zs5 .0) b o was5 $
-        returns ! (look ! 43 refl) $ forget ! 7 refl $ forget ! 9 refl $ forget ! 11 refl $ forget ! 13 refl $ forget ! 15 refl $ forget ! 17 refl $ forget ! 19 refl $ forget ! 21 refl $ forget ! 23 refl $ forget ! 25 refl $ forget ! 27 refl $ forget ! 29 refl $ forget ! 31 refl $ forget ! 33 refl $ forget ! 35 refl $ forget ! 37 refl $ forget ! 39 refl $ forget ! 41 refl $ forget ! 43 refl $
-        move ! (43 ∷ 44 ∷ []) $ free1 ! $ move ! (41 ∷ 42 ∷ []) $ free1 ! $ move ! (39 ∷ 40 ∷ []) $ free1 ! $ move ! (37 ∷ 38 ∷ []) $ free1 ! $ move ! (35 ∷ 36 ∷ []) $ free1 ! $ move ! (33 ∷ 34 ∷ []) $ free1 ! $ move ! (31 ∷ 32 ∷ []) $ free1 ! $ move ! (29 ∷ 30 ∷ []) $ free1 ! $ move ! (27 ∷ 28 ∷ []) $ free1 ! $ move ! (25 ∷ 26 ∷ []) $ free1 ! $ move ! (23 ∷ 24 ∷ []) $ free1 ! $ move ! (21 ∷ 22 ∷ []) $ free1 ! $ move ! (19 ∷ 20 ∷ []) $ free1 ! $ move ! (17 ∷ 18 ∷ []) $ free1 ! $ move ! (15 ∷ 16 ∷ []) $ free1 ! $ move ! (13 ∷ 14 ∷ []) $ free1 ! $ move ! (11 ∷ 12 ∷ []) $ free1 ! $ move ! (9 ∷ 10 ∷ []) $ free1 ! $ move ! (7 ∷ 8 ∷ []) $ free1 ! $ free0 ! $
-        keep ! (0 ∷ 1 ∷ 2 ∷ 4 ∷ 3 ∷ 5 ∷ 6 ∷ []) $ by ! (exits r· (zs5 .0) (zs5 .1 .1 .1 .1 .1 .0) (er) buffer-len r-is))))))))))))))))))))))))))))))))))))))))))))))))))))
+        move ! (53 ∷ []) $ use1 W (‵ outgoing·own ⊛ ‵ outgoing·own) (shr-slice-copy 𝓤 H A W (named 2) κ2 u8 .twice outgoing (outgoing·v ∷ [])) $ split ! $
+        move ! (2 ∷ 58 ∷ 57 ∷ 56 ∷ 3 ∷ 55 ∷ 0 ∷ 54 ∷ []) $ uses W (‵ (flft (α5 ∷ []) fullShare) ∷ ‵ (flft (κ1) q1) ∷ ‵ (flft (κ2) q2) ∷ ‵ (flft (κ3) q3) ∷ ‵ (MutRef (named 0) (α5 ∷ []) T.the-row .own (record { ptr = (b, o); name = δ5; now = h }) (vptr b o ∷ [])) ∷ ‵ cards·own ∷ ‵ outgoing·own ∷ ‵ buffer·own ∷ []) (raw (C5 𝓤 H A at-mem run .pre (((α5 ∷ [], (κ1, (κ2, (κ3, tt)))), (fullShare, (q1, (q2, (q3, tt)))), tt, ((record { ptr = (b, o); name = δ5; now = h }), (cards, ((h .settings), (j·, (p·, (outgoing, (buffer, tt))))))), (vptr b o ∷ [], (cards·v ∷ [], (FG .val (h .settings) ∷ [], ((uint w64) .val j· ∷ [], ((uint w8) .val p· ∷ [], (outgoing·v ∷ [], (buffer·v ∷ [], tt)))))))), tt))) (goes-c5 α5 δ5 h (h .settings) j· p· (LL.owed T.the-type T′.the-laws h _ was .0) j-is p-is (turning h eo (cards .now) (outgoing .now) (buffer .now) en fine ep is-few (ej .0))) $
+        calls-at ! fm (C5 𝓤 H A at-mem run) known-c5 (((α5 ∷ [], (κ1, (κ2, (κ3, tt)))), (fullShare, (q1, (q2, (q3, tt)))), tt, ((record { ptr = (b, o); name = δ5; now = h }), (cards, ((h .settings), (j·, (p·, (outgoing, (buffer, tt))))))), (vptr b o ∷ [], (cards·v ∷ [], (FG .val (h .settings) ∷ [], ((uint w64) .val j· ∷ [], ((uint w8) .val p· ∷ [], (outgoing·v ∷ [], (buffer·v ∷ [], tt)))))))), tt) (and-then ! (load ! (from ! (stop !)) (look ! 14 refl)) (and-then ! (load ! (from ! (stop !)) (look ! 10 refl)) (and-then ! (load ! (from ! (stop !)) (look ! 36 refl)) (and-then ! (load ! (from ! (stop !)) (look ! 30 refl)) (and-then ! (load ! (from ! (stop !)) (look ! 32 refl)) (and-then ! (load ! (from ! (stop !)) (look ! 44 refl)) (and-then ! (load ! (from ! (stop !)) (look ! 6 refl)) (no-more !)))))))) (λ v5.
+        use1 W (later (some (λ (r· : TurnAnswer). ((‵ (flft (α5 ∷ []) fullShare) ⊛ ‵ (flft (κ1) q1) ⊛ ‵ (flft (κ2) q2) ⊛ ‵ (flft (κ3) q3) ⊛ ‵ ftrue) ⊛ ‵ ((F·A4 .row) .own r· (v5 ∷ []))) ⊛ raw (ensured 𝓤 H A c5.ended (c5.clauses 𝓤 H A at-mem run) (α5 ∷ [], (κ1, (κ2, (κ3, tt)))) ((record { ptr = (b, o); name = δ5; now = h }), (cards, ((h .settings), (j·, (p·, (outgoing, (buffer, tt))))))) tt r·)))) (id⊢ 𝓤 _) $ await ! tt $ pick ! (λ r·.
+        split ! $ move ! (1 ∷ []) $ use1 W (some (λ (zs5 : Lasts c5.ended (α5 ∷ [], (κ1, (κ2, (κ3, tt)))) ((record { ptr = (b, o); name = δ5; now = h }), (cards, ((h .settings), (j·, (p·, (outgoing, (buffer, tt)))))))). ‵ (lasts c5.ended (α5 ∷ [], (κ1, (κ2, (κ3, tt)))) ((record { ptr = (b, o); name = δ5; now = h }), (cards, ((h .settings), (j·, (p·, (outgoing, (buffer, tt))))))) zs5) ⊛ raw (fact 𝓤 (TurnPromise h (cards .now) (outgoing .now) (buffer .now) r· (zs5 .0) (zs5 .1 .0) (zs5 .1 .1 .1 .1 .1 .1 .0))))) (id⊢ 𝓤 _) $ pick ! (λ zs5.
+        split ! $ move ! (1 ∷ []) $ heard ! (TurnPromise h (cards .now) (outgoing .now) (buffer .now) r· (zs5 .0) (zs5 .1 .0) (zs5 .1 .1 .1 .1 .1 .1 .0)) (λ er.
+        fsplit ! $ move ! (1 ∷ []) $ fsplit ! $ fsplit ! $ move ! (1 ∷ []) $ feqL ! (λ cards-len. move ! (1 ∷ []) $ fsplit ! $ drop ! $ fsplit ! $ drop ! $ fsplit ! $ drop ! $ fsplit ! $ drop ! $ fsplit ! $ fsplit ! $ move ! (1 ∷ []) $ feqL ! (λ buffer-len. move ! (1 ∷ []) $ drop ! $
+        move ! (3 ∷ []) $ split ! $ move ! (1 ∷ []) $ returned ! F·A4 r· v5 (λ r-is.
+        land ! (from ! (stop !)) (init ! 53 refl (F·A4 .lawful 𝓤 H A W .typed r· _ r-is .0)) $
+        split ! $ move ! (1 ∷ []) $ split ! $ move ! (1 ∷ []) $ split ! $ move ! (1 ∷ []) $ split ! $ move ! (1 ∷ []) $ drop ! $
+        move ! (3 ∷ 8 ∷ 6 ∷ []) $ back ! tt FT (zs5 .0) b o (λ was5. use1 W (‵ (fat fullShare T′.mir b o (FT .val (zs5 .0)))) (W .laws .raw-at fullShare T′.mir b o (FT .val (zs5 .0))) $
+        move ! (0 ∷ 7 ∷ 8 ∷ 9 ∷ []) $ use1 W (‵ (cellAt fullShare (T.the-row .mir) (FT .val (zs5 .0) ∷ []) b o)) (W .laws .at-raw fullShare T′.mir b o (FT .val (zs5 .0))) $ closed ! tt FT (zs5 .0) b o was5 $
+        returns ! (look ! 53 refl) $ forget ! 9 refl $ forget ! 11 refl $ forget ! 13 refl $ forget ! 15 refl $ forget ! 17 refl $ forget ! 19 refl $ forget ! 21 refl $ forget ! 23 refl $ forget ! 25 refl $ forget ! 27 refl $ forget ! 29 refl $ forget ! 31 refl $ forget ! 33 refl $ forget ! 35 refl $ forget ! 37 refl $ forget ! 39 refl $ forget ! 41 refl $ forget ! 43 refl $ forget ! 45 refl $ forget ! 47 refl $ forget ! 49 refl $ forget ! 51 refl $ forget ! 53 refl $
+        move ! (53 ∷ 54 ∷ []) $ free1 ! $ move ! (51 ∷ 52 ∷ []) $ free1 ! $ move ! (49 ∷ 50 ∷ []) $ free1 ! $ move ! (47 ∷ 48 ∷ []) $ free1 ! $ move ! (45 ∷ 46 ∷ []) $ free1 ! $ move ! (43 ∷ 44 ∷ []) $ free1 ! $ move ! (41 ∷ 42 ∷ []) $ free1 ! $ move ! (39 ∷ 40 ∷ []) $ free1 ! $ move ! (37 ∷ 38 ∷ []) $ free1 ! $ move ! (35 ∷ 36 ∷ []) $ free1 ! $ move ! (33 ∷ 34 ∷ []) $ free1 ! $ move ! (31 ∷ 32 ∷ []) $ free1 ! $ move ! (29 ∷ 30 ∷ []) $ free1 ! $ move ! (27 ∷ 28 ∷ []) $ free1 ! $ move ! (25 ∷ 26 ∷ []) $ free1 ! $ move ! (23 ∷ 24 ∷ []) $ free1 ! $ move ! (21 ∷ 22 ∷ []) $ free1 ! $ move ! (19 ∷ 20 ∷ []) $ free1 ! $ move ! (17 ∷ 18 ∷ []) $ free1 ! $ move ! (15 ∷ 16 ∷ []) $ free1 ! $ move ! (13 ∷ 14 ∷ []) $ free1 ! $ move ! (11 ∷ 12 ∷ []) $ free1 ! $ move ! (9 ∷ 10 ∷ []) $ free1 ! $ free0 ! $
+        keep ! (0 ∷ 1 ∷ 2 ∷ 5 ∷ 4 ∷ 3 ∷ 7 ∷ 6 ∷ 8 ∷ []) $ by ! (exits r· (zs5 .0) (zs5 .1 .0) (zs5 .1 .1 .1 .1 .1 .1 .0) (er) cards-len buffer-len r-is)))))))))))))))))))))))))))))))))))))))))))))))))))))))))
 
 module _ {M : Type 1} (𝓤 : URA M) (H : Heap 𝓤) (A : Atoms 𝓤) (W : Given 𝓤 H A) (at-mem : Memory → SProp 𝓤) (run : Routine → Fun 𝓤) where
   walks : (𝓣 : Tables 𝓤 H) → FmC 𝓤 H (W .laws) (𝓣 .C) → Triple 𝓤 (𝓣 .C #c1) (C1 𝓤 H A at-mem run) → Triple 𝓤 (𝓣 .C #c2) (C2 𝓤 H A at-mem run) → Triple 𝓤 (𝓣 .C #c3) (C3 𝓤 H A at-mem run) → Triple 𝓤 (𝓣 .C #c4) (C4 𝓤 H A at-mem run) → Triple 𝓤 (𝓣 .C #c5) (C5 𝓤 H A at-mem run) → Walks 𝓤 H A self.ended stayed (WpFn 𝓤 H (𝓣 .C) (𝓣 .Λ) code.function) (self.clauses 𝓤 H A at-mem run)
-  walks 𝓣 fm known-c1 known-c2 known-c3 known-c4 known-c5 = walked 𝓤 H A self.ended stayed (self.clauses 𝓤 H A at-mem run) (WpFn 𝓤 H (𝓣 .C) (𝓣 .Λ) code.function) (λ κs. (ptr-vals, (slice-vals, (slice-vals, tt)))) (λ κs. (mut-tells (named 0) (κs .0) T.the-row, (shr-slice-tells (named 1) (κs .1 .0) u8, (mut-slice-tells (named 2) (κs .1 .1 .0) u8, tt))))
-      (λ κs qs bounds a _ are. via 𝓤 _ (fst∗ 𝓤 _ (emp 𝓤)) (walk 𝓤 H A W at-mem run (κs .0) (κs .1 .0) (κs .1 .1 .0) (qs .0) (qs .1 .0) (qs .1 .1 .0) (a .0 .ptr .0) (a .0 .ptr .1) (a .0 .name) (a .0 .now) (a .1 .0) (a .1 .1 .0) (are .1 .0) (are .1 .1 .0) 𝓣 fm known-c1 known-c2 known-c3 known-c4 known-c5))
+  walks 𝓣 fm known-c1 known-c2 known-c3 known-c4 known-c5 = walked 𝓤 H A self.ended stayed (self.clauses 𝓤 H A at-mem run) (WpFn 𝓤 H (𝓣 .C) (𝓣 .Λ) code.function) (λ κs. (ptr-vals, (slice-vals, (slice-vals, (slice-vals, tt))))) (λ κs. (mut-tells (named 0) (κs .0) T.the-row, (mut-slice-tells (named 1) (κs .1 .0) Ca.the-row, (shr-slice-tells (named 2) (κs .1 .1 .0) u8, (mut-slice-tells (named 3) (κs .1 .1 .1 .0) u8, tt)))))
+      (λ κs qs bounds a _ are. via 𝓤 _ (fst∗ 𝓤 _ (emp 𝓤)) (walk 𝓤 H A W at-mem run (κs .0) (κs .1 .0) (κs .1 .1 .0) (κs .1 .1 .1 .0) (qs .0) (qs .1 .0) (qs .1 .1 .0) (qs .1 .1 .1 .0) (a .0 .ptr .0) (a .0 .ptr .1) (a .0 .name) (a .0 .now) (a .1 .0) (a .1 .1 .0) (a .1 .1 .1 .0) (are .1 .0) (are .1 .1 .0) (are .1 .1 .1 .0) 𝓣 fm known-c1 known-c2 known-c3 known-c4 known-c5))
 
 meets : {M : Type 1} (𝓤 : URA M) (H : Heap 𝓤) (A : Atoms 𝓤) → Given 𝓤 H A → (at-mem : Memory → SProp 𝓤) (run : Routine → Fun 𝓤) (𝓣 : Tables 𝓤 H) → Triple 𝓤 (𝓣 .C #c1) (C1 𝓤 H A at-mem run) → Triple 𝓤 (𝓣 .C #c2) (C2 𝓤 H A at-mem run) → Triple 𝓤 (𝓣 .C #c3) (C3 𝓤 H A at-mem run) → Triple 𝓤 (𝓣 .C #c4) (C4 𝓤 H A at-mem run) → Triple 𝓤 (𝓣 .C #c5) (C5 𝓤 H A at-mem run) → Meets 𝓤 H A self.signature (WpFn 𝓤 H (𝓣 .C) (𝓣 .Λ) code.function) (self.spec 𝓤 H A at-mem run)
-meets 𝓤 H A W at-mem run 𝓣 known-c1 known-c2 known-c3 known-c4 known-c5 = walk-meets 𝓤 H A self.ended stayed W (goes-ref 𝓤 H A W 3 0 tt (plain (λ _. T.the-row)), (goes-none-slice 𝓤 H A W 3 (1 ∷ []) tt (plain (λ _. u8)) yes, (goes-gave-slice 𝓤 H A W 3 2 tt (plain (λ _. u8)), tt))) (self.clauses 𝓤 H A at-mem run) (WpFn 𝓤 H (𝓣 .C) (𝓣 .Λ) code.function) (WpFn-mono 𝓤 H (W .laws) 𝓣 code.function)
+meets 𝓤 H A W at-mem run 𝓣 known-c1 known-c2 known-c3 known-c4 known-c5 = walk-meets 𝓤 H A self.ended stayed W (goes-ref 𝓤 H A W 4 0 tt (plain (λ _. T.the-row)), (goes-gave-slice 𝓤 H A W 4 1 tt (plain (λ _. Ca.the-row)), (goes-none-slice 𝓤 H A W 4 (2 ∷ []) tt (plain (λ _. u8)) yes, (goes-gave-slice 𝓤 H A W 4 3 tt (plain (λ _. u8)), tt)))) (self.clauses 𝓤 H A at-mem run) (WpFn 𝓤 H (𝓣 .C) (𝓣 .Λ) code.function) (WpFn-mono 𝓤 H (W .laws) 𝓣 code.function)
     (walks 𝓤 H A W at-mem run 𝓣 (fmOf 𝓤 H (W .laws) 𝓣) known-c1 known-c2 known-c3 known-c4 known-c5)
 
 pub turn-spec : {M : Type 1} → stated.statement M

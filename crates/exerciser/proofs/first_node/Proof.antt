@@ -20,7 +20,7 @@ set-up-requires c κs = search needs
 
 returns : tie.Need-returns
 unfolding firstNode setUpNode setUpOutcome setUpRefusal settingsAllowed firstUnmet all
-returns c = ap (λ o. o .held .node) (same (c .before .set-up .ensures [] []))
+returns c = ap (λ o. o .held .node) (same (c .before .set-up .ensures [] [] []))
 
 pub first-node-spec : {M : Type 1} → statement M
 first-node-spec = tie.close (tie.spec blank-requires set-up-requires returns)

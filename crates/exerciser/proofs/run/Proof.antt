@@ -7,11 +7,11 @@ use Rattle.exerciser.proofs.run.Statement.{statement}
 use Rattle.exerciser.proofs.run.Tie as tie
 
 abbrev Inv-loop : tie.InvT-loop
-Inv-loop input₀ incoming₀ outgoing₀ output₀ progress₀ turns₀ input incoming outgoing output progress turns =
+Inv-loop lines input₀ incoming₀ outgoing₀ output₀ progress₀ turns₀ input incoming outgoing output progress turns =
     (length input ≡ length input₀) × (length incoming ≡ length incoming₀) × (length outgoing ≡ length outgoing₀) × (length output ≡ length output₀)
 
 abbrev μ-loop : tie.MeasureT-loop
-μ-loop input₀ incoming₀ outgoing₀ output₀ progress₀ turns₀ input incoming outgoing output progress turns = turns
+μ-loop lines input₀ incoming₀ outgoing₀ output₀ progress₀ turns₀ input incoming outgoing output progress turns = turns
 
 first-requires : tie.Need-first-requires Inv-loop μ-loop
 first-requires c κs = tt
@@ -39,20 +39,20 @@ loop-again c =
     let inv = r .before .before .before .before .before .before .before .loop .inv in
     (k .1 .0 ∙ inv .0, k .1 .1 .0 ∙ inv .1, k .1 .1 .1 .0 ∙ inv .2, k .1 .1 .1 .1 .0 ∙ inv .3)
 
-flush-requires : tie.Need-flush-requires Inv-loop μ-loop
-flush-requires c κs = tt
+close-requires : tie.Need-close-requires Inv-loop μ-loop
+close-requires c κs = tt
 
 same-length : tie.Need-same-length Inv-loop μ-loop
-same-length c = c .before .before .before .before .loop .inv .0
+same-length c = c .before .before .before .before .before .loop .inv .0
 
 same-length-2 : tie.Need-same-length-2 Inv-loop μ-loop
-same-length-2 c = c .before .before .before .before .loop .inv .1
+same-length-2 c = c .before .before .before .before .before .loop .inv .1
 
 same-length-3 : tie.Need-same-length-3 Inv-loop μ-loop
-same-length-3 c = c .before .before .before .before .loop .inv .2
+same-length-3 c = c .before .before .before .before .before .loop .inv .2
 
 same-length-4 : tie.Need-same-length-4 Inv-loop μ-loop
-same-length-4 c = c .before .before .before .before .loop .inv .3
+same-length-4 c = c .before .before .close .kept .1 .1 .0 ∙ c .before .before .before .before .before .loop .inv .3
 
 returns : tie.Need-returns Inv-loop μ-loop
 returns c = tt
@@ -69,7 +69,7 @@ run-spec =
     sub-turns
     loop-less
     loop-again
-    flush-requires
+    close-requires
     same-length
     same-length-2
     same-length-3

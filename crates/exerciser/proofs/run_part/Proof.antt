@@ -25,7 +25,7 @@ same-length-3 c = search needs
 returns : tie.Need-returns
 returns c =
     let k = c .before .before .before .before .before .before .before .before in
-    let p = k .before .before .before .before .step .ensures in
+    let p = k .before .before .before .before .before .step .ensures in
     let s = c .before .before .say .ensures in
     record {
       leaves = p .leaves;

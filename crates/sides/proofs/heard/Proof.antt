@@ -15,7 +15,7 @@ use Rattle.sides.proofs.heard.Statement.{statement}
 use Rattle.sides.proofs.heard.Tie as tie
 
 met : (s : tie.Start) → let a = s .args in Hearable (a .settings) (a .at) (a .rx) (a .last) (now (a .incoming))
-met s = hearable (s .pre .1 .1)
+met s = hearable (s .pre .1 .1 .1)
 
 abbrev start : tie.Then1 → tie.Start
 start c = c .before .before .before .before .before
@@ -25,7 +25,7 @@ unfolding inside
 fits c = leb-yes (yes-of (sym (c .before .inside .ensures) ∙ c .if1 .taken))
 
 rx-came-requires : tie.Need-rx-came-requires
-rx-came-requires c κs = (c .before .before .pre .1 .1 .some, met (c .before .before) .range)
+rx-came-requires c κs = (c .before .before .pre .1 .1 .1 .some, met (c .before .before) .range)
 
 inside-requires : tie.Need-inside-requires
 inside-requires c κs = search needs
@@ -68,10 +68,10 @@ returns c = let known = c .before .before .before .before .before in
     let part : lo + a .settings .area - lo ≡ a .settings .area = omega arith in
     let count = counted (came .result) d (came .ensures .within) in
     let put = put-in-part (now (a .incoming)) lo (a .settings .area) (take (came .result .count) (drop (came .result .from) d)) (omega (arith, known .area-start .ensures, met (start t) .store)) (came .result .place) (omega (arith, fits t)) in
-    λ n id h. stores h (came .result) (came .ensures) (sym (t .before .inside .ensures) ∙ t .if1 .taken) _ (rw (c .before .before .keep .ensures, known .area-start .ensures .0, part) put)
+    λ n cards id h. stores h (came .result) (came .ensures) (sym (t .before .inside .ensures) ∙ t .if1 .taken) _ (rw (c .before .before .keep .ensures, known .area-start .ensures .0, part) put)
 
 returns-2 : tie.Need-returns-2
-returns-2 c = λ n id h. outside h (c .before .before .rx-came .result) (c .before .before .rx-came .ensures) (sym (c .before .inside .ensures) ∙ c .if1 .left)
+returns-2 c = λ n cards id h. outside h (c .before .before .rx-came .result) (c .before .before .rx-came .ensures) (sym (c .before .inside .ensures) ∙ c .if1 .left)
 
 pub heard-spec : {M : Type 1} → statement M
 heard-spec =

@@ -13,10 +13,10 @@ use Rattle.sides.proofs.message_handed.Statement.{statement}
 use Rattle.sides.proofs.message_handed.Tie as tie
 
 met : (s : tie.Start) → let a = s .args in Ready (s .pre .0) (a .settings) (a .at) (now (a .outgoing)) (now (a .buffer))
-met s = ready (s .pre .1)
+met s = ready (s .pre .1 .1)
 
 range : (s : tie.Start) → TxRange (s .args .settings) (s .args .tx)
-range s = message-range (s .pre .1) (s .args .tx) (s .pre .2) (s .pre .3)
+range s = message-range (s .pre .1 .1) (s .args .tx) (s .pre .1 .2) (s .pre .1 .3)
 
 -- where the frame was lent, and where the call began
 abbrev start : tie.After-message-frame-arg2 → tie.Start
@@ -49,7 +49,7 @@ slice-aggregate-message-frame c = simp length-take (omega (arith, met (start c) 
 message-frame-requires : tie.Need-message-frame-requires
 message-frame-requires c κs = let s = start c in
     let m = met s in (
-      message-due (s .pre .1) (s .args .tx) (s .pre .2) (s .pre .3),
+      message-due (s .pre .1 .1) (s .args .tx) (s .pre .1 .2) (s .pre .1 .3),
       range s,
       m .most,
       m .least,
@@ -78,7 +78,7 @@ returns c = let laid = c .before .before .before .before .before in
     let part : lo + a .settings .area - lo ≡ a .settings .area = omega arith in
     let eight : length (laid .message-frame .last .1 .1 .1 .0) ≡ frameSize = laid .message-frame .kept .1 .1 .1 .0 ∙ simp length-take (omega (arith, met s .room)) in
     let frame = rw (laid .before .before .before .before .area-start .ensures .0, part) at (laid .message-frame .ensures) in
-    λ n none side t. message-hands t (a .tx) none side (c .before .before .after-message .result) (c .before .before .after-message .ensures) (c .before .message-code .result) (c .before .message-code .ensures) _ frame eight (c .handed-over .result) (c .handed-over .ensures)
+    λ n cards none side t. message-hands t (a .tx) none side (c .before .before .after-message .result) (c .before .before .after-message .ensures) (c .before .message-code .result) (c .before .message-code .ensures) _ frame eight (c .handed-over .result) (c .handed-over .ensures)
 
 pub message-handed-spec : {M : Type 1} → statement M
 message-handed-spec =

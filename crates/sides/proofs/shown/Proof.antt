@@ -3,12 +3,14 @@ use Prim.Native.Nat.{_*_, _≤_}
 use native.Mathlib.Omega.{arith}
 use mathlib.Core.Path.{_≡_, sym, _∙_}
 use mathlib.Core.Bool.{true}
+use mathlib.Core.List.{List}
 use lib.ListN.{length}
 use denote.Ref.{now}
 use Rattle.rules.specs.Numbers.{berthCount}
 use Rattle.rules.specs.Calls.{showable}
 use Rattle.rules.specs.declared.Choice.{Choice}
 use Rattle.rules.specs.declared.Node.{Node}
+use Rattle.rules.specs.declared.Card.{Card}
 use Rattle.node.specs.Promises.{lent}
 use Rattle.node.proofs.Shows.{shows-none}
 use Rattle.sides.specs.Parts.{Showing}
@@ -25,9 +27,9 @@ abbrev Of : tie.Start → Node → Type 0
 Of s n = let a = s .args in Showing n (a .ordered) (a .area) (a .at) (a .last) (a .tx) (a .berth)
 
 yes : (c : tie.After-length-shown) (n : Node) → Of (start c) n → let a = start c .args in
-    showable (lent n (now (a .incoming)) (now (a .outgoing))) (a .berth) ≡ true
-yes c n o = let a = start c .args in
-    sym (found o (now (a .incoming)) (now (a .outgoing))) ∙ sym (c .before .before .before .showable .ensures) ∙ c .before .before .if1 .taken
+    (cards : List Card) → showable (lent n cards (now (a .incoming)) (now (a .outgoing))) (a .berth) ≡ true
+yes c n o cards = let a = start c .args in
+    sym (found o (now (a .incoming)) (now (a .outgoing)) cards) ∙ sym (c .before .before .before .showable .ensures) ∙ c .before .before .if1 .taken
 
 met : (c : tie.After-length-shown) → let a = start c .args in
     (c .length-shown .result ≤ a .area) × (length (now (a .incoming)) ≡ berthCount * a .area) × (length (now (a .outgoing)) ≡ berthCount * a .area)
@@ -89,7 +91,7 @@ slice-aggregate-result c = search needs
 returns-3 : tie.Need-returns-3
 returns-3 c = let a = c .before .before .before .before .before .args in
     λ n o. shows-none n (now (a .incoming)) (now (a .outgoing)) (a .berth) (a .incoming .ptr) (a .outgoing .ptr) (a .choice)
-    (sym (found o (now (a .incoming)) (now (a .outgoing))) ∙ sym (c .before .before .showable .ensures) ∙ c .before .if1 .left)
+    (λ cards. sym (found o (now (a .incoming)) (now (a .outgoing)) cards) ∙ sym (c .before .before .showable .ensures) ∙ c .before .if1 .left)
 
 pub shown-spec : {M : Type 1} → statement M
 shown-spec =

@@ -43,11 +43,12 @@ use Rattle.looks.proofs.Lent.{Flat, struct, uint, opened, closed, lent, back, r
 use Rattle.looks.proofs.Ten.{FT, ten-length}
 use Rattle.berths.specs.Ticks.{ReceiveTicked, SendTicked}
 use Rattle.berths.proofs.OneTick.{both}
-use Rattle.rules.specs.Ticks.{codesOf, ticked}
+use Rattle.rules.specs.Ticks.{ticked}
 use Rattle.rules.specs.Nodes.{withBerth}
-use Rattle.rules.specs.declared.Codes.{Codes}
-use Rattle.rules.proofs.Codes as Q
-use Rattle.rules.proofs.Codes.Laws as Q′
+use Rattle.berths.specs.Ticks.{endsOf}
+use Rattle.berths.specs.declared.ticks.Ends.{Ends}
+use Rattle.berths.proofs.ticks.Ends as Ed
+use Rattle.berths.proofs.ticks.Ends.Laws as Ed′
 use Rattle.berths.proofs.ticks.receive as c1
 use Rattle.berths.proofs.ticks.receive.Symbol as c1-def
 use Rattle.berths.proofs.ticks.receive.Symbol.{name as #c1}
@@ -56,17 +57,17 @@ use Rattle.berths.proofs.ticks.send as c2
 use Rattle.berths.proofs.ticks.send.Symbol as c2-def
 use Rattle.berths.proofs.ticks.send.Symbol.{name as #c2}
 use Rattle.berths.proofs.ticks.send.Met as c2-thm
-use Rattle.berths.proofs.ticks.codes as c3
-use Rattle.berths.proofs.ticks.codes.Symbol as c3-def
-use Rattle.berths.proofs.ticks.codes.Symbol.{name as #c3}
-use Rattle.berths.proofs.ticks.codes.Met as c3-thm
+use Rattle.berths.proofs.ticks.both_ends as c3
+use Rattle.berths.proofs.ticks.both_ends.Symbol as c3-def
+use Rattle.berths.proofs.ticks.both_ends.Symbol.{name as #c3}
+use Rattle.berths.proofs.ticks.both_ends.Met as c3-thm
 use Rattle.berths.proofs.ticks.at.Key.{name as #self}
 use Rattle.berths.proofs.ticks.at as self
 use Rattle.berths.proofs.ticks.at.Statement as stated
 use Rattle.berths.proofs.ticks.at.Code as code
 
-abbrev F·Q : Flat
-F·Q = struct Q.the-type Q′.the-laws Q′.the-plain
+abbrev F·Ed : Flat
+F·Ed = struct Ed.the-type Ed′.the-laws Ed′.the-plain
 
 abbrev stayed : Stays (self.ended .signature .params) (self.ended .kept)
 stayed = (stay-ref (0 ∷ []) tt (plain (λ _. T.the-row)), (stay-none (λ _. usize) yes, tt))
@@ -90,16 +91,16 @@ module _ {M : Type 1} (𝓤 : URA M) (H : Heap 𝓤) (A : Atoms 𝓤) (W : Given
   abbrev Post : Val → SProp 𝓤
   Post = walkOf 𝓤 H A self.ended stayed (self.clauses 𝓤 H A at-mem run) .post (((κ, tt), (q, tt), tt, x, at), tt)
 
-  abbrev Ensured : Codes → Node → Type 0
-  Ensured r h′ = (r ≡ codesOf (berthAt h k)) × (h′ ≡ withBerth h k (ticked (berthAt h k)))
+  abbrev Ensured : Ends → Node → Type 0
+  Ensured r h′ = (r ≡ endsOf (berthAt h k)) × (h′ ≡ withBerth h k (ticked (berthAt h k)))
 
   abbrev Left : Node → List (Item 𝓤)
   Left h′ = ‵ (fobs γ (T.the-row .coded .code h′)) ∷ ‵ (fbor κ (Body (mem T.the-row) b o γ)) ∷ ‵ (flft κ q) ∷ []
 
-  exits : (r : Codes) (h′ : Node) → Ensured r h′ → Is (F·Q .row) r (F·Q .val r ∷ []) → ent 𝓤 (⋆ 𝓤 H A (Left h′)) (Post (F·Q .val r))
+  exits : (r : Ends) (h′ : Node) → Ensured r h′ → Is (F·Ed .row) r (F·Ed .val r ∷ []) → ent 𝓤 (⋆ 𝓤 H A (Left h′)) (Post (F·Ed .val r))
   exits r h′ e is =
-      qed W (Left h′) ∵ suffices ! _ (ends-at 𝓤 H A self.ended stayed (self.clauses 𝓤 H A at-mem run) W (((κ, tt), (q, tt), tt, x, at), tt) (F·Q .val r) r (h′, (tt, tt)) (tt, (tt, tt))) $ says ! e $
-      nothing ! $ move ! (3 ∷ 0 ∷ []) $ join ! $ frame ! $ feqI ! (List Val) (vptr b o ∷ []) (vptr b o ∷ []) refl $ fjoin3 ! $ nothing ! $ had ! (uint w64) k k-is $ fjoin ! $ move ! (1 ∷ 0 ∷ []) $ fjoin ! $ had ! F·Q r is $ move ! (1 ∷ 0 ∷ []) $ done !
+      qed W (Left h′) ∵ suffices ! _ (ends-at 𝓤 H A self.ended stayed (self.clauses 𝓤 H A at-mem run) W (((κ, tt), (q, tt), tt, x, at), tt) (F·Ed .val r) r (h′, (tt, tt)) (tt, (tt, tt))) $ says ! e $
+      nothing ! $ move ! (3 ∷ 0 ∷ []) $ join ! $ frame ! $ feqI ! (List Val) (vptr b o ∷ []) (vptr b o ∷ []) refl $ fjoin3 ! $ nothing ! $ had ! (uint w64) k k-is $ fjoin ! $ move ! (1 ∷ 0 ∷ []) $ fjoin ! $ had ! F·Ed r is $ move ! (1 ∷ 0 ∷ []) $ done !
 
   goes-c1 : (α : ℕ) (δ : GName) (h : Node) (a₀ : ℕ) (a₀-is : Is usize a₀ ((uint w64) .val a₀ ∷ [])) → a₀ < berthCount → ent 𝓤 (⋆ 𝓤 H A (‵ (flft (α ∷ []) fullShare) ∷ ‵ (MutRef (named 0) (α ∷ []) T.the-row .own (record { ptr = (b, o); name = δ; now = h }) (vptr b o ∷ [])) ∷ [])) (C1 𝓤 H A at-mem run .pre (((α ∷ [], tt), (fullShare, tt), tt, ((record { ptr = (b, o); name = δ; now = h }), (a₀, tt)), (vptr b o ∷ [], ((uint w64) .val a₀ ∷ [], tt))), tt))
   goes-c1 α δ h a₀ a₀-is rq = qed W (‵ (flft (α ∷ []) fullShare) ∷ ‵ (MutRef (named 0) (α ∷ []) T.the-row .own (record { ptr = (b, o); name = δ; now = h }) (vptr b o ∷ [])) ∷ []) ∵ says ! rq $ nothing ! $ had ! (uint w64) a₀ a₀-is $ fjoin ! $ move ! (2 ∷ 0 ∷ []) $ fjoin ! $ nothing ! $ move ! (2 ∷ 0 ∷ []) $ join ! $ join ! $ done !
@@ -150,9 +151,9 @@ module _ {M : Type 1} (𝓤 : URA M) (H : Heap 𝓤) (A : Atoms 𝓤) (W : Given
         move ! (0 ∷ 2 ∷ 1 ∷ []) $ back ! tt FT (zs2 .0) b o (λ was2. use1 W (‵ (fat fullShare T′.mir b o (FT .val (zs2 .0)))) (W .laws .raw-at fullShare T′.mir b o (FT .val (zs2 .0))) $
         use0 W (raw (C3 𝓤 H A at-mem run .pre ((tt, tt, tt, (r₁, (r₂, tt)), ((uint w8) .val r₁ ∷ [], ((uint w8) .val r₂ ∷ [], tt))), tt))) (goes-c3 r₁ r₂ r₁-is r₂-is) $
         calls-at ! fm (C3 𝓤 H A at-mem run) known-c3 ((tt, tt, tt, (r₁, (r₂, tt)), ((uint w8) .val r₁ ∷ [], ((uint w8) .val r₂ ∷ [], tt))), tt) (and-then ! (load ! (from ! (stop !)) (look ! 11 refl)) (and-then ! (load ! (from ! (stop !)) (look ! 9 refl)) (no-more !))) (λ v3.
-        use1 W (later (some (λ (r : Codes). ((‵ ftrue) ⊛ ‵ ((F·Q .row) .own r (v3 ∷ []))) ⊛ raw (ensured 𝓤 H A c3.ended (c3.clauses 𝓤 H A at-mem run) tt (r₁, (r₂, tt)) tt r)))) (id⊢ 𝓤 _) $ await ! tt $ pick ! (λ r.
-        split ! $ move ! (1 ∷ []) $ use1 W (raw (fact 𝓤 (r ≡ record { receive = r₁; send = r₂ }))) (exE 𝓤 _ (λ ws. snd∗ 𝓤 (sem 𝓤 H A (lasts c3.ended tt (r₁, (r₂, tt)) ws)) (fact 𝓤 (r ≡ record { receive = r₁; send = r₂ })))) $ heard ! (r ≡ record { receive = r₁; send = r₂ }) (λ e. split ! $ move ! (1 ∷ []) $ returned ! F·Q r v3 (λ is.
-        land ! (from ! (stop !)) (init ! 17 refl (F·Q .lawful 𝓤 H A W .typed r _ is .0)) $
+        use1 W (later (some (λ (r : Ends). ((‵ ftrue) ⊛ ‵ ((F·Ed .row) .own r (v3 ∷ []))) ⊛ raw (ensured 𝓤 H A c3.ended (c3.clauses 𝓤 H A at-mem run) tt (r₁, (r₂, tt)) tt r)))) (id⊢ 𝓤 _) $ await ! tt $ pick ! (λ r.
+        split ! $ move ! (1 ∷ []) $ use1 W (raw (fact 𝓤 (r ≡ record { receive = r₁; send = r₂ }))) (exE 𝓤 _ (λ ws. snd∗ 𝓤 (sem 𝓤 H A (lasts c3.ended tt (r₁, (r₂, tt)) ws)) (fact 𝓤 (r ≡ record { receive = r₁; send = r₂ })))) $ heard ! (r ≡ record { receive = r₁; send = r₂ }) (λ e. split ! $ move ! (1 ∷ []) $ returned ! F·Ed r v3 (λ is.
+        land ! (from ! (stop !)) (init ! 17 refl (F·Ed .lawful 𝓤 H A W .typed r _ is .0)) $
         drop ! $
         use1 W (‵ (cellAt fullShare (T.the-row .mir) (FT .val (zs2 .0) ∷ []) b o)) (W .laws .at-raw fullShare T′.mir b o (FT .val (zs2 .0))) $ closed ! tt FT (zs2 .0) b o was2 $
         returns ! (look ! 15 refl) $ forget ! 3 refl $ forget ! 5 refl $ forget ! 7 refl $ forget ! 9 refl $ forget ! 11 refl $ forget ! 13 refl $ forget ! 15 refl $
@@ -176,4 +177,4 @@ at-spec 𝓤 H 𝓜 𝓖 𝓡 =
     (meets 𝓤 H (𝓖 .A) (givenOf 𝓤 H 𝓜 𝓖) (𝓜 .mem) (𝓡 .run) (tablesOf 𝓤 H 𝓜 (tables 𝓤 H 𝓜 𝓡 code.env))
     (cited 𝓤 H (C1 𝓤 H (𝓖 .A) (𝓜 .mem) (𝓡 .run)) 𝓜 𝓡 code.env #c1 c1-def.routine code.calls-berths·ticks·receive (c1-thm.met 𝓤 H 𝓜 𝓖 𝓡))
     (cited 𝓤 H (C2 𝓤 H (𝓖 .A) (𝓜 .mem) (𝓡 .run)) 𝓜 𝓡 code.env #c2 c2-def.routine code.calls-berths·ticks·send (c2-thm.met 𝓤 H 𝓜 𝓖 𝓡))
-    (cited 𝓤 H (C3 𝓤 H (𝓖 .A) (𝓜 .mem) (𝓡 .run)) 𝓜 𝓡 code.env #c3 c3-def.routine code.calls-berths·ticks·codes (c3-thm.met 𝓤 H 𝓜 𝓖 𝓡)))
+    (cited 𝓤 H (C3 𝓤 H (𝓖 .A) (𝓜 .mem) (𝓡 .run)) 𝓜 𝓡 code.env #c3 c3-def.routine code.calls-berths·ticks·both-ends (c3-thm.met 𝓤 H 𝓜 𝓖 𝓡)))

@@ -112,7 +112,7 @@ module _ {M : Type 1} (𝓤 : URA M) (H : Heap 𝓤) (A : Atoms 𝓤) (W : Given
         use1 W (‵ (cellAt fullShare (T.the-row .mir) (FT .val (put-rx h k (Rx.OwesOverflow (t + 1))) ∷ []) b o)) (W .laws .at-raw fullShare T′.mir b o (FT .val (put-rx h k (Rx.OwesOverflow (t + 1))))) $ closed ! tt FT (put-rx h k (Rx.OwesOverflow (t + 1))) b o (put-rx-is h was k (within .0) (Rx.OwesOverflow (t + 1)) (EL.owes R.the-type R′.the-laws (Rx.OwesOverflow (t + 1)) ((refl, next-fits t less), tt))) $
         returns-within ! Post refl (look ! 29 refl) $ forget ! 11 refl $ forget ! 13 refl $ forget ! 15 refl $ forget ! 17 refl $ forget ! 19 refl $ forget ! 21 refl $ forget ! 23 refl $ forget ! 25 refl $ forget ! 27 refl $ forget ! 29 refl $
         move ! (29 ∷ 30 ∷ []) $ free1 ! $ move ! (27 ∷ 28 ∷ []) $ free1 ! $ move ! (25 ∷ 26 ∷ []) $ free1 ! $ move ! (23 ∷ 24 ∷ []) $ free1 ! $ move ! (21 ∷ 22 ∷ []) $ free1 ! $ move ! (19 ∷ 20 ∷ []) $ free1 ! $ move ! (17 ∷ 18 ∷ []) $ free1 ! $ move ! (15 ∷ 16 ∷ []) $ free1 ! $ move ! (13 ∷ 14 ∷ []) $ free1 ! $ move ! (11 ∷ 12 ∷ []) $ free1 ! $ move ! (9 ∷ 10 ∷ []) $ free1 ! $ move ! (7 ∷ 8 ∷ []) $ free1 ! $ move ! (5 ∷ 6 ∷ []) $ free1 ! $ move ! (3 ∷ 4 ∷ []) $ free1 ! $ free0 ! $
-        keep ! (0 ∷ 1 ∷ 2 ∷ []) $ by ! (exits 0 (put-rx h k (Rx.OwesOverflow (t + 1))) (received h k (ap (λ (y : Berth). y .rx) (sym (at-is h k)) ∙ within .1) (runs-on t (λ u. 0) 2 less) (runs-on t (λ u. Rx.OwesOverflow u) Rx.Idle less)) (refl, lit< tt)))
+        keep ! (0 ∷ 1 ∷ 2 ∷ []) $ by ! (exits 0 (put-rx h k (Rx.OwesOverflow (t + 1))) (received h k (ap (λ (y : Berth). y .rx) (sym (at-is h k)) ∙ within .1) (runs-on t (λ u. 0) 1 less) (runs-on t (λ u. Rx.OwesOverflow u) Rx.Idle less)) (refl, lit< tt)))
         (λ over.
         skips ! $
         exec ! C Λ (env-of body.locals (l₀ ∷ l₁ ∷ l₂ ∷ l₃ ∷ l₄ ∷ l₅ ∷ l₆ ∷ l₇ ∷ l₈ ∷ l₉ ∷ l₁₀ ∷ l₁₁ ∷ l₁₂ ∷ l₁₃ ∷ [])) (body.t-3) (atRet (env-of body.locals (l₀ ∷ l₁ ∷ l₂ ∷ l₃ ∷ l₄ ∷ l₅ ∷ l₆ ∷ l₇ ∷ l₈ ∷ l₉ ∷ l₁₀ ∷ l₁₁ ∷ l₁₂ ∷ l₁₃ ∷ [])) Post) $
@@ -122,11 +122,11 @@ module _ {M : Type 1} (𝓤 : URA M) (H : Heap 𝓤) (A : Atoms 𝓤) (W : Given
         assigns ! (bin ! (load ! (from ! (stop !)) (look ! 6 refl)) (load ! (from ! (stop !)) (look ! 8 refl)) tt) (from ! (stop !)) (init ! 4 refl (tt, tt)) $ rewrite ! 4 (λ (m : ℕ). ‵ (fat fullShare tyPtr l₁₃ 0 (vptr b m))) (sym (place-is 48 (o + 12) k)) refl $
         assigns ! (of-opd ! (load ! (from ! (stop !)) (look ! 10 refl))) (from ! (hop ! (look ! 4 refl) (fld ! {τ = R′.mir} {d = 0} refl (stop !)))) (store-in ! 0 (sub ! 0 {τ = R′.mir} {d = 0} refl (item ! (us (h .berths)) k (FB .val fresh) (us-within h was k (within .0)) (us-length h was) (us-at (h .berths) k ∙ see-parts (getD (h .berths) k fresh)) (sub ! 2 {τ = tyArray B′.mir 10} {d = 12} refl (whole !)))) (FR .lawful 𝓤 H A W .typed Rx.Idle _ (EL.owes R.the-type R′.the-laws Rx.Idle tt) .0)) $
         rewrite ! 0 (λ (ws : List Val). ‵ (fat fullShare T′.mir b o (valWith h (h .served) ws))) (us-set (h .berths) k (put-rx·berth h k Rx.Idle)) refl $
-        assigns ! (of-opd ! (lit ! tt)) (from ! (stop !)) (init ! 30 refl ((uint w8) .lawful 𝓤 H A W .typed 2 _ (refl, lit< tt) .0)) $
+        assigns ! (of-opd ! (lit ! tt)) (from ! (stop !)) (init ! 30 refl ((uint w8) .lawful 𝓤 H A W .typed 1 _ (refl, lit< tt) .0)) $
         use1 W (‵ (cellAt fullShare (T.the-row .mir) (FT .val (put-rx h k Rx.Idle) ∷ []) b o)) (W .laws .at-raw fullShare T′.mir b o (FT .val (put-rx h k Rx.Idle))) $ closed ! tt FT (put-rx h k Rx.Idle) b o (put-rx-is h was k (within .0) Rx.Idle (EL.owes R.the-type R′.the-laws Rx.Idle tt)) $
         returns ! (look ! 29 refl) $ forget ! 3 refl $ forget ! 5 refl $ forget ! 7 refl $ forget ! 9 refl $ forget ! 21 refl $ forget ! 23 refl $ forget ! 25 refl $ forget ! 27 refl $ forget ! 29 refl $
         move ! (29 ∷ 30 ∷ []) $ free1 ! $ move ! (27 ∷ 28 ∷ []) $ free1 ! $ move ! (25 ∷ 26 ∷ []) $ free1 ! $ move ! (23 ∷ 24 ∷ []) $ free1 ! $ move ! (21 ∷ 22 ∷ []) $ free1 ! $ move ! (19 ∷ 20 ∷ []) $ free1 ! $ move ! (17 ∷ 18 ∷ []) $ free1 ! $ move ! (15 ∷ 16 ∷ []) $ free1 ! $ move ! (13 ∷ 14 ∷ []) $ free1 ! $ move ! (11 ∷ 12 ∷ []) $ free1 ! $ move ! (9 ∷ 10 ∷ []) $ free1 ! $ move ! (7 ∷ 8 ∷ []) $ free1 ! $ move ! (5 ∷ 6 ∷ []) $ free1 ! $ move ! (3 ∷ 4 ∷ []) $ free1 ! $ free0 ! $
-        keep ! (0 ∷ 1 ∷ 2 ∷ []) $ by ! (exits 2 (put-rx h k Rx.Idle) (received h k (ap (λ (y : Berth). y .rx) (sym (at-is h k)) ∙ within .1) (runs-out t (λ u. 0) 2 over) (runs-out t (λ u. Rx.OwesOverflow u) Rx.Idle over)) (refl, lit< tt))))))))))))))))))
+        keep ! (0 ∷ 1 ∷ 2 ∷ []) $ by ! (exits 1 (put-rx h k Rx.Idle) (received h k (ap (λ (y : Berth). y .rx) (sym (at-is h k)) ∙ within .1) (runs-out t (λ u. 0) 1 over) (runs-out t (λ u. Rx.OwesOverflow u) Rx.Idle over)) (refl, lit< tt))))))))))))))))))
 
 module _ {M : Type 1} (𝓤 : URA M) (H : Heap 𝓤) (A : Atoms 𝓤) (W : Given 𝓤 H A) (at-mem : Memory → SProp 𝓤) (run : Routine → Fun 𝓤) where
   walks : (𝓣 : Tables 𝓤 H) → FmC 𝓤 H (W .laws) (𝓣 .C) → Walks 𝓤 H A self.ended stayed (WpFn 𝓤 H (𝓣 .C) (𝓣 .Λ) code.function) (self.clauses 𝓤 H A at-mem run)

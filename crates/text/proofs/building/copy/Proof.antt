@@ -5,7 +5,7 @@ use mathlib.Core.List.{List, _++_}
 use native.Mathlib.Omega.{arith}
 use lib.ListN.{length, take, drop, length-take}
 use lib.Seq.{take-take, take-at, length-take-le}
-use Rattle.text.specs.Building.{textOf, Fronts}
+use Rattle.text.specs.Building.{textOf, room, Fronts}
 use Rattle.text.proofs.Clip.{array-length}
 use borrow.Author.Needs.{needs}
 use Rattle.text.proofs.building.copy.Statement.{statement}
@@ -17,8 +17,8 @@ least-requires c κs = search needs
 least-requires-2 : tie.Need-least-requires-2
 least-requires-2 c κs = search needs
 
--- how many bytes are copied, of an array of 128
-module _ (bytes output : List ℕ) (long n : ℕ) (whole : length bytes ≡ 128) (e : n ≡ min (min long 128) (length output)) where
+-- how many bytes are copied, of an array as long as the room
+module _ (bytes output : List ℕ) (long n : ℕ) (whole : length bytes ≡ room) (e : n ≡ min (min long room) (length output)) where
   front : length (take n bytes) ≡ n
   front = length-take-le n bytes (omega arith)
 
@@ -34,10 +34,10 @@ module _ (bytes output : List ℕ) (long n : ℕ) (whole : length bytes ≡ 128)
       rw q (counted, (k ∙ rw (take-take n long bytes (omega arith)), (omega (arith, length-take n after), sym t)))
 
 -- where the number is known
-whole : (c : tie.After-least2) → length (c .before .before .before .before .args .text .bytes) ≡ 128
-whole c = let s = c .before .before .before .before in array-length (λ v. v) (s .args .text .bytes) 128 (s .good .0 .1 .1 .0 .1 .0 .1)
+whole : (c : tie.After-least2) → length (c .before .before .before .before .args .text .bytes) ≡ room
+whole c = let s = c .before .before .before .before in array-length (λ v. v) (s .args .text .bytes) room (s .good .0 .1 .1 .0 .1 .0 .1)
 
-number : (c : tie.After-least2) → c .least2 .result ≡ min (min (c .before .before .before .before .args .text .length) 128) (length (c .before .before .before .before .args .output .now))
+number : (c : tie.After-least2) → c .least2 .result ≡ min (min (c .before .before .before .before .args .text .length) room) (length (c .before .before .before .before .args .output .now))
 number c = c .least2 .ensures ∙ rw (c .before .least .ensures)
 
 fronted : (c : tie.After-least2) → length (take (c .least2 .result) (c .before .before .before .before .args .text .bytes)) ≡ c .least2 .result

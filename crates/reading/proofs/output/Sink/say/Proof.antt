@@ -1,11 +1,11 @@
--- A text has room in 128 bytes, so what is copied and put is all of it.
+-- The bytes are as many as a text has room for, so what is copied and put is all of it.
 use Prim.Native.Nat.{ℕ, _≤_, min}
 use mathlib.Core.Path.{_≡_, _∙_}
 use mathlib.Core.List.{List, _++_}
 use native.Mathlib.Omega.{arith}
 use lib.ListN.{length, take, drop, replicate, length-take}
 use lib.Seq.{take-at, take-all, length-take-le}
-use Rattle.text.specs.Building.{textOf}
+use Rattle.text.specs.Building.{textOf, room}
 use Rattle.text.specs.declared.building.Text.{Text}
 use Rattle.text.proofs.Clip.{array-length}
 use borrow.Author.Needs.{needs}
@@ -36,15 +36,15 @@ copied all out after n h e k =
     let m : length (take n all) ≡ n = length-take-le n all (omega arith) in
     rw k (take-at (take n all) (drop n out) n m ∙ take-all n all (omega arith))
 
-room : (text : Text) → length (text .bytes) ≡ 128 → length (textOf text) ≤ 128
+fits : (text : Text) → length (text .bytes) ≡ room → length (textOf text) ≤ room
 unfolding textOf
-room text e = simp length-take (omega arith)
+fits text e = simp length-take (omega arith)
 
 all-copied : (c : tie.After-copy) → take (c .copy .result) (c .copy .last .1 .0) ≡ textOf (c .before .before .before .args .text)
 all-copied c =
     let s = c .before .before .before in
-    let e : length (s .args .text .bytes) ≡ 128 = array-length (λ v. v) (s .args .text .bytes) 128 (s .good .1 .1 .0 .1 .1 .0 .1 .0 .1) in
-    copied (textOf (s .args .text)) (replicate 128 0) (c .copy .last .1 .0) (c .copy .result) (room (s .args .text) e) (c .copy .ensures .0) (c .copy .ensures .1 .0)
+    let e : length (s .args .text .bytes) ≡ room = array-length (λ v. v) (s .args .text .bytes) room (s .good .1 .1 .0 .1 .1 .0 .1 .0 .1) in
+    copied (textOf (s .args .text)) (replicate room 0) (c .copy .last .1 .0) (c .copy .result) (fits (s .args .text) e) (c .copy .ensures .0) (c .copy .ensures .1 .0)
 
 returns : tie.Need-returns
 returns c = rw (all-copied (c .before .before .before .before .before .before)) at (c .before .before .put .ensures)
