@@ -1,4 +1,6 @@
-"""The plans of the walks of frame, tick, send and turn (crates/carumpek/src/lib.rt)."""
+"""The plans of the walks of frame, tick, send and turn (crates/carumpek/src/lib.rt), and of what frame and turn lend the node on to
+(crates/hearing and crates/handing).
+"""
 import cards
 import put
 from steps import Callee
@@ -42,13 +44,13 @@ SENT = Callee('sides', 'sent', None, ['u32', 'usize', '&mut [u8]:outgoing', '&[u
 # what a frame that touches the receive side, and any frame, makes of the node, whatever the cards
 HEARD_SAYS = ('(c· : List Card) (d· : ℕ) → Arriving {h} c· d· {at} (incoming .now) (payload .now) '
               '→ FramePromise {h} c· (incoming .now) d· (payload .now) {r} {z} (answerAdded c· {at} (payload .now) {r}) {zi}')
-TELL = Callee('carumpek', 'tell', 'mut', ['usize', '&[u8]:payload'], 'FrameAnswer',
+TELL = Callee('hearing', 'tell', 'mut', ['usize', '&[u8]:payload'], 'FrameAnswer',
               lambda r, z, zs, h, vs: f'(c· : List Card) (d· : ℕ) (i· : List ℕ) → Arriving {h} c· d· {vs[0]} i· (payload .now) → FramePromise {h} c· i· d· (payload .now) {r} {z} (answerAdded c· {vs[0]} (payload .now) {r}) i·',
               asks=lambda ps: f'(isFlow (payload .now) ≡ true) × ((c· : List Card) × ((d· : ℕ) × ((i· : List ℕ) × Arriving h c· d· {ps[0]} i· (payload .now))))')
-HEAR = Callee('carumpek', 'hear', 'mut', ['usize', '&mut [u8]:incoming', '&[u8]:payload'], 'FrameAnswer',
+HEAR = Callee('hearing', 'hear', 'mut', ['usize', '&mut [u8]:incoming', '&[u8]:payload'], 'FrameAnswer',
               lambda r, z, zs, h, vs: HEARD_SAYS.format(h=h, at=vs[0], r=r, z=z, zi=zs["incoming"]),
               asks=lambda ps: f'(isFlow (payload .now) ≡ false) × ((c· : List Card) × ((d· : ℕ) × Arriving h c· d· {ps[0]} (incoming .now) (payload .now)))')
-CAME = Callee('carumpek', 'came', 'mut', ['usize', '&mut [u8]:incoming', '&[u8]:payload'], 'FrameAnswer',
+CAME = Callee('hearing', 'came', 'mut', ['usize', '&mut [u8]:incoming', '&[u8]:payload'], 'FrameAnswer',
               lambda r, z, zs, h, vs: HEARD_SAYS.format(h=h, at=vs[0], r=r, z=z, zi=zs["incoming"]),
               asks=lambda ps: f'((c· : List Card) × ((d· : ℕ) × Arriving h c· d· {ps[0]} (incoming .now) (payload .now)))')
 DELIVERS = numbers('cards', 'delivers', ['FrameAnswer'], 'bool', 'delivers')
@@ -58,7 +60,7 @@ OF_ANSWER = numbers('cards', 'of_answer', ['FrameAnswer'], 'Adds', 'answerAdds f
 OF_TURN = numbers('cards', 'of_turn', ['u8'], 'Adds', 'turnAdds')
 IS_SINGLE = Callee('cards', 'is_single', None, ['&[u8]:payload'], 'bool', lambda r, z, zs, h, vs: f'{r} ≡ isSingle (payload .now)')
 DELIVERED, PUT_CARD = cards.callee('delivered'), cards.callee('card')
-ARRIVED = Callee('carumpek', 'arrived', 'mut', ['&mut [Card]:cards', 'usize', '&mut [u8]:incoming', '&[u8]:payload'], 'FrameAnswer',
+ARRIVED = Callee('hearing', 'arrived', 'mut', ['&mut [Card]:cards', 'usize', '&mut [u8]:incoming', '&[u8]:payload'], 'FrameAnswer',
                  lambda r, z, zs, h, vs: f'(d· : ℕ) → Arriving {h} (cards .now) d· {vs[1]} (incoming .now) (payload .now) → FramePromise {h} (cards .now) (incoming .now) d· (payload .now) {r} {z} {zs["cards"]} {zs["incoming"]}',
                  asks=lambda ps: f'((d· : ℕ) × Arriving h (cards .now) d· {ps[1]} (incoming .now) (payload .now))')
 PASSED_OVER = Callee('looks', 'passed_over', 'shr', [], 'u8', lambda r, z, zs, h, vs: f'{r} ≡ passedOver {h}', asks=lambda ps: 'h .served < berthCount')
@@ -70,7 +72,7 @@ MESSAGE_HANDED = Callee('sides', 'message_handed', None, ['Settings', 'usize', '
                         lambda r, z, zs, h, vs: f'(n· : Node) (c· : List Card) → flowDue (berthAt n· {vs[1]} .rx) ≡ false → {vs[2]} ≡ berthAt n· {vs[1]} .tx → Turning n· c· {vs[0]} {vs[1]} {vs[3]} (outgoing .now) (buffer .now) '
                                                 f'→ TurnPromise n· c· (outgoing .now) (buffer .now) ({r} .answer) (servedNode n· {vs[1]} (withTx (berthAt n· {vs[1]}) ({r} .tx))) (addedAt c· {vs[1]} (turnAdds ({r} .code))) {zs["buffer"]}',
                         asks=lambda ps: f'((n· : Node) × ((c· : List Card) × Turning n· c· {ps[0]} {ps[1]} {ps[3]} (outgoing .now) (buffer .now) × (flowDue (berthAt n· {ps[1]} .rx) ≡ false) × ({ps[2]} ≡ berthAt n· {ps[1]} .tx)))')
-HAND_OVER = Callee('carumpek', 'hand_over', 'mut', ['&mut [Card]:cards', 'Settings', 'usize', 'u8', '&[u8]:outgoing', '&mut [u8]:buffer'], 'TurnAnswer',
+HAND_OVER = Callee('handing', 'hand_over', 'mut', ['&mut [Card]:cards', 'Settings', 'usize', 'u8', '&[u8]:outgoing', '&mut [u8]:buffer'], 'TurnAnswer',
                    lambda r, z, zs, h, vs: f'TurnPromise {h} (cards .now) (outgoing .now) (buffer .now) {r} {z} {zs["cards"]} {zs["buffer"]}',
                    asks=lambda ps: f'Turning h (cards .now) {ps[1]} {ps[2]} {ps[3]} (outgoing .now) (buffer .now)')
 
@@ -80,7 +82,7 @@ use Rattle.rules.specs.Nodes.{withTx, withBerth}
 use Rattle.arrivals.specs.Reading.{isFlow}
 use Rattle.node.specs.Promises.{FramePromise}
 use Rattle.sides.specs.Parts.{Arriving, Telling}
-use Rattle.carumpek.proofs.Arms.{arrived-within, telling}
+use Rattle.hearing.proofs.Arms.{arrived-within, telling}
 '''
 HEAR_USES = '''use Rattle.rules.specs.declared.Card.{Card}
 use Rattle.cards.specs.Counting.{answerAdded}
@@ -92,7 +94,8 @@ use Rattle.arrivals.specs.Reading.{isFlow, whyIgnored}
 use Rattle.node.specs.Promises.{FramePromise}
 use Rattle.sides.specs.Parts.{Arriving, Hearing}
 use Rattle.sides.proofs.Hearing.{hearable}
-use Rattle.carumpek.proofs.Arms.{some as is-some, above-none, arrived-within, ignoring, unread, hearing}
+use Rattle.looks.proofs.Bodies.{some as is-some, above-none}
+use Rattle.hearing.proofs.Arms.{arrived-within, ignoring, unread, hearing}
 '''
 CAME_USES = '''use Rattle.rules.specs.declared.Card.{Card}
 use Rattle.cards.specs.Counting.{answerAdded}
@@ -105,7 +108,7 @@ use Rattle.rules.specs.declared.Word.the-variants.{Delivered}
 use Rattle.cards.specs.Counting.{answerAdds, answerAdded, delivers, counts, oldOf}
 use Rattle.node.specs.Promises.{FramePromise}
 use Rattle.sides.specs.Parts.{Arriving}
-use Rattle.carumpek.proofs.Arms.{card-within, counts-delivered, counts-other, counts-nothing}
+use Rattle.hearing.proofs.Arms.{card-within, counts-delivered, counts-other, counts-nothing}
 '''
 FRAME_USES = '''use Rattle.looks.specs.Order.{orderOf}
 use Rattle.node.specs.Promises.{FramePromise}
@@ -121,7 +124,8 @@ use Rattle.rules.specs.Turns.{flowDue}
 use Rattle.rules.specs.Stores.{servedNode}
 use Rattle.node.specs.Promises.{TurnPromise}
 use Rattle.sides.specs.Parts.{Turning}
-use Rattle.carumpek.proofs.Arms.{none as is-no, turned-within, card-at-turn, flow-is, no-flow, own-rx, own-tx}
+use Rattle.looks.proofs.Bodies.{none as is-no}
+use Rattle.handing.proofs.Arms.{turned-within, card-at-turn, flow-is, no-flow, own-rx, own-tx}
 '''
 TURN_USES = '''use Rattle.rules.specs.Stores.{passedOver}
 use Rattle.looks.specs.Order.{orderOf}
@@ -221,7 +225,7 @@ def frame():
     return (begins('let area = node.settings.area;')
             + refuses('let number = node::refusals::frame( ordered, area, incoming.len(), cards.len(), identifier, payload.len(), );', 4, FRAME_REFUSAL, 'FrameAnswer', f'frame-refused {known} found')
             + [('source', 'let at = node::places::of_sender(identifier);', 1), ('call', OF_SENDER, 'j·', 'ej', 'j-is', None, None),
-               ('source', 'arrived(&mut *node, &mut *cards, at, incoming, payload)', 7), ('call', ARRIVED, 'r·', 'er', 'r-is', f'(identifier, {there})', None),
+               ('source', 'hearing::arrived(&mut *node, &mut *cards, at, incoming, payload)', 7), ('call', ARRIVED, 'r·', 'er', 'r-is', f'(identifier, {there})', None),
                ('return', f'er identifier {there}')])
 
 
@@ -275,11 +279,11 @@ def turn():
                ('source', 'let passed = looks::passed_over(&*node);', 2), ('call', PASSED_OVER, 'p·', 'ep', 'p-is', f'(served-within {known} fine)', None),
                ('source', 'if rules::BERTH_COUNT <= passed {', 2), ('if', ('is-all', 'is-few'), [('source', 'return TurnAnswer::None(passed);', 2), ('make', 'TurnAnswer', 'None'), ('return', f'turn-none {known} fine ep is-all')], None),
                ('source', 'let at = looks::probe(node.served, passed);', 2), ('call', PROBE, 'j·', 'ej', 'j-is', None, None),
-               ('source', 'hand_over( &mut *node, &mut *cards, settings, at, passed, outgoing, buffer, )', 7), ('call', HAND_OVER, 'r·', 'er', 'r-is', f'(turning {known} fine ep is-few (ej .0))', None),
+               ('source', 'handing::hand_over( &mut *node, &mut *cards, settings, at, passed, outgoing, buffer, )', 7), ('call', HAND_OVER, 'r·', 'er', 'r-is', f'(turning {known} fine ep is-few (ej .0))', None),
                ('return', 'er')])
 
 
-def walks(walk):
+def walks_of_hearing(walk):
     yield walk('tell', [('j·', 'usize'), ('payload', '&[u8]')], 'FrameAnswer',
                '(c· : List Card) (d· : ℕ) (i· : List ℕ) → Arriving h c· d· j· i· (payload .now) → FramePromise h c· i· d· (payload .now) r h′ (answerAdded c· j· (payload .now) r) i·', tell(),
                requires='(isFlow (payload .now) ≡ true) × ((c· : List Card) × ((d· : ℕ) × ((i· : List ℕ) × Arriving h c· d· j· i· (payload .now))))', callees=[TOLD, PUT_TX], uses=TELL_USES,
@@ -295,6 +299,15 @@ def walks(walk):
                '(d· : ℕ) → Arriving h (cards .now) d· j· (incoming .now) (payload .now) → FramePromise h (cards .now) (incoming .now) d· (payload .now) r h′ cards′ incoming′', arrived(),
                requires='(d· : ℕ) × Arriving h (cards .now) d· j· (incoming .now) (payload .now)', callees=[CAME, DELIVERS, IS_SINGLE, OLD, DELIVERED, COUNTS, OF_ANSWER, PUT_CARD], uses=ARRIVED_USES,
                doc='The frame comes, and its answer is counted.')
+
+
+def walks_of_handing(walk):
+    yield walk('hand_over', [('cards', '&mut [Card]'), ('s·', 'Settings'), ('j·', 'usize'), ('p·', 'u8'), ('outgoing', '&[u8]'), ('buffer', '&mut [u8]')], 'TurnAnswer',
+               'TurnPromise h (cards .now) (outgoing .now) (buffer .now) r h′ cards′ buffer′', hand_over(), requires='Turning h (cards .now) s· j· p· (outgoing .now) (buffer .now)',
+               callees=[FLOW_DUE, FLOW_HANDED, MESSAGE_HANDED, SERVED_RX, SERVED_TX, OF_TURN, PUT_CARD], uses=HAND_USES, inside={'_4': '(turned-within within)'}, doc='Flow control that is owed, or a frame of the message.')
+
+
+def walks(walk):
     yield walk('frame', [('cards', '&mut [Card]'), ('incoming', '&mut [u8]'), ('identifier', 'u32'), ('payload', '&[u8]')], 'FrameAnswer',
                'FramePromise h (cards .now) (incoming .now) identifier (payload .now) r h′ cards′ incoming′', frame(), callees=[ORDER, FRAME_REFUSAL, OF_SENDER, ARRIVED], uses=FRAME_USES,
                doc='Refused, or a frame for a berth.')
@@ -302,8 +315,5 @@ def walks(walk):
                doc='Refused, or each berth from the first on that is not idle is ticked.')
     yield walk('send', [('outgoing', '&mut [u8]'), ('k', 'u32'), ('message', '&[u8]')], 'SendAnswer',
                'SendPromise h (outgoing .now) k (message .now) r h′ outgoing′', send(), callees=[ORDER, OF_BERTH, SEND_REFUSAL, SENT, PUT_TX], uses=SEND_USES, doc='Refused, or sent.')
-    yield walk('hand_over', [('cards', '&mut [Card]'), ('s·', 'Settings'), ('j·', 'usize'), ('p·', 'u8'), ('outgoing', '&[u8]'), ('buffer', '&mut [u8]')], 'TurnAnswer',
-               'TurnPromise h (cards .now) (outgoing .now) (buffer .now) r h′ cards′ buffer′', hand_over(), requires='Turning h (cards .now) s· j· p· (outgoing .now) (buffer .now)',
-               callees=[FLOW_DUE, FLOW_HANDED, MESSAGE_HANDED, SERVED_RX, SERVED_TX, OF_TURN, PUT_CARD], uses=HAND_USES, inside={'_4': '(turned-within within)'}, doc='Flow control that is owed, or a frame of the message.')
     yield walk('turn', [('cards', '&mut [Card]'), ('outgoing', '&[u8]'), ('buffer', '&mut [u8]')], 'TurnAnswer', 'TurnPromise h (cards .now) (outgoing .now) (buffer .now) r h′ cards′ buffer′', turn(),
                callees=[ORDER, TURN_REFUSAL, PASSED_OVER, PROBE, HAND_OVER], uses=TURN_USES, doc='Refused, none due, or handed over.')

@@ -455,7 +455,8 @@ class Counted(Local):
         ends, fits = s.at_last()
         answer_is, result = f'Is {s.row(A)} r ({s.flat(A)} .val r ∷ [])', f'({s.flat(O)} .val (out r h′ {whole}))'
         out_is, whole_is = (f'Is {s.row(O)} (out r h′ {c}) ({s.flat(O)} .val (out r h′ {c}) ∷ [])' for c in ('cards′', whole))
-        said = f"(lent-said (λ xs ys. {s.said.format('xs', 'ys')}) count n en cards cards′ cards-is len e)"
+        first = f"lent-said (λ xs ys. {s.said.format('xs', 'ys')}) count n en cards cards′ cards-is len e"
+        said = f'(let of = {first} in record {{ promised = of .0; others = of .1 }})'
         return [f'  -- what the entry ensures of its answer r, of the last node h′ and of what it left of the first n cards\n  abbrev Said : ℕ → {A} → Node → List Card{arrows} → Type 0\n'
                 f"  Said n r h′ cards′{s.zs} = {s.said.format('(take n cards)', 'cards′')}\n",
                 f'  abbrev out : {A} → Node → List Card → {O}\n  out r h′ cards′ = record {{ answer = r; node = h′; cards = cards′ }}\n',

@@ -3,28 +3,27 @@
 use Prim.Native.Nat.{ℕ, zero, suc, _+_, _<_, _≤_}
 use native.Mathlib.Omega.{arith}
 use native.Mathlib.Numerals.{add-one}
-use mathlib.Core.Path.{_≡_, refl, sym, ap, _∙_, subst}
-use mathlib.Core.Bool.{Bool, true, false, not, _||_}
+use mathlib.Core.Path.{_≡_, refl, sym, ap, _∙_}
+use mathlib.Core.Bool.{Bool, true, false, not}
 use mathlib.Core.List.{List, [], _∷_}
 use lib.ListN.{length, getD, set, take}
 use lib.Seq.{take-all}
-use lib.Dec.{T, eqb, ltb}
+use lib.Dec.{eqb, ltb}
 use Rattle.rules.specs.Tests.{pick}
-use mir.Facts.{eqb-yes}
-use Rattle.rules.specs.Numbers.{berthCount, timeout, N-TIMEOUT-A, N-TIMEOUT-Cr}
+use Rattle.rules.specs.Numbers.{timeout, N-TIMEOUT-A, N-TIMEOUT-Cr}
 use Rattle.rules.specs.Nodes.{fresh, berthAt}
 use Rattle.rules.specs.Ticks.{ran, rxCode, txCode, codesOf}
 use Rattle.rules.specs.Cards.{zeroCard, cardAt, added, addedAt, nothing, underWay, tickAdds, tickedCards}
 use Rattle.rules.specs.declared.Rx.{Rx}
 use Rattle.rules.specs.declared.Berth.{Berth}
 use Rattle.rules.specs.declared.Card.{Card}
-use Rattle.rules.specs.declared.Codes.{Codes}
 use Rattle.rules.specs.declared.Adds.{Adds}
 use Rattle.rules.specs.declared.Node.{Node}
-use Rattle.rules.proofs.Cases.{pick-either}
+use Rattle.rules.proofs.Cases.{no-of, or-neither}
 use Rattle.rules.proofs.Cards.{added-nothing, added-at-nothing, ticked-cards-length}
 use Rattle.cards.specs.Counting.{endAdds}
 use Rattle.berth.specs.Idle.{idle}
+use Rattle.looks.proofs.Bodies.{none}
 use Rattle.looks.proofs.Ordered.{rx-idle, tx-idle}
 use Rattle.looks.proofs.Codes.{zeros}
 use Rattle.berths.specs.Ticks.{rxEnd, overflowEnd, endsOf, anyEnd, endCodes}
@@ -72,24 +71,16 @@ end-adds b = end-add (b .rx) (txCode (b .tx))
 
 -- ---- where neither side ended
 
-neither : (x y : Bool) → not x || not y ≡ false → T x × T y
-neither true true e = (tt, tt)
-neither true false e = absurd (subst T e tt)
-neither false y e = absurd (subst T e tt)
-
 quiet-ends : (b : Berth) → anyEnd (endsOf b) ≡ false → endsOf b ≡ record { receive = 0; send = 0 }
 unfolding anyEnd
-quiet-ends b e = let n = neither (eqb (rxEnd (b .rx)) 0) (eqb (txCode (b .tx)) 0) e in
-    let r : rxEnd (b .rx) ≡ 0 = eqb-yes (n .0) in
-    let s : txCode (b .tx) ≡ 0 = eqb-yes (n .1) in
-    rw (r, s)
+quiet-ends b e = let n = or-neither (not (eqb (rxEnd (b .rx)) 0)) (not (eqb (txCode (b .tx)) 0)) e in rw (none (rxEnd (b .rx)) (no-of (n .0)), none (txCode (b .tx)) (no-of (n .1)))
 
 pub quiet-codes : (b : Berth) → anyEnd (endsOf b) ≡ false → codesOf b ≡ zeros
 unfolding endCodes
 quiet-codes b e = sym (end-codes b) ∙ ap endCodes (quiet-ends b e)
 
 pub quiet-adds : (b : Berth) → anyEnd (endsOf b) ≡ false → tickOf b ≡ nothing
-unfolding endAdds
+unfolding endAdds tickAdds
 quiet-adds b e = sym (end-adds b) ∙ ap (λ (y : Ends). endAdds (y .receive) (y .send)) (quiet-ends b e)
 
 -- ---- the first i cards

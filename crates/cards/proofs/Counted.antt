@@ -11,6 +11,7 @@ use Rattle.rules.specs.Cards.{added, addedAt, isSingle, nothing, frameAdds}
 use Rattle.rules.specs.declared.Word.the-variants.{Delivered, Begun, Failed, Ignored, TooLong, Took, Going, Waiting}
 use Rattle.rules.specs.declared.FrameAnswer.{FrameAnswer}
 use Rattle.rules.specs.declared.Card.{Card}
+use Rattle.rules.proofs.Cases.{or-neither}
 use Rattle.rules.proofs.Cards.{added-at-nothing}
 use Rattle.cards.specs.Counting.{answerAdds, answerAdded, delivers, counts, oldOf}
 
@@ -18,10 +19,6 @@ use Rattle.cards.specs.Counting.{answerAdds, answerAdded, delivers, coun
 
 clash : {X : Type 0} → _≡_ {A = ℕ} 0 1 → X
 clash e = absurd (omega arith)
-
-or-false : (a : Bool) → (a || false) ≡ false → a ≡ false
-or-false true e = e
-or-false false e = refl
 
 or-true : (a : Bool) {X : Type 0} → (a || true) ≡ false → X
 or-true true e = clash (cc)
@@ -40,11 +37,11 @@ uncounted b (FrameAnswer.Refused n) e = refl
 uncounted b (FrameAnswer.Heard k old (Delivered n)) e = or-true (eqb old N-UNEXP-PDU) e
 uncounted b (FrameAnswer.Heard k old (Begun n)) e = or-true (eqb old N-UNEXP-PDU) e
 uncounted b (FrameAnswer.Heard k old (Failed c)) e = or-true (eqb old N-UNEXP-PDU) e
-uncounted b (FrameAnswer.Heard k old (Ignored i)) e = simp (or-false (eqb old N-UNEXP-PDU) e, and-false)
+uncounted b (FrameAnswer.Heard k old (Ignored i)) e = simp (or-neither (eqb old N-UNEXP-PDU) false e .0, and-false)
 uncounted b (FrameAnswer.Heard k old TooLong) e = or-true (eqb old N-UNEXP-PDU) e
-uncounted b (FrameAnswer.Heard k old Took) e = simp (or-false (eqb old N-UNEXP-PDU) e, and-false)
-uncounted b (FrameAnswer.Heard k old Going) e = simp (or-false (eqb old N-UNEXP-PDU) e, and-false)
-uncounted b (FrameAnswer.Heard k old Waiting) e = simp (or-false (eqb old N-UNEXP-PDU) e, and-false)
+uncounted b (FrameAnswer.Heard k old Took) e = simp (or-neither (eqb old N-UNEXP-PDU) false e .0, and-false)
+uncounted b (FrameAnswer.Heard k old Going) e = simp (or-neither (eqb old N-UNEXP-PDU) false e .0, and-false)
+uncounted b (FrameAnswer.Heard k old Waiting) e = simp (or-neither (eqb old N-UNEXP-PDU) false e .0, and-false)
 
 -- the same for every kind of frame, where it delivers nothing
 pub undelivered : (b : Bool) (a : FrameAnswer) → delivers a ≡ false → answerAdds false a ≡ answerAdds b a

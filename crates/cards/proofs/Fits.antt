@@ -2,7 +2,7 @@
 -- call `plus`.
 use Prim.Native.Nat.{ℕ, _+_}
 use mathlib.Core.Path.{_≡_, refl}
-use mathlib.Core.Bool.{Bool, true, false, _||_}
+use mathlib.Core.Bool.{Bool, true, false}
 use native.Mathlib.Omega.{arith}
 use lib.Dec.{eqb}
 use mir.Syntax.{w32}
@@ -12,6 +12,7 @@ use Rattle.rules.specs.Numbers.{mostCount}
 use Rattle.rules.specs.Cards.{frozen, plus}
 use Rattle.rules.specs.declared.Card.{Card}
 use Rattle.rules.specs.declared.Adds.{Adds}
+use Rattle.rules.proofs.Cases.{or-neither}
 
 -- ---- one count
 
@@ -24,10 +25,6 @@ fits n true e h = omega (arith, eqb-false n mostCount e)
 fits n false e h = omega arith
 
 -- ---- a card
-
-neither : (a b : Bool) → (a || b) ≡ false → (a ≡ false) × (b ≡ false)
-neither true b e = (e, cc)
-neither false b e = (refl, e)
 
 -- each count with what is added is a u32
 pub record Sums (c : Card) (a : Adds) : Type 0 where
@@ -50,14 +47,14 @@ Known c =
 pub sums : (c : Card) (a : Adds) → frozen c ≡ false → Known c → Sums c a
 unfolding frozen
 sums c a e8 (begun, (delivered, (failed2, (failed4, (failed5, (failed7, (toolong, (sent, (unsent, end))))))))) =
-    let e7 = neither _ _ e8 in
-    let e6 = neither _ _ (e7 .0) in
-    let e5 = neither _ _ (e6 .0) in
-    let e4 = neither _ _ (e5 .0) in
-    let e3 = neither _ _ (e4 .0) in
-    let e2 = neither _ _ (e3 .0) in
-    let e1 = neither _ _ (e2 .0) in
-    let e0 = neither _ _ (e1 .0) in
+    let e7 = or-neither _ _ e8 in
+    let e6 = or-neither _ _ (e7 .0) in
+    let e5 = or-neither _ _ (e6 .0) in
+    let e4 = or-neither _ _ (e5 .0) in
+    let e3 = or-neither _ _ (e4 .0) in
+    let e2 = or-neither _ _ (e3 .0) in
+    let e1 = or-neither _ _ (e2 .0) in
+    let e0 = or-neither _ _ (e1 .0) in
     record {
       begun = fits _ (a .begun) (e0 .0) begun;
       delivered = fits _ (a .delivered) (e0 .1) delivered;

@@ -1,10 +1,10 @@
 -- What a call counts, from its answer: whether it counts at all, and what it adds.
 use Prim.Native.Nat.{ℕ}
-use mathlib.Core.Bool.{Bool, true, false, not, _||_}
+use mathlib.Core.Bool.{Bool, true, false, _||_}
 use mathlib.Core.List.{List}
 use lib.Dec.{eqb}
-use Rattle.rules.specs.Numbers.{N-TIMEOUT-A, N-TIMEOUT-Cr, N-UNEXP-PDU}
-use Rattle.rules.specs.Cards.{addedAt, isSingle, isDelivered, nothing, frameAdds}
+use Rattle.rules.specs.Numbers.{N-UNEXP-PDU}
+use Rattle.rules.specs.Cards.{addedAt, isSingle, isDelivered, nothing, frameAdds, tickAdds}
 use Rattle.rules.specs.declared.Word.{Word}
 use Rattle.rules.specs.declared.Word.the-variants.{Delivered, Begun, Failed, Ignored, TooLong, Took, Going, Waiting}
 use Rattle.rules.specs.declared.FrameAnswer.{FrameAnswer}
@@ -48,15 +48,4 @@ oldOf (FrameAnswer.Heard k old w) = old
 -- ---- a tick, by the code with which a reception failed and the send code, 0 for none
 
 unfoldable pub endAdds : ℕ → ℕ → Adds
-endAdds failed send =
-    record {
-      begun = false;
-      delivered = false;
-      failed2 = eqb failed N-TIMEOUT-A;
-      failed4 = eqb failed N-TIMEOUT-Cr;
-      failed5 = false;
-      failed7 = false;
-      toolong = false;
-      sent = false;
-      unsent = not (eqb send 0);
-    }
+endAdds failed send = tickAdds true failed send

@@ -1,65 +1,38 @@
 -- What each arm of an entry knows and answers. The test of order and the number found are the rules' own, so an arm that refuses leaves
 -- all as it was, and one that goes on has a node of which its numbers are: the part that it calls says the rest.
-use Prim.Native.Nat.{ℕ, zero, suc, _+_, _≤_, _<_, _^_}
-use native.Mathlib.Nat.{le-antisymm}
+use Prim.Native.Nat.{ℕ, _<_}
 use native.Mathlib.Omega.{arith}
-use mathlib.Core.Path.{_≡_, refl, sym, ap, subst, _∙_}
-use mathlib.Core.Bool.{Bool, true, false, not, _||_}
-use mathlib.Core.List.{List, [], _∷_}
-use lib.ListN.{length, getD, set}
-use lib.Seq.{getD-set-same}
+use mathlib.Core.Path.{_≡_, refl, sym, ap, _∙_}
+use mathlib.Core.Bool.{Bool, not}
+use mathlib.Core.List.{List, []}
+use lib.ListN.{length, getD}
 use lib.Dec.{T, ltb, leb, eqb, eqb→eq, leb→le}
 use mir.Facts.{leb-no}
-use Rattle.rules.specs.Numbers.{berthCount, noData, N-UNEXP-PDU}
+use Rattle.rules.specs.Numbers.{berthCount}
 use Rattle.rules.specs.Tests.{firstUnmet}
-use Rattle.rules.specs.Nodes.{fresh, berthAt, withRx, withTx, withBerth}
-use Rattle.rules.specs.Ranges.{inOrder, RxRange}
-use Rattle.rules.specs.Turns.{flowDue}
-use Rattle.rules.specs.Stores.{passedOver, reached, servedNode}
-use Rattle.rules.specs.Answers.{Answer, refused, ready as ready-answer, heard, codes, sent, handed, none as none-answer, shown, frameSays, sendSays, turnSays}
+use Rattle.rules.specs.Nodes.{fresh, berthAt}
+use Rattle.rules.specs.Ranges.{inOrder}
+use Rattle.rules.specs.Stores.{passedOver, reached}
+use Rattle.rules.specs.Answers.{frameSays, sendSays, turnSays}
 use Rattle.rules.specs.Events.{send, turn, senderOf}
 use Rattle.rules.specs.Refusals.{toHear, refusal}
-use Rattle.rules.specs.declared.Settings.{Settings}
-use Rattle.rules.specs.declared.Rx.{Rx}
-use Rattle.rules.specs.declared.Tx.{Tx}
 use Rattle.rules.specs.declared.Node.{Node}
 use Rattle.rules.specs.declared.FrameAnswer.{FrameAnswer}
 use Rattle.rules.specs.declared.SendAnswer.{SendAnswer}
 use Rattle.rules.specs.declared.TurnAnswer.{TurnAnswer}
-use Rattle.rules.specs.declared.Word.the-variants.{Delivered, Ignored}
 use Rattle.rules.specs.declared.Card.{Card}
-use Rattle.rules.specs.declared.Adds.{Adds}
-use Rattle.rules.specs.Cards.{cardAt, added, addedAt, isSingle, frameAdds}
-use Rattle.cards.specs.Counting.{answerAdds, answerAdded, delivers, counts, wordCounts, oldOf}
-use Rattle.cards.proofs.Counted.{when-delivered, undelivered-cards, uncounted-cards}
-use Rattle.rules.proofs.Cases.{is-true, is-false, yes-of}
-use Rattle.rules.proofs.Answered.{MayHear, may-hear, SendAnswered, send-answered, TurnAnswered, turn-answered}
+use Rattle.rules.proofs.Cases.{is-true}
+use Rattle.rules.proofs.Answered.{may-hear, send-answered, turn-answered}
 use Rattle.rules.proofs.Ranges.{in-order-range}
 use Rattle.rules.proofs.Round.{passed-ten}
-use Rattle.arrivals.specs.Reading.{isFlow, whyIgnored}
-use Rattle.arrivals.proofs.Touches.{no-data}
 use Rattle.looks.specs.Probes.{probeAt}
 use Rattle.looks.specs.Order.{unordered, orderOf}
 use Rattle.looks.proofs.Ordered.{ordered, none-due as none-due-where-idle}
-use Rattle.looks.proofs.Bodies.{not-not}
-use Rattle.looks.proofs.Puts.{put-rx, put-last, put-tx, put-served}
+use Rattle.looks.proofs.Bodies.{some, none}
 use Rattle.node.specs.Promises.{lent, FramePromise, SendPromise, TurnPromise}
 use Rattle.node.specs.Numbered.{frameRefusal, sendRefusal, turnRefusal, placeOf, placeOfSender}
 use Rattle.node.proofs.Numbered.{frame-found, send-found, turn-found, place-is, place-within, sender-is, sender-within, refused-frame, refused-send, refused-turn, none-due}
-use Rattle.sides.specs.Parts.{Arriving, Telling, Hearing, Sends, Turning}
-use Rattle.sides.proofs.Ignoring.{ignores}
-use Rattle.sides.proofs.Turning.{ready}
-
--- ---- a number, as the entries test it
-
-pub some : (n : ℕ) → T (not (eqb n 0)) → n ≡ 0 → ⊥
-some n t e = subst (λ (m : ℕ). T (not (eqb m 0))) e t
-
-pub none : (n : ℕ) → T (not (not (eqb n 0))) → n ≡ 0
-none n t = eqb→eq n 0 (subst T (sym (not-not (eqb n 0) t)) tt)
-
-pub above-none : {n : ℕ} → T (not (eqb n 0)) → 0 < n
-above-none {n} t = let z = some n t in omega arith
+use Rattle.sides.specs.Parts.{Arriving, Sends, Turning}
 
 -- ---- places
 
@@ -68,94 +41,6 @@ placed k e = rw e (place-within k)
 
 pub sender-placed : {j : ℕ} (id : ℕ) → j ≡ placeOfSender id → j < berthCount
 sender-placed id e = rw e (sender-within id)
-
--- ---- a frame, by the side that it touches
-
--- an ignored frame counts nothing
-abbrev saysCounts : Answer → Bool
-saysCounts (refused n) = false
-saysCounts ready-answer = false
-saysCounts (heard k old w) = eqb old N-UNEXP-PDU || wordCounts w
-saysCounts (codes cs) = false
-saysCounts (sent k) = false
-saysCounts (handed id f c p) = false
-saysCounts (none-answer p) = false
-saysCounts (shown part) = false
-
-ignored-uncounted : {j why : ℕ} (r : FrameAnswer) → frameSays r ≡ heard j 0 (Ignored why) → counts r ≡ false
-unfolding counts frameSays
-ignored-uncounted (FrameAnswer.Refused n) e = refl
-ignored-uncounted (FrameAnswer.Heard k old w) e = ap saysCounts e
-
-module _ {h : Node} {cards : List Card} {id j : ℕ} {incoming d : List ℕ} (a : Arriving h cards id j incoming d) where
-  pub arrived-within : j < berthCount
-  arrived-within = rw (a .place) (may-hear h incoming cards id d [] (a .may) .0 .mine)
-
-  pub card-within : j < length cards
-  card-within = subst (λ (m : ℕ). j < m) (sym (may-hear h incoming cards id d [] (a .may) .0 .ten)) arrived-within
-
-  pub telling : isFlow d ≡ true → Telling h cards id j (getD (h .berths) j fresh .tx) incoming d
-  unfolding berthAt
-  telling flow = record { arriving = a; side = refl; kind = flow }
-
-  module _ (other : isFlow d ≡ false) where
-    -- ignored for a reason, and without data
-    pub ignoring : {why : ℕ} → why ≡ whyIgnored (getD (h .berths) j fresh .rx) d → (why ≡ 0 → ⊥)
-        → (r : FrameAnswer) → frameSays r ≡ heard j 0 (Ignored why) → FramePromise h cards incoming id d r h (answerAdded cards j d r) incoming
-    unfolding berthAt
-    ignoring e found r says =
-        subst (λ (c : List Card). FramePromise h cards incoming id d r h c incoming) (sym (uncounted-cards cards j d r (ignored-uncounted r says)))
-        (ignores a refl other (λ z. found (e ∙ z)) r (says ∙ ap (λ m. heard j 0 (Ignored m)) e))
-
-    pub unread : T (eqb (length d) 0) → (r : FrameAnswer) → frameSays r ≡ heard j 0 (Ignored noData)
-        → FramePromise h cards incoming id d r h (answerAdded cards j d r) incoming
-    unread empty = ignoring (sym (no-data _ d (eqb→eq (length d) 0 empty))) (λ z. omega (arith, z))
-
-    pub hearing : T (not (eqb (length d) 0)) → Hearing h cards id (h .settings) j (getD (h .berths) j fresh .rx) (getD (h .berths) j fresh .last) incoming d
-    unfolding berthAt
-    hearing there = record { arriving = a; settings = refl; some = above-none there; side = refl; length = refl; kind = other }
-
--- ---- what the answer to a frame counts
-
-module _ (cards : List Card) (j : ℕ) (d : List ℕ) (r : FrameAnswer) {test : Bool} where
-  pub counts-delivered : {cards′ : List Card} {single : Bool} {old : ℕ} → test ≡ delivers r → T test → single ≡ isSingle d → old ≡ oldOf r
-      → ((n : ℕ) → cards′ ≡ addedAt cards j (frameAdds single old (Delivered n))) → cards′ ≡ answerAdded cards j d r
-  unfolding addedAt answerAdded
-  counts-delivered {old = old} is one is-single is-old after =
-      after 0 ∙ ap (set cards j) (ap (λ (z : Bool). added (cardAt cards j) (frameAdds z old (Delivered 0))) is-single
-      ∙ ap (λ (o : ℕ). added (cardAt cards j) (frameAdds (isSingle d) o (Delivered 0))) is-old
-      ∙ when-delivered (cardAt cards j) (isSingle d) r (sym is ∙ is-true test one) 0)
-
-  module _ (is : test ≡ delivers r) (other : T (not test)) where
-    pub counts-other : {cards′ : List Card} {a : Adds} → a ≡ answerAdds false r → cards′ ≡ addedAt cards j a → cards′ ≡ answerAdded cards j d r
-    counts-other adds after = after ∙ ap (addedAt cards j) adds ∙ undelivered-cards cards j d r (sym is ∙ is-false test other)
-
-  pub counts-nothing : test ≡ counts r → T (not test) → cards ≡ answerAdded cards j d r
-  counts-nothing is other = sym (uncounted-cards cards j d r (sym is ∙ is-false test other))
-
--- ---- a turn, at the berth that is passed to
-
-module _ {h : Node} {cards : List Card} {s : Settings} {j passed : ℕ} {outgoing buffer : List ℕ} (t : Turning h cards s j passed outgoing buffer) where
-  pub turned-within : j < berthCount
-  turned-within = ready t .mine
-
-  pub card-at-turn : j < length cards
-  card-at-turn = subst (λ (m : ℕ). j < m) (sym (turn-answered (lent h cards [] outgoing) buffer (t .may []) .ten)) turned-within
-
-  pub flow-is : {flow : Bool} → flow ≡ flowDue (getD (h .berths) j fresh .rx) → T flow → flowDue (getD (h .berths) j fresh .rx) ≡ true
-  flow-is {flow} ef is = sym ef ∙ is-true flow is
-
-  pub no-flow : {flow : Bool} → flow ≡ flowDue (getD (h .berths) j fresh .rx) → T (not flow) → flowDue (berthAt h j .rx) ≡ false
-  unfolding berthAt
-  no-flow {flow} ef other = sym ef ∙ is-false flow other
-
-pub own-rx : (h : Node) (k : ℕ) → getD (h .berths) k fresh .rx ≡ berthAt h k .rx
-unfolding berthAt
-own-rx h k = refl
-
-pub own-tx : (h : Node) (k : ℕ) → getD (h .berths) k fresh .tx ≡ berthAt h k .tx
-unfolding berthAt
-own-tx h k = refl
 
 module _ (h : Node) {order : ℕ} (eo : order ≡ orderOf h) where
   test : ltb order unordered ≡ inOrder h

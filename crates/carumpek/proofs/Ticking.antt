@@ -28,7 +28,7 @@ use Rattle.looks.specs.Order.{unordered, orderOf}
 use Rattle.looks.proofs.Ordered.{ordered, order-most, idle-there}
 use Rattle.rules.proofs.Cases.{is-true}
 use Rattle.rules.proofs.Answered.{TickAnswered, tick-answered}
-use Rattle.carumpek.proofs.Arms.{some, none}
+use Rattle.looks.proofs.Bodies.{some, none}
 
 module _ (h : Node) {order : ℕ} (said : order ≡ orderOf h) (cards : List Card) {number : ℕ} (en : number ≡ tickRefusal (ltb order unordered) (length cards)) where
   tick-number : (incoming outgoing : List ℕ) → number ≡ refusal (lent h cards incoming outgoing) tick

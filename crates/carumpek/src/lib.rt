@@ -1,18 +1,10 @@
 // The calls that users make: the node struct and the cards, kept in one place, are lent by `&mut` to a few entries, and each works where
-// they lie. An entry tests the order behind the reference and its refusals on plain numbers, reads one side of one berth, calls a part over
-// it (crate sides), stores that side back, and counts on one card; what a call refuses it has not touched. Each promise is over node and
-// cards at entry and at exit.
+// they lie. An entry tests the order behind the reference and its refusals on plain numbers, and then lends both on: for a frame to crate
+// hearing, for a turn to crate handing, for a tick to crate berths; a send stores its side back itself. What a call refuses it has not
+// touched. Each promise is over node and cards at entry and at exit.
 pub mod local;
 mod setting;
 
-ghost use mathlib.Core.Path.{_≡_};
-ghost use mathlib.Core.Bool.{true, false};
-ghost use mathlib.Core.List.{List};
-ghost use Prim.Native.Nat.{ℕ};
-ghost use Rattle.arrivals.specs.Reading.{isFlow};
-ghost use Rattle.sides.specs.Parts.{Arriving, Turning};
-ghost use Rattle.cards.specs.Counting.{answerAdded};
-ghost use Rattle.rules.specs.declared.Card.{Card};
 ghost use Rattle.node.specs.Promises.{SetUpPromise, FramePromise, TickPromise, SendPromise, TurnPromise, ShowPromise, NeededPromise};
 use rules::Card;
 use rules::Choice;
@@ -20,7 +12,6 @@ use rules::FrameAnswer;
 use rules::Node;
 use rules::SendAnswer;
 use rules::SetUpAnswer;
-use rules::Settings;
 use rules::TickAnswer;
 use rules::TurnAnswer;
 
@@ -35,74 +26,6 @@ pub fn set_up(node: &mut Node, area: u32, block: u32, stmin: u32) -> SetUpAnswer
         return SetUpAnswer::Ready;
     }
     SetUpAnswer::Refused(rules::BAD_SETTING)
-}
-
-// Flow control for the berth at a place, that no refusal before 11 holds back: it touches the send side.
-fn tell(node: &mut Node, at: usize, payload: &[u8]) -> FrameAnswer
-    requires { ⌜ (isFlow (now payload) ≡ true) × ((cards : List Card) × ((id : ℕ) × ((incoming : List ℕ) × Arriving (now node) cards id at incoming (now payload)))) ⌝ }
-    ensures { λ r. ⌜ ((cards : List Card) (id : ℕ) (incoming : List ℕ) → Arriving (now (node .entry)) cards id at incoming (now (payload .entry)) → FramePromise (now (node .entry)) cards incoming id (now (payload .entry)) r (now (node .exit)) (answerAdded cards at (now (payload .entry)) r) incoming) ⌝ }
-{
-    let tx = node.berths[at].tx;
-    let told = sides::told(at, tx, payload);
-    berths::put::tx(&mut *node, at, told.tx);
-    told.answer
-}
-
-// Any other frame: it touches the receive side, and one that is ignored not even that. No data is the first reason to ignore it.
-fn hear(node: &mut Node, at: usize, incoming: &mut [u8], payload: &[u8]) -> FrameAnswer
-    requires { ⌜ (isFlow (now payload) ≡ false) × ((cards : List Card) × ((id : ℕ) × Arriving (now node) cards id at (now incoming) (now payload))) ⌝ }
-    ensures { λ r. ⌜ ((cards : List Card) (id : ℕ) → Arriving (now (node .entry)) cards id at (now (incoming .entry)) (now (payload .entry)) → FramePromise (now (node .entry)) cards (now (incoming .entry)) id (now (payload .entry)) r (now (node .exit)) (answerAdded cards at (now (payload .entry)) r) (now (incoming .exit))) ⌝ }
-{
-    if payload.len() == 0 {
-        return sides::ignored(at, rules::NO_DATA);
-    }
-    let rx = node.berths[at].rx;
-    let why = arrivals::why_ignored(rx, payload);
-    if why != 0 {
-        return sides::ignored(at, why);
-    }
-    let last = node.berths[at].last;
-    let heard = sides::heard(node.settings, at, rx, last, incoming, payload);
-    berths::put::rx(&mut *node, at, heard.rx, heard.last);
-    heard.answer
-}
-
-// Either of the two. Of cards they know nothing: their promise is of every list, with what the answer adds.
-fn came(node: &mut Node, at: usize, incoming: &mut [u8], payload: &[u8]) -> FrameAnswer
-    requires { ⌜ ((cards : List Card) × ((id : ℕ) × Arriving (now node) cards id at (now incoming) (now payload))) ⌝ }
-    ensures { λ r. ⌜ ((cards : List Card) (id : ℕ) → Arriving (now (node .entry)) cards id at (now (incoming .entry)) (now (payload .entry)) → FramePromise (now (node .entry)) cards (now (incoming .entry)) id (now (payload .entry)) r (now (node .exit)) (answerAdded cards at (now (payload .entry)) r) (now (incoming .exit))) ⌝ }
-{
-    if arrivals::is_flow(payload) {
-        return tell(&mut *node, at, payload);
-    }
-    hear(&mut *node, at, incoming, payload)
-}
-
-// A frame for the berth at a place, and what its answer counts on the berth's card. Most answers count nothing, and then no card is
-// touched.
-fn arrived(
-    node: &mut Node,
-    cards: &mut [Card],
-    at: usize,
-    incoming: &mut [u8],
-    payload: &[u8],
-) -> FrameAnswer
-    requires { ⌜ ((id : ℕ) × Arriving (now node) (now cards) id at (now incoming) (now payload)) ⌝ }
-    ensures { λ r. ⌜ ((id : ℕ) → Arriving (now (node .entry)) (now (cards .entry)) id at (now (incoming .entry)) (now (payload .entry)) → FramePromise (now (node .entry)) (now (cards .entry)) (now (incoming .entry)) id (now (payload .entry)) r (now (node .exit)) (now (cards .exit)) (now (incoming .exit))) ⌝ }
-{
-    let answer = came(&mut *node, at, incoming, payload);
-    if cards::delivers(answer) {
-        let single = cards::is_single(payload);
-        let old = cards::old(answer);
-        berths::put::delivered(&mut *cards, at, single, old);
-        return answer;
-    }
-    if cards::counts(answer) {
-        let adds = cards::of_answer(answer);
-        berths::put::card(&mut *cards, at, adds);
-        return answer;
-    }
-    answer
 }
 
 // A frame came in.
@@ -130,7 +53,7 @@ pub fn frame(
         return FrameAnswer::Refused(number);
     }
     let at = node::places::of_sender(identifier);
-    arrived(&mut *node, &mut *cards, at, incoming, payload)
+    hearing::arrived(&mut *node, &mut *cards, at, incoming, payload)
 }
 
 // A tick of 1 ms. The berths that the test of order found idle from the first on stay as they are.
@@ -164,36 +87,6 @@ pub fn send(node: &mut Node, outgoing: &mut [u8], berth: u32, message: &[u8]) ->
     sent.answer
 }
 
-// The berth that is passed to after so many hands its frame over. Flow control that is owed goes before a frame of a message.
-fn hand_over(
-    node: &mut Node,
-    cards: &mut [Card],
-    settings: Settings,
-    at: usize,
-    passed: u8,
-    outgoing: &[u8],
-    buffer: &mut [u8],
-) -> TurnAnswer
-    requires { ⌜ Turning (now node) (now cards) settings at passed (now outgoing) (now buffer) ⌝ }
-    ensures { λ r. ⌜ TurnPromise (now (node .entry)) (now (cards .entry)) (now (outgoing .entry)) (now (buffer .entry)) r (now (node .exit)) (now (cards .exit)) (now (buffer .exit)) ⌝ }
-{
-    let rx = node.berths[at].rx;
-    if berth::turns::flow_due(rx) {
-        let handed = sides::flow_handed(settings, at, rx, passed, buffer);
-        berths::put::served_rx(&mut *node, at, handed.rx);
-        return handed.answer;
-    }
-    let tx = node.berths[at].tx;
-    let handed = sides::message_handed(settings, at, tx, passed, outgoing, buffer);
-    berths::put::served_tx(&mut *node, at, handed.tx);
-    if handed.code != 0 {
-        let adds = cards::of_turn(handed.code);
-        berths::put::card(&mut *cards, at, adds);
-        return handed.answer;
-    }
-    handed.answer
-}
-
 // Call for a frame: the controller is free.
 pub fn turn(node: &mut Node, cards: &mut [Card], outgoing: &[u8], buffer: &mut [u8]) -> TurnAnswer
     ensures { λ r. ⌜ TurnPromise (now (node .entry)) (now (cards .entry)) (now (outgoing .entry)) (now (buffer .entry)) r (now (node .exit)) (now (cards .exit)) (now (buffer .exit)) ⌝ }
@@ -219,7 +112,7 @@ pub fn turn(node: &mut Node, cards: &mut [Card], outgoing: &[u8], buffer: &mut [
         return TurnAnswer::None(passed);
     }
     let at = looks::probe(node.served, passed);
-    hand_over(
+    handing::hand_over(
         &mut *node,
         &mut *cards,
         settings,

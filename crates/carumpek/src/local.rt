@@ -3,9 +3,8 @@
 // where that is above twelve. The others stay as they are.
 ghost use mathlib.Core.Path.{_≡_};
 ghost use lib.Dec.{ltb};
-ghost use lib.ListN.{take, drop};
 ghost use Rattle.rules.specs.Tests.{pick};
-ghost use Rattle.node.specs.Promises.{SetUpPromise, FramePromise, TickPromise, SendPromise, TurnPromise, ShowPromise};
+ghost use Rattle.node.specs.Promises.{SetUpPromise, FramePromise, TickPromise, SendPromise, TurnPromise, ShowPromise, OfFirst};
 use rules::Card;
 use rules::Choice;
 use rules::FrameAnswer;
@@ -55,7 +54,7 @@ pub fn frame(
     identifier: u32,
     payload: &[u8],
 ) -> FrameOut
-    ensures { λ r. ⌜ FramePromise node (take count cards) (now (incoming .entry)) identifier (now (payload .entry)) (r .answer) (r .node) (take count (r .cards)) (now (incoming .exit)) × (drop count (r .cards) ≡ drop count cards) ⌝ }
+    ensures { λ r. ⌜ OfFirst (λ lent left. FramePromise node lent (now (incoming .entry)) identifier (now (payload .entry)) (r .answer) (r .node) left (now (incoming .exit))) count cards (r .cards) ⌝ }
 {
     let mut held = node;
     let mut counted = cards;
@@ -75,7 +74,7 @@ pub struct TickOut {
 }
 
 pub fn tick(node: Node, cards: [Card; 12], count: usize) -> TickOut
-    ensures { λ r. ⌜ TickPromise node (take count cards) (r .answer) (r .node) (take count (r .cards)) × (drop count (r .cards) ≡ drop count cards) ⌝ }
+    ensures { λ r. ⌜ OfFirst (λ lent left. TickPromise node lent (r .answer) (r .node) left) count cards (r .cards) ⌝ }
 {
     let mut held = node;
     let mut counted = cards;
@@ -117,7 +116,7 @@ pub fn turn(
     outgoing: &[u8],
     buffer: &mut [u8],
 ) -> TurnOut
-    ensures { λ r. ⌜ TurnPromise node (take count cards) (now (outgoing .entry)) (now (buffer .entry)) (r .answer) (r .node) (take count (r .cards)) (now (buffer .exit)) × (drop count (r .cards) ≡ drop count cards) ⌝ }
+    ensures { λ r. ⌜ OfFirst (λ lent left. TurnPromise node lent (now (outgoing .entry)) (now (buffer .entry)) (r .answer) (r .node) left (now (buffer .exit))) count cards (r .cards) ⌝ }
 {
     let mut held = node;
     let mut counted = cards;

@@ -12,7 +12,7 @@ use Rattle.rules.specs.Tests.{unless}
 use Rattle.rules.specs.Numbers.{berthCount, N-TIMEOUT-A, N-TIMEOUT-Cr}
 use Rattle.rules.specs.Nodes.{berthAt, Held}
 use Rattle.rules.specs.Events.{Call, frame, tick, send, turn, show, senderOf, Event, arrives, ticks, sends, turns}
-use Rattle.rules.specs.Cards.{zeroCard, cardAt, frozen, plus, raised, added, isSingle, frameAdds, underWay, tickAdds, turnAdds, adds}
+use Rattle.rules.specs.Cards.{zeroCard, cardAt, frozen, plus, raised, added, frameAdds, underWay, tickAdds, turnAdds, adds}
 use Rattle.rules.specs.Stores.{passedOver, reached}
 use Rattle.rules.specs.Refusals.{refusal, setUpRefusal}
 use Rattle.rules.specs.Calls.{outcome, final}
@@ -85,7 +85,7 @@ raised-by s p e f = rw f
 
 -- what an event adds is what its moment counts for
 moment-adds : (s : Settings) (p : Part) (e : Event) → adds s (p .berth) (p .outgoing) e ≡ countsFor (record { before = p .berth .rx; event = e; said = says s p e })
-unfolding adds frameAdds tickAdds turnAdds isSingle says
+unfolding adds frameAdds tickAdds turnAdds says
 moment-adds s p (arrives d) = refl
 moment-adds s p ticks = refl
 moment-adds s p (sends m) = refl

@@ -1,4 +1,4 @@
--- The laws.
+-- The laws, and the starred cases of paper 01.
 pub mod Isolation
 pub mod Reports
 pub mod SetUp
@@ -15,3 +15,4 @@ pub mod World
 pub mod Onward
 pub mod Schedule
 pub mod Examples
+pub mod Table

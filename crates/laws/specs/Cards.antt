@@ -6,11 +6,10 @@ use mathlib.Core.List.{List, [], _∷_, _++_}
 use lib.ListN.{replicate}
 use lib.Dec.{eqb}
 use Rattle.rules.specs.Tests.{pick}
-use Rattle.rules.specs.Numbers.{berthCount, singleKind, N-OK, N-TIMEOUT-A, N-TIMEOUT-Cr, N-WRONG-SN, N-INVALID-FS, N-UNEXP-PDU, N-BUFFER-OVFLW}
+use Rattle.rules.specs.Numbers.{berthCount, N-OK, N-TIMEOUT-A, N-TIMEOUT-Cr, N-WRONG-SN, N-INVALID-FS, N-UNEXP-PDU, N-BUFFER-OVFLW}
 use Rattle.rules.specs.Nodes.{berthAt, Held}
-use Rattle.rules.specs.Frames.{kind}
 use Rattle.rules.specs.Events.{Call, Event, arrives, ticks, sends, turns}
-use Rattle.rules.specs.Cards.{zeroCard, cardAt, frozen, isDelivered, isBegun, isTooLong, isFailed, underWay}
+use Rattle.rules.specs.Cards.{zeroCard, cardAt, frozen, isDelivered, isBegun, isTooLong, isFailed, isSingle, underWay}
 use Rattle.rules.specs.Calls.{outcome}
 use Rattle.rules.specs.Alone.{Part, partAfter, says, Says, hears, expires, accepts, hands}
 use Rattle.rules.specs.declared.Settings.{Settings}
@@ -58,7 +57,7 @@ wordIs f (hands frame code) = false
 
 -- the event is a single frame, whatever the message's length
 abbrev pub singleFrameCame : Event → Bool
-singleFrameCame (arrives d) = eqb (kind d) singleKind
+singleFrameCame (arrives d) = isSingle d
 singleFrameCame ticks = false
 singleFrameCame (sends m) = false
 singleFrameCame turns = false

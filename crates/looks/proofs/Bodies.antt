@@ -1,10 +1,11 @@
--- Pieces of code that a walk names: what follows a statement, an arm of a `match`, the locals where they lie; and what a test that was
--- negated says. It says nothing of the crate.
-use mathlib.Core.Path.{_≡_, refl}
+-- Pieces of code that a walk names: what follows a statement, an arm of a `match`, the locals where they lie; and what the tests of a
+-- number say. It says nothing of the crate.
+use mathlib.Core.Path.{_≡_, refl, sym, subst}
 use mathlib.Core.Bool.{Bool, true, false, not}
 use mathlib.Core.List.{List, [], _∷_}
-use Prim.Native.Nat.{ℕ, zero, suc}
-use lib.Dec.{T}
+use Prim.Native.Nat.{ℕ, zero, suc, _<_}
+use native.Mathlib.Omega.{arith}
+use lib.Dec.{T, eqb, eqb→eq}
 use mir.Syntax.{Ty, tyUnit, Local, local, Body, Arms, arm, default, noDefault, skip, seq, assign, block, loop, cond, switch, exit, return, call}
 
 abbrev nth-arm : ℕ → Arms → Body
@@ -41,3 +42,14 @@ type-of (suc n) (local τ home ∷ xs) = type-of n xs
 pub not-not : (t : Bool) → T (not (not t)) → t ≡ true
 not-not true y = refl
 not-not false y = absurd y
+
+-- ---- a number, as the calls test it
+
+pub some : (n : ℕ) → T (not (eqb n 0)) → n ≡ 0 → ⊥
+some n t e = subst (λ (m : ℕ). T (not (eqb m 0))) e t
+
+pub none : (n : ℕ) → T (not (not (eqb n 0))) → n ≡ 0
+none n t = eqb→eq n 0 (subst T (sym (not-not (eqb n 0) t)) tt)
+
+pub above-none : {n : ℕ} → T (not (eqb n 0)) → 0 < n
+above-none {n} t = let z = some n t in omega arith

@@ -3,7 +3,7 @@
 use Prim.Native.Nat.{ℕ, _+_, _*_}
 use mathlib.Core.Path.{_≡_}
 use mathlib.Core.List.{List, []}
-use lib.ListN.{replicate}
+use lib.ListN.{replicate, take, drop}
 use Rattle.rules.specs.Numbers.{berthCount}
 use Rattle.rules.specs.Tests.{pick, unless}
 use Rattle.rules.specs.Frames.{framesNeeded}
@@ -65,6 +65,11 @@ abbrev pub TurnPromise : Node → List Card → List ℕ → List ℕ → TurnAn
 TurnPromise n cards outgoing buffer a n′ cards′ buffer′ =
     (incoming : List ℕ) →
     Agrees (left (turnSays a buffer′) (lent n′ cards′ incoming outgoing) buffer′) (outcome (lent n cards incoming outgoing) (turn buffer))
+
+-- of a longer list the first so many cards are lent: a call's promise is of these, and the others stay
+pub record OfFirst (promise : List Card → List Card → Type 0) (count : ℕ) (cards cards′ : List Card) : Type 0 where
+  pub promised : promise (take count cards) (take count cards′)
+  pub others : drop count cards′ ≡ drop count cards
 
 -- where a part starts: a block of memory, and the place in it. Berth k's area in the chosen store, or the front of the incoming
 -- store where nothing can be shown

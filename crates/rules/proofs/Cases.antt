@@ -114,6 +114,10 @@ pub or-right : (a b : Bool) → T b → T (a || b)
 or-right true b t = tt
 or-right false b t = t
 
+pub or-neither : (a b : Bool) → a || b ≡ false → (a ≡ false) × (b ≡ false)
+or-neither true b e = (e, cc)
+or-neither false b e = (refl, e)
+
 abbrev pub AllT : List Bool → Type 0
 AllT [] = Unit {0}
 AllT (b ∷ bs) = T b × AllT bs

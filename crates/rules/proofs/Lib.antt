@@ -12,5 +12,4 @@ pub mod Answers
 pub mod Cards
 pub mod Even
 pub mod Needed
-pub mod Table
 pub mod Edges

@@ -74,10 +74,10 @@ use Rattle.node.proofs.places.of_sender as c3
 use Rattle.node.proofs.places.of_sender.Symbol as c3-def
 use Rattle.node.proofs.places.of_sender.Symbol.{name as #c3}
 use Rattle.node.proofs.places.of_sender.Met as c3-thm
-use Rattle.carumpek.proofs.arrived as c4
-use Rattle.carumpek.proofs.arrived.Symbol as c4-def
-use Rattle.carumpek.proofs.arrived.Symbol.{name as #c4}
-use Rattle.carumpek.proofs.arrived.Met as c4-thm
+use Rattle.hearing.proofs.arrived as c4
+use Rattle.hearing.proofs.arrived.Symbol as c4-def
+use Rattle.hearing.proofs.arrived.Symbol.{name as #c4}
+use Rattle.hearing.proofs.arrived.Met as c4-thm
 use Rattle.carumpek.proofs.frame.Key.{name as #self}
 use Rattle.carumpek.proofs.frame as self
 use Rattle.carumpek.proofs.frame.Statement as stated
@@ -216,7 +216,7 @@ module _ {M : Type 1} (𝓤 : URA M) (H : Heap 𝓤) (A : Atoms 𝓤) (W : Given
         split ! $ move ! (1 ∷ []) $ use1 W (raw (fact 𝓤 (j· ≡ placeOfSender identifier))) (exE 𝓤 _ (λ ws. snd∗ 𝓤 (sem 𝓤 H A (lasts c3.ended tt (identifier, tt) ws)) (fact 𝓤 (j· ≡ placeOfSender identifier)))) $ heard ! (j· ≡ placeOfSender identifier) (λ ej. split ! $ move ! (1 ∷ []) $ returned ! (uint w64) j· v3 (λ j-is.
         land ! (from ! (stop !)) (init ! 25 refl ((uint w64) .lawful 𝓤 H A W .typed j· _ j-is .0)) $
         drop ! $
-        -- arrived(&mut *node, &mut *cards, at, incoming, payload)
+        -- hearing::arrived(&mut *node, &mut *cards, at, incoming, payload)
         assigns ! (addr ! (from ! (hop ! (look ! 42 refl) (stop !)))) (from ! (stop !)) (init ! 12 refl (tt, tt)) $
         assigns ! (addr ! (from ! (fld ! refl (hop ! (look-in ! 40 (sub ! 0 refl (whole !))) (stop !))))) (from ! (stop !)) (init ! 10 refl (tt, tt)) $
         assigns ! (agg ! (and-then ! (load ! (from ! (stop !)) (look ! 10 refl)) (and-then ! (load ! (from ! (fld ! refl (stop !))) (look-in ! 40 (sub ! 1 refl (whole !)))) (no-more !)))) (from ! (stop !)) (init ! 8 refl (tt, (tt, (record { fits = cards-is .0 .1 .0 }, tt)))) $
@@ -257,4 +257,4 @@ frame-spec 𝓤 H 𝓜 𝓖 𝓡 =
     (cited 𝓤 H (C1 𝓤 H (𝓖 .A) (𝓜 .mem) (𝓡 .run)) 𝓜 𝓡 code.env #c1 c1-def.routine code.calls-looks·order (c1-thm.met 𝓤 H 𝓜 𝓖 𝓡))
     (cited 𝓤 H (C2 𝓤 H (𝓖 .A) (𝓜 .mem) (𝓡 .run)) 𝓜 𝓡 code.env #c2 c2-def.routine code.calls-node·refusals·frame (c2-thm.met 𝓤 H 𝓜 𝓖 𝓡))
     (cited 𝓤 H (C3 𝓤 H (𝓖 .A) (𝓜 .mem) (𝓡 .run)) 𝓜 𝓡 code.env #c3 c3-def.routine code.calls-node·places·of-sender (c3-thm.met 𝓤 H 𝓜 𝓖 𝓡))
-    (cited 𝓤 H (C4 𝓤 H (𝓖 .A) (𝓜 .mem) (𝓡 .run)) 𝓜 𝓡 code.env #c4 c4-def.routine code.calls-carumpek·arrived (c4-thm.met 𝓤 H 𝓜 𝓖 𝓡)))
+    (cited 𝓤 H (C4 𝓤 H (𝓖 .A) (𝓜 .mem) (𝓡 .run)) 𝓜 𝓡 code.env #c4 c4-def.routine code.calls-hearing·arrived (c4-thm.met 𝓤 H 𝓜 𝓖 𝓡)))

@@ -82,10 +82,10 @@ use Rattle.looks.proofs.probe as c4
 use Rattle.looks.proofs.probe.Symbol as c4-def
 use Rattle.looks.proofs.probe.Symbol.{name as #c4}
 use Rattle.looks.proofs.probe.Met as c4-thm
-use Rattle.carumpek.proofs.hand_over as c5
-use Rattle.carumpek.proofs.hand_over.Symbol as c5-def
-use Rattle.carumpek.proofs.hand_over.Symbol.{name as #c5}
-use Rattle.carumpek.proofs.hand_over.Met as c5-thm
+use Rattle.handing.proofs.hand_over as c5
+use Rattle.handing.proofs.hand_over.Symbol as c5-def
+use Rattle.handing.proofs.hand_over.Symbol.{name as #c5}
+use Rattle.handing.proofs.hand_over.Met as c5-thm
 use Rattle.carumpek.proofs.turn.Key.{name as #self}
 use Rattle.carumpek.proofs.turn as self
 use Rattle.carumpek.proofs.turn.Statement as stated
@@ -271,7 +271,7 @@ module _ {M : Type 1} (𝓤 : URA M) (H : Heap 𝓤) (A : Atoms 𝓤) (W : Given
         split ! $ move ! (1 ∷ []) $ use1 W (raw (fact 𝓤 ((j· ≡ probeAt (h .served) p·) × (j· < berthCount)))) (exE 𝓤 _ (λ ws. snd∗ 𝓤 (sem 𝓤 H A (lasts c4.ended tt ((h .served), (p·, tt)) ws)) (fact 𝓤 ((j· ≡ probeAt (h .served) p·) × (j· < berthCount))))) $ heard ! ((j· ≡ probeAt (h .served) p·) × (j· < berthCount)) (λ ej. split ! $ move ! (1 ∷ []) $ returned ! (uint w64) j· v4 (λ j-is.
         land ! (from ! (stop !)) (init ! 29 refl ((uint w64) .lawful 𝓤 H A W .typed j· _ j-is .0)) $
         drop ! $
-        -- hand_over( &mut *node, &mut *cards, settings, at, passed, outgoing, buffer, )
+        -- handing::hand_over( &mut *node, &mut *cards, settings, at, passed, outgoing, buffer, )
         assigns ! (addr ! (from ! (hop ! (look ! 46 refl) (stop !)))) (from ! (stop !)) (init ! 12 refl (tt, tt)) $
         assigns ! (addr ! (from ! (fld ! refl (hop ! (look-in ! 44 (sub ! 0 refl (whole !))) (stop !))))) (from ! (stop !)) (init ! 10 refl (tt, tt)) $
         assigns ! (agg ! (and-then ! (load ! (from ! (stop !)) (look ! 10 refl)) (and-then ! (load ! (from ! (fld ! refl (stop !))) (look-in ! 44 (sub ! 1 refl (whole !)))) (no-more !)))) (from ! (stop !)) (init ! 8 refl (tt, (tt, (record { fits = cards-is .0 .1 .0 }, tt)))) $
@@ -313,4 +313,4 @@ turn-spec 𝓤 H 𝓜 𝓖 𝓡 =
     (cited 𝓤 H (C2 𝓤 H (𝓖 .A) (𝓜 .mem) (𝓡 .run)) 𝓜 𝓡 code.env #c2 c2-def.routine code.calls-node·refusals·turn (c2-thm.met 𝓤 H 𝓜 𝓖 𝓡))
     (cited 𝓤 H (C3 𝓤 H (𝓖 .A) (𝓜 .mem) (𝓡 .run)) 𝓜 𝓡 code.env #c3 c3-def.routine code.calls-looks·passed-over (c3-thm.met 𝓤 H 𝓜 𝓖 𝓡))
     (cited 𝓤 H (C4 𝓤 H (𝓖 .A) (𝓜 .mem) (𝓡 .run)) 𝓜 𝓡 code.env #c4 c4-def.routine code.calls-looks·probe (c4-thm.met 𝓤 H 𝓜 𝓖 𝓡))
-    (cited 𝓤 H (C5 𝓤 H (𝓖 .A) (𝓜 .mem) (𝓡 .run)) 𝓜 𝓡 code.env #c5 c5-def.routine code.calls-carumpek·hand-over (c5-thm.met 𝓤 H 𝓜 𝓖 𝓡)))
+    (cited 𝓤 H (C5 𝓤 H (𝓖 .A) (𝓜 .mem) (𝓡 .run)) 𝓜 𝓡 code.env #c5 c5-def.routine code.calls-handing·hand-over (c5-thm.met 𝓤 H 𝓜 𝓖 𝓡)))

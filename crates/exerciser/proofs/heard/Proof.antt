@@ -14,7 +14,7 @@ same-length : tie.Need-same-length
 same-length c = search needs
 
 returns : tie.Need-returns
-returns c = λ outgoing. does (c .frame2 .ensures) (c .before .before .before .before .before .frame .ensures .0 outgoing)
+returns c = λ outgoing. does (c .frame2 .ensures) (c .before .before .before .before .before .frame .ensures .promised outgoing)
 
 pub heard-spec : {M : Type 1} → statement M
 heard-spec = tie.close (tie.spec frame-requires frame-requires-2 same-length returns)

@@ -11,7 +11,7 @@ tick-requires-2 : tie.Need-tick-requires-2
 tick-requires-2 c κs = search needs
 
 returns : tie.Need-returns
-returns c = λ incoming. λ outgoing. does (c .tick2 .ensures) (c .before .before .before .before .tick .ensures .0 .agrees incoming outgoing)
+returns c = λ incoming. λ outgoing. does (c .tick2 .ensures) (c .before .before .before .before .tick .ensures .promised .agrees incoming outgoing)
 
 pub ticked-spec : {M : Type 1} → statement M
 ticked-spec = tie.close (tie.spec tick-requires tick-requires-2 returns)

@@ -17,7 +17,7 @@ turn-requires-2 : tie.Need-turn-requires-2
 turn-requires-2 c κs = search needs
 
 returns : tie.Need-returns
-returns c = λ incoming. does (c .turn2 .ensures) (c .before .before .before .before .before .turn .ensures .0 incoming)
+returns c = λ incoming. does (c .turn2 .ensures) (c .before .before .before .before .before .turn .ensures .promised incoming)
 
 pub turned-spec : {M : Type 1} → statement M
 turned-spec =

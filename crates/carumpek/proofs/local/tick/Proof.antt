@@ -109,7 +109,7 @@ module _ {M : Type 1} (𝓤 : URA M) (H : Heap 𝓤) (A : Atoms 𝓤) (W : Given
 
   exits : (n : ℕ) (r : TickAnswer) (h′ : Node) (cards′ : List Card) → n ≡ least count → length cards′ ≡ length (take n cards) → Said n r h′ cards′ → Is (F·O .row) (out r h′ (mended n cards′ cards)) (F·O .val (out r h′ (mended n cards′ cards)) ∷ []) → ent 𝓤 (⋆ 𝓤 H A (Left)) (Post (F·O .val (out r h′ (mended n cards′ cards))))
   exits n r h′ cards′ en len e is =
-      qed W (Left) ∵ suffices ! _ (ends-at 𝓤 H A self.ended stayed (self.clauses 𝓤 H A at-mem run) W ((tt, tt, tt, x, at), tt) (F·O .val (out r h′ (mended n cards′ cards))) (out r h′ (mended n cards′ cards)) (tt, (tt, (tt, tt))) (tt, (tt, (tt, tt)))) $ says ! (lent-said (λ xs ys. TickPromise h xs r h′ ys) count n en cards cards′ cards-is len e) $
+      qed W (Left) ∵ suffices ! _ (ends-at 𝓤 H A self.ended stayed (self.clauses 𝓤 H A at-mem run) W ((tt, tt, tt, x, at), tt) (F·O .val (out r h′ (mended n cards′ cards))) (out r h′ (mended n cards′ cards)) (tt, (tt, (tt, tt))) (tt, (tt, (tt, tt)))) $ says ! (let of = lent-said (λ xs ys. TickPromise h xs r h′ ys) count n en cards cards′ cards-is len e in record { promised = of .0; others = of .1 }) $
       nothing ! $ frame ! $ nothing ! $ had ! (uint w64) count count-is $ fjoin ! $ had ! F12 cards cards-is $ fjoin ! $ had ! FT h h-is $ fjoin ! $ frame ! $ had ! F·O (out r h′ (mended n cards′ cards)) is $ done !
 
   -- the local l and the first n of the local k, lent for the lifetimes α and β under the names δ and ε

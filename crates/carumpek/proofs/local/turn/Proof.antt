@@ -122,7 +122,7 @@ module _ {M : Type 1} (𝓤 : URA M) (H : Heap 𝓤) (A : Atoms 𝓤) (W : Given
 
   exits : (n : ℕ) (r : TurnAnswer) (h′ : Node) (cards′ : List Card) (buffer′ : List ℕ) → n ≡ least count → length cards′ ≡ length (take n cards) → Said n r h′ cards′ buffer′ → length buffer′ ≡ length (buffer .now) → Is (F·O .row) (out r h′ (mended n cards′ cards)) (F·O .val (out r h′ (mended n cards′ cards)) ∷ []) → ent 𝓤 (⋆ 𝓤 H A (Left buffer′)) (Post (F·O .val (out r h′ (mended n cards′ cards))))
   exits n r h′ cards′ buffer′ en len e buffer-len is =
-      qed W (Left buffer′) ∵ suffices ! _ (ends-at 𝓤 H A self.ended stayed (self.clauses 𝓤 H A at-mem run) W (((κ0, (κ1, tt)), (q0, (q1, tt)), tt, x, at), tt) (F·O .val (out r h′ (mended n cards′ cards))) (out r h′ (mended n cards′ cards)) (tt, (tt, (tt, (tt, (buffer′, tt))))) (tt, (tt, (tt, (tt, (buffer-len, tt)))))) $ says ! (lent-said (λ xs ys. TurnPromise h xs (outgoing .now) (buffer .now) r h′ ys buffer′) count n en cards cards′ cards-is len e) $
+      qed W (Left buffer′) ∵ suffices ! _ (ends-at 𝓤 H A self.ended stayed (self.clauses 𝓤 H A at-mem run) W (((κ0, (κ1, tt)), (q0, (q1, tt)), tt, x, at), tt) (F·O .val (out r h′ (mended n cards′ cards))) (out r h′ (mended n cards′ cards)) (tt, (tt, (tt, (tt, (buffer′, tt))))) (tt, (tt, (tt, (tt, (buffer-len, tt)))))) $ says ! (let of = lent-said (λ xs ys. TurnPromise h xs (outgoing .now) (buffer .now) r h′ ys buffer′) count n en cards cards′ cards-is len e in record { promised = of .0; others = of .1 }) $
       nothing ! $ move ! (2 ∷ 0 ∷ []) $ join ! $ move ! (1 ∷ 0 ∷ []) $ join ! $ frame ! $ nothing ! $ move ! (1 ∷ 0 ∷ []) $ fjoin ! $ move ! (1 ∷ 0 ∷ []) $ fjoin ! $ had ! (uint w64) count count-is $ fjoin ! $ had ! F12 cards cards-is $ fjoin ! $ had ! FT h h-is $ fjoin ! $ frame ! $ had ! F·O (out r h′ (mended n cards′ cards)) is $ done !
 
   -- the local l and the first n of the local k, lent for the lifetimes α and β under the names δ and ε

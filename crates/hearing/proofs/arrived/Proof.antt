@@ -1,4 +1,4 @@
--- `carumpek::arrived` meets its contract: a walk of its MIR, written by tools/walks. The frame comes, and its answer is counted.
+-- `hearing::arrived` meets its contract: a walk of its MIR, written by tools/walks. The frame comes, and its answer is counted.
 -- Assumes nothing.
 use mathlib.Core.Path.{_≡_, refl, sym, subst}
 use mathlib.Core.Bool.{Bool, false}
@@ -50,7 +50,7 @@ use Rattle.rules.specs.declared.Word.the-variants.{Delivered}
 use Rattle.cards.specs.Counting.{answerAdds, answerAdded, delivers, counts, oldOf}
 use Rattle.node.specs.Promises.{FramePromise}
 use Rattle.sides.specs.Parts.{Arriving}
-use Rattle.carumpek.proofs.Arms.{card-within, counts-delivered, counts-other, counts-nothing}
+use Rattle.hearing.proofs.Arms.{card-within, counts-delivered, counts-other, counts-nothing}
 use Rattle.rules.specs.declared.FrameAnswer.{FrameAnswer}
 use Rattle.rules.proofs.FrameAnswer as A2
 use Rattle.rules.proofs.FrameAnswer.Laws as A2′
@@ -60,10 +60,10 @@ use Rattle.rules.proofs.Card.Laws as Ca′
 use Rattle.rules.specs.declared.Adds.{Adds}
 use Rattle.rules.proofs.Adds as Ad
 use Rattle.rules.proofs.Adds.Laws as Ad′
-use Rattle.carumpek.proofs.came as c1
-use Rattle.carumpek.proofs.came.Symbol as c1-def
-use Rattle.carumpek.proofs.came.Symbol.{name as #c1}
-use Rattle.carumpek.proofs.came.Met as c1-thm
+use Rattle.hearing.proofs.came as c1
+use Rattle.hearing.proofs.came.Symbol as c1-def
+use Rattle.hearing.proofs.came.Symbol.{name as #c1}
+use Rattle.hearing.proofs.came.Met as c1-thm
 use Rattle.cards.proofs.delivers as c2
 use Rattle.cards.proofs.delivers.Symbol as c2-def
 use Rattle.cards.proofs.delivers.Symbol.{name as #c2}
@@ -92,11 +92,11 @@ use Rattle.berths.proofs.put.card as c8
 use Rattle.berths.proofs.put.card.Symbol as c8-def
 use Rattle.berths.proofs.put.card.Symbol.{name as #c8}
 use Rattle.berths.proofs.put.card.Met as c8-thm
-use Rattle.carumpek.proofs.arrived.Key.{name as #self}
-use Rattle.carumpek.proofs.arrived as self
-use Rattle.carumpek.proofs.arrived.Statement as stated
-use Rattle.carumpek.proofs.arrived.Code as code
-use Rattle.carumpek.proofs.arrived.Code.Mir as body
+use Rattle.hearing.proofs.arrived.Key.{name as #self}
+use Rattle.hearing.proofs.arrived as self
+use Rattle.hearing.proofs.arrived.Statement as stated
+use Rattle.hearing.proofs.arrived.Code as code
+use Rattle.hearing.proofs.arrived.Code.Mir as body
 
 abbrev F·A2 : Flat
 F·A2 = enum A2.the-type A2′.the-laws tt A2′.the-plain
@@ -332,7 +332,7 @@ arrived-spec 𝓤 H 𝓜 𝓖 𝓡 =
     entered 𝓤 H (tripleOf 𝓤 H (𝓖 .A) self.signature (self.spec 𝓤 H (𝓖 .A) (𝓜 .mem) (𝓡 .run)))
     (tables 𝓤 H 𝓜 𝓡 code.env .C) (tables 𝓤 H 𝓜 𝓡 code.env .Λ) #self code.function (code.unfolded 𝓤 H 𝓜 𝓡)
     (meets 𝓤 H (𝓖 .A) (givenOf 𝓤 H 𝓜 𝓖) (𝓜 .mem) (𝓡 .run) (tablesOf 𝓤 H 𝓜 (tables 𝓤 H 𝓜 𝓡 code.env))
-    (cited 𝓤 H (C1 𝓤 H (𝓖 .A) (𝓜 .mem) (𝓡 .run)) 𝓜 𝓡 code.env #c1 c1-def.routine code.calls-carumpek·came (c1-thm.met 𝓤 H 𝓜 𝓖 𝓡))
+    (cited 𝓤 H (C1 𝓤 H (𝓖 .A) (𝓜 .mem) (𝓡 .run)) 𝓜 𝓡 code.env #c1 c1-def.routine code.calls-hearing·came (c1-thm.met 𝓤 H 𝓜 𝓖 𝓡))
     (cited 𝓤 H (C2 𝓤 H (𝓖 .A) (𝓜 .mem) (𝓡 .run)) 𝓜 𝓡 code.env #c2 c2-def.routine code.calls-cards·delivers (c2-thm.met 𝓤 H 𝓜 𝓖 𝓡))
     (cited 𝓤 H (C3 𝓤 H (𝓖 .A) (𝓜 .mem) (𝓡 .run)) 𝓜 𝓡 code.env #c3 c3-def.routine code.calls-cards·is-single (c3-thm.met 𝓤 H 𝓜 𝓖 𝓡))
     (cited 𝓤 H (C4 𝓤 H (𝓖 .A) (𝓜 .mem) (𝓡 .run)) 𝓜 𝓡 code.env #c4 c4-def.routine code.calls-cards·old (c4-thm.met 𝓤 H 𝓜 𝓖 𝓡))

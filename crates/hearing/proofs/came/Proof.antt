@@ -1,4 +1,4 @@
--- `carumpek::came` meets its contract: a walk of its MIR, written by tools/walks. Flow control, or another frame.
+-- `hearing::came` meets its contract: a walk of its MIR, written by tools/walks. Flow control, or another frame.
 -- Assumes nothing.
 use mathlib.Core.Path.{_≡_, refl, sym, _∙_}
 use mathlib.Core.Bool.{Bool, true, false}
@@ -61,19 +61,19 @@ use Rattle.arrivals.proofs.is_flow as c1
 use Rattle.arrivals.proofs.is_flow.Symbol as c1-def
 use Rattle.arrivals.proofs.is_flow.Symbol.{name as #c1}
 use Rattle.arrivals.proofs.is_flow.Met as c1-thm
-use Rattle.carumpek.proofs.tell as c2
-use Rattle.carumpek.proofs.tell.Symbol as c2-def
-use Rattle.carumpek.proofs.tell.Symbol.{name as #c2}
-use Rattle.carumpek.proofs.tell.Met as c2-thm
-use Rattle.carumpek.proofs.hear as c3
-use Rattle.carumpek.proofs.hear.Symbol as c3-def
-use Rattle.carumpek.proofs.hear.Symbol.{name as #c3}
-use Rattle.carumpek.proofs.hear.Met as c3-thm
-use Rattle.carumpek.proofs.came.Key.{name as #self}
-use Rattle.carumpek.proofs.came as self
-use Rattle.carumpek.proofs.came.Statement as stated
-use Rattle.carumpek.proofs.came.Code as code
-use Rattle.carumpek.proofs.came.Code.Mir as body
+use Rattle.hearing.proofs.tell as c2
+use Rattle.hearing.proofs.tell.Symbol as c2-def
+use Rattle.hearing.proofs.tell.Symbol.{name as #c2}
+use Rattle.hearing.proofs.tell.Met as c2-thm
+use Rattle.hearing.proofs.hear as c3
+use Rattle.hearing.proofs.hear.Symbol as c3-def
+use Rattle.hearing.proofs.hear.Symbol.{name as #c3}
+use Rattle.hearing.proofs.hear.Met as c3-thm
+use Rattle.hearing.proofs.came.Key.{name as #self}
+use Rattle.hearing.proofs.came as self
+use Rattle.hearing.proofs.came.Statement as stated
+use Rattle.hearing.proofs.came.Code as code
+use Rattle.hearing.proofs.came.Code.Mir as body
 
 abbrev F·A2 : Flat
 F·A2 = enum A2.the-type A2′.the-laws tt A2′.the-plain
@@ -218,5 +218,5 @@ came-spec 𝓤 H 𝓜 𝓖 𝓡 =
     (tables 𝓤 H 𝓜 𝓡 code.env .C) (tables 𝓤 H 𝓜 𝓡 code.env .Λ) #self code.function (code.unfolded 𝓤 H 𝓜 𝓡)
     (meets 𝓤 H (𝓖 .A) (givenOf 𝓤 H 𝓜 𝓖) (𝓜 .mem) (𝓡 .run) (tablesOf 𝓤 H 𝓜 (tables 𝓤 H 𝓜 𝓡 code.env))
     (cited 𝓤 H (C1 𝓤 H (𝓖 .A) (𝓜 .mem) (𝓡 .run)) 𝓜 𝓡 code.env #c1 c1-def.routine code.calls-arrivals·is-flow (c1-thm.met 𝓤 H 𝓜 𝓖 𝓡))
-    (cited 𝓤 H (C2 𝓤 H (𝓖 .A) (𝓜 .mem) (𝓡 .run)) 𝓜 𝓡 code.env #c2 c2-def.routine code.calls-carumpek·tell (c2-thm.met 𝓤 H 𝓜 𝓖 𝓡))
-    (cited 𝓤 H (C3 𝓤 H (𝓖 .A) (𝓜 .mem) (𝓡 .run)) 𝓜 𝓡 code.env #c3 c3-def.routine code.calls-carumpek·hear (c3-thm.met 𝓤 H 𝓜 𝓖 𝓡)))
+    (cited 𝓤 H (C2 𝓤 H (𝓖 .A) (𝓜 .mem) (𝓡 .run)) 𝓜 𝓡 code.env #c2 c2-def.routine code.calls-hearing·tell (c2-thm.met 𝓤 H 𝓜 𝓖 𝓡))
+    (cited 𝓤 H (C3 𝓤 H (𝓖 .A) (𝓜 .mem) (𝓡 .run)) 𝓜 𝓡 code.env #c3 c3-def.routine code.calls-hearing·hear (c3-thm.met 𝓤 H 𝓜 𝓖 𝓡)))

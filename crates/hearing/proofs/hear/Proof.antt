@@ -1,4 +1,4 @@
--- `carumpek::hear` meets its contract: a walk of its MIR, written by tools/walks. Ignored, or the receive side is read, a part is called, and the side is stored back with the last length.
+-- `hearing::hear` meets its contract: a walk of its MIR, written by tools/walks. Ignored, or the receive side is read, a part is called, and the side is stored back with the last length.
 -- Assumes nothing.
 use mathlib.Core.Path.{_≡_, refl, sym, _∙_, subst}
 use mathlib.Core.Bool.{false}
@@ -68,7 +68,8 @@ use Rattle.arrivals.specs.Reading.{isFlow, whyIgnored}
 use Rattle.node.specs.Promises.{FramePromise}
 use Rattle.sides.specs.Parts.{Arriving, Hearing}
 use Rattle.sides.proofs.Hearing.{hearable}
-use Rattle.carumpek.proofs.Arms.{some as is-some, above-none, arrived-within, ignoring, unread, hearing}
+use Rattle.looks.proofs.Bodies.{some as is-some, above-none}
+use Rattle.hearing.proofs.Arms.{arrived-within, ignoring, unread, hearing}
 use Rattle.rules.specs.declared.FrameAnswer.{FrameAnswer}
 use Rattle.rules.proofs.FrameAnswer as A2
 use Rattle.rules.proofs.FrameAnswer.Laws as A2′
@@ -94,11 +95,11 @@ use Rattle.berths.proofs.put.rx as c4
 use Rattle.berths.proofs.put.rx.Symbol as c4-def
 use Rattle.berths.proofs.put.rx.Symbol.{name as #c4}
 use Rattle.berths.proofs.put.rx.Met as c4-thm
-use Rattle.carumpek.proofs.hear.Key.{name as #self}
-use Rattle.carumpek.proofs.hear as self
-use Rattle.carumpek.proofs.hear.Statement as stated
-use Rattle.carumpek.proofs.hear.Code as code
-use Rattle.carumpek.proofs.hear.Code.Mir as body
+use Rattle.hearing.proofs.hear.Key.{name as #self}
+use Rattle.hearing.proofs.hear as self
+use Rattle.hearing.proofs.hear.Statement as stated
+use Rattle.hearing.proofs.hear.Code as code
+use Rattle.hearing.proofs.hear.Code.Mir as body
 
 abbrev F·A2 : Flat
 F·A2 = enum A2.the-type A2′.the-laws tt A2′.the-plain

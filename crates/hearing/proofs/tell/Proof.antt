@@ -1,4 +1,4 @@
--- `carumpek::tell` meets its contract: a walk of its MIR, written by tools/walks. The send side is read, a part is called, and the side is stored back.
+-- `hearing::tell` meets its contract: a walk of its MIR, written by tools/walks. The send side is read, a part is called, and the side is stored back.
 -- Assumes nothing.
 use mathlib.Core.Path.{_≡_, refl, sym, _∙_, subst}
 use mathlib.Core.Bool.{true}
@@ -59,7 +59,7 @@ use Rattle.rules.specs.Nodes.{withTx, withBerth}
 use Rattle.arrivals.specs.Reading.{isFlow}
 use Rattle.node.specs.Promises.{FramePromise}
 use Rattle.sides.specs.Parts.{Arriving, Telling}
-use Rattle.carumpek.proofs.Arms.{arrived-within, telling}
+use Rattle.hearing.proofs.Arms.{arrived-within, telling}
 use Rattle.rules.specs.declared.FrameAnswer.{FrameAnswer}
 use Rattle.rules.proofs.FrameAnswer as A2
 use Rattle.rules.proofs.FrameAnswer.Laws as A2′
@@ -77,10 +77,10 @@ use Rattle.berths.proofs.put.tx as c2
 use Rattle.berths.proofs.put.tx.Symbol as c2-def
 use Rattle.berths.proofs.put.tx.Symbol.{name as #c2}
 use Rattle.berths.proofs.put.tx.Met as c2-thm
-use Rattle.carumpek.proofs.tell.Key.{name as #self}
-use Rattle.carumpek.proofs.tell as self
-use Rattle.carumpek.proofs.tell.Statement as stated
-use Rattle.carumpek.proofs.tell.Code as code
+use Rattle.hearing.proofs.tell.Key.{name as #self}
+use Rattle.hearing.proofs.tell as self
+use Rattle.hearing.proofs.tell.Statement as stated
+use Rattle.hearing.proofs.tell.Code as code
 
 abbrev F·A2 : Flat
 F·A2 = enum A2.the-type A2′.the-laws tt A2′.the-plain

@@ -1,4 +1,4 @@
--- `carumpek::hand_over` meets its contract: a walk of its MIR, written by tools/walks. Flow control that is owed, or a frame of the message.
+-- `handing::hand_over` meets its contract: a walk of its MIR, written by tools/walks. Flow control that is owed, or a frame of the message.
 -- Assumes nothing.
 use mathlib.Core.Path.{_≡_, refl, sym, _∙_, ap, subst}
 use mathlib.Core.Bool.{Bool, true, false}
@@ -66,7 +66,8 @@ use Rattle.rules.specs.Turns.{flowDue}
 use Rattle.rules.specs.Stores.{servedNode}
 use Rattle.node.specs.Promises.{TurnPromise}
 use Rattle.sides.specs.Parts.{Turning}
-use Rattle.carumpek.proofs.Arms.{none as is-no, turned-within, card-at-turn, flow-is, no-flow, own-rx, own-tx}
+use Rattle.looks.proofs.Bodies.{none as is-no}
+use Rattle.handing.proofs.Arms.{turned-within, card-at-turn, flow-is, no-flow, own-rx, own-tx}
 use Rattle.rules.specs.declared.TurnAnswer.{TurnAnswer}
 use Rattle.rules.proofs.TurnAnswer as A4
 use Rattle.rules.proofs.TurnAnswer.Laws as A4′
@@ -110,11 +111,11 @@ use Rattle.berths.proofs.put.card as c7
 use Rattle.berths.proofs.put.card.Symbol as c7-def
 use Rattle.berths.proofs.put.card.Symbol.{name as #c7}
 use Rattle.berths.proofs.put.card.Met as c7-thm
-use Rattle.carumpek.proofs.hand_over.Key.{name as #self}
-use Rattle.carumpek.proofs.hand_over as self
-use Rattle.carumpek.proofs.hand_over.Statement as stated
-use Rattle.carumpek.proofs.hand_over.Code as code
-use Rattle.carumpek.proofs.hand_over.Code.Mir as body
+use Rattle.handing.proofs.hand_over.Key.{name as #self}
+use Rattle.handing.proofs.hand_over as self
+use Rattle.handing.proofs.hand_over.Statement as stated
+use Rattle.handing.proofs.hand_over.Code as code
+use Rattle.handing.proofs.hand_over.Code.Mir as body
 
 abbrev F·A4 : Flat
 F·A4 = enum A4.the-type A4′.the-laws tt A4′.the-plain

@@ -1,0 +1,2 @@
+-- Facts that the walks of this crate cite.
+pub mod Arms
