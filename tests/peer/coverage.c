@@ -64,11 +64,22 @@ static void count_send(enum outcome outcome, const struct send_side *tx)
     counts[outcome][in_gap ? CONSECUTIVE + 1 : (int)tx->state]++;
 }
 
+/* One step outside the range of the gaps, in both states that carry them. */
+static void cover_gap_fault(enum fault fault, const struct send_side *tx)
+{
+    if (fault == gap_large && tx->gap == GAP_MAX + 1)
+        count(tx->state == AWAITS_FLOW ? gap_129_awaiting : gap_129_consecutive);
+    if (fault == gap_left_large && tx->gap_left == GAP_MAX + 1)
+        count(gap_left_129);
+}
+
 static void cover_order(const struct node *before)
 {
     enum fault fault = fault_of(before);
     if (fault != no_fault)
         count(fault_area_small + (fault - area_small));
+    for (int k = 0; k < BERTHS; k++)
+        cover_gap_fault(fault, &before->tx[k]);
 }
 
 /* The outcome for too few cards; the one for too many stands behind it. */
@@ -147,19 +158,40 @@ static void cover_consecutive(const struct node *before, const struct frame_answ
         count_receive(full ? took_full : took, rx);
 }
 
-static void cover_going(const uint8_t *data)
+static bool within(int value, int low, int high)
 {
-    uint8_t block_size = data[1], stmin = data[2];
-    count(block_size == 0 ? going_no_blocks : block_size == 1 ? going_blocks_of_1 : going_blocks);
-    if (stmin == 0)
-        count(stmin_none);
-    else if (stmin <= GAP_MAX)
-        count(stmin_ticks);
-    else
-        count(stmin_allowed(stmin) ? stmin_below_ms : stmin_unknown);
+    return value >= low && value <= high;
 }
 
-static void cover_flow_control(const struct node *before, const struct call *call,
+/* The outcomes name the gap too, so one is only counted where the side has that gap now. */
+static void cover_stmin(uint8_t stmin, int gap)
+{
+    static const struct {
+        enum outcome outcome;
+        int stmin_low, stmin_high, gap_low, gap_high;
+    } rules[] = {
+        { stmin_none, 0x00, 0x00, 0, 0 },
+        { stmin_one, 0x01, 0x01, 2, 2 },
+        { stmin_ticks, 0x02, 0x7E, 3, 127 },
+        { stmin_longest, 0x7F, 0x7F, 128, 128 },
+        { stmin_unknown_low, 0x80, 0xF0, 128, 128 },
+        { stmin_below_ms, 0xF1, 0xF9, 2, 2 },
+        { stmin_unknown_high, 0xFA, 0xFF, 128, 128 },
+    };
+    for (size_t i = 0; i < sizeof rules / sizeof rules[0]; i++)
+        if (within(stmin, rules[i].stmin_low, rules[i].stmin_high)
+            && within(gap, rules[i].gap_low, rules[i].gap_high))
+            count(rules[i].outcome);
+}
+
+static void cover_going(const uint8_t *data, const struct send_side *after)
+{
+    uint8_t block_size = data[1];
+    count(block_size == 0 ? going_no_blocks : block_size == 1 ? going_blocks_of_1 : going_blocks);
+    cover_stmin(data[2], after->gap);
+}
+
+static void cover_flow_control(const struct node *before, const struct node *after, const struct call *call,
                                const struct frame_answer *answer)
 {
     const struct send_side *tx = &before->tx[answer->berth];
@@ -172,7 +204,7 @@ static void cover_flow_control(const struct node *before, const struct call *cal
         count_send(flow_at_999, tx);
     if (answer->word == GOING) {
         count_send(flow_going, tx);
-        cover_going(call->data);
+        cover_going(call->data, &after->tx[answer->berth]);
     } else if (answer->word == WAITING) {
         count_send(flow_waiting, tx);
     } else {
@@ -189,7 +221,8 @@ static void cover_additions(const struct world *before, int berth, struct additi
             counts[card_begun + i][frozen(card) ? 2 : card->counts[i] == COUNT_TOP - 1]++;
 }
 
-static void cover_frame(const struct world *world, const struct call *call, const struct frame_answer *answer)
+static void cover_frame(const struct world *world, const struct node *after, const struct call *call,
+                        const struct frame_answer *answer)
 {
     const struct node *before = &world->node;
     const struct receive_side *rx = &before->rx[answer->berth];
@@ -213,12 +246,23 @@ static void cover_frame(const struct world *world, const struct call *call, cons
         cover_consecutive(before, answer);
         break;
     case 3:
-        cover_flow_control(before, call, answer);
+        cover_flow_control(before, after, call, answer);
         break;
     default:
         count_receive(ignored_2, rx);
         break;
     }
+}
+
+/* The ends of the range of gaps. */
+static void cover_gap(const struct send_side *tx)
+{
+    if (tx->gap == GAP_MAX)
+        count_send(tick_peers_gap_128, tx);
+    if (tx->gap_left == GAP_MAX)
+        count_send(tick_gap_left_128, tx);
+    if (tx->gap_left == 1)
+        count_send(tick_gap_left_1, tx);
 }
 
 static void cover_tick(const struct world *world, const struct tick_answer *answer)
@@ -238,6 +282,7 @@ static void cover_tick(const struct world *world, const struct tick_answer *answ
         count_receive(receive == 0 ? receive_tick : receive == N_TIMEOUT_A ? receive_tick_2 : receive_tick_4,
                       &before->rx[k]);
         count_send(send == 0 ? send_tick : send == N_TIMEOUT_A ? send_tick_2 : send_tick_3, &before->tx[k]);
+        cover_gap(&before->tx[k]);
         cover_additions(world, k, tick_adds(before->rx[k].state, receive, send));
     }
 }
@@ -271,7 +316,7 @@ static void cover_send(const struct node *before, int berth, int refusal)
     }
 }
 
-static void cover_message_handed_over(const struct send_side *tx, bool last)
+static void cover_message_handed_over(const struct send_side *tx, const struct send_side *after, bool last)
 {
     bool full = tx->sent + 1 == tx->block_size;
     if (tx->timer == TIMER_END - 1)
@@ -284,14 +329,19 @@ static void cover_message_handed_over(const struct send_side *tx, bool last)
         count_send(full ? turn_last_full : turn_last, tx);
     else
         count_send(full ? turn_full : turn_more, tx);
+    if (after->state == CONSECUTIVE && after->gap_left == 0)
+        count_send(turn_no_gap, tx);
+    if (after->gap_left == GAP_MAX)
+        count_send(turn_longest_gap, tx);
 }
 
-static void cover_hand_over(const struct node *before, const struct turn_answer *answer)
+static void cover_hand_over(const struct node *before, const struct node *after, const struct turn_answer *answer)
 {
-    const struct receive_side *rx = &before->rx[answer->identifier - TO_BERTH_0];
-    const struct send_side *tx = &before->tx[answer->identifier - TO_BERTH_0];
+    int berth = answer->identifier - TO_BERTH_0;
+    const struct receive_side *rx = &before->rx[berth];
+    const struct send_side *tx = &before->tx[berth];
     if (rx->state != OWES_OVERFLOW && rx->state != OWES_GO) {
-        cover_message_handed_over(tx, answer->code == N_OK);
+        cover_message_handed_over(tx, &after->tx[berth], answer->code == N_OK);
         return;
     }
     count_receive(rx->state == OWES_GO ? turn_go : turn_overflow, rx);
@@ -300,7 +350,7 @@ static void cover_hand_over(const struct node *before, const struct turn_answer 
         count_receive(turn_flow_at_999, rx);
 }
 
-static void cover_turn(const struct world *world, const struct answer *all)
+static void cover_turn(const struct world *world, const struct node *after, const struct answer *all)
 {
     const struct node *before = &world->node;
     const struct turn_answer *answer = &all->turn;
@@ -309,7 +359,7 @@ static void cover_turn(const struct world *world, const struct answer *all)
         count((enum outcome)(passed_0 + answer->passed_over));
         if (answer->none)
             break;
-        cover_hand_over(before, answer);
+        cover_hand_over(before, after, answer);
         cover_additions(world, answer->identifier - TO_BERTH_0, turn_adds(all->buffer, answer->code));
         break;
     case 12:
@@ -396,7 +446,7 @@ void cover(const struct world *before, const struct world *world, const struct c
         count(record_bad);
         break;
     case FRAME:
-        cover_frame(before, call, &answer->frame);
+        cover_frame(before, &world->node, call, &answer->frame);
         break;
     case TICK:
         cover_tick(before, &answer->tick);
@@ -405,7 +455,7 @@ void cover(const struct world *before, const struct world *world, const struct c
         cover_send(node, call->berth, answer->refusal);
         break;
     case TURN:
-        cover_turn(before, answer);
+        cover_turn(before, &world->node, answer);
         break;
     case HEADER:
     case SET_UP:

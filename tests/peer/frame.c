@@ -176,15 +176,6 @@ static struct frame_answer consecutive_came(struct arrival *a)
     return take(a, missing);
 }
 
-static int gap_of(uint8_t stmin)
-{
-    if (stmin <= GAP_MAX)
-        return stmin;
-    if (stmin_allowed(stmin))
-        return rule(1, 20d, 0);
-    return rule(GAP_MAX, 20c, 0);
-}
-
 static struct frame_answer sending_failed(struct arrival *a, int code)
 {
     *a->tx = (struct send_side){ .state = TX_IDLE };
@@ -199,6 +190,7 @@ static struct frame_answer flow_control_obeyed(struct arrival *a)
         tx->state = CONSECUTIVE;
         tx->block_size = a->data[1];
         tx->gap = gap_of(a->data[2]);
+        tx->gap_left = rule(rule(0, W2g5, tx->gap > 0), W2g6, tx->gap);
         tx->sn = rule(tx->sn, 18f, 1);
         tx->timer = rule(0, 18e, tx->timer);
         if (mistake(19a))

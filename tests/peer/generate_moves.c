@@ -155,6 +155,7 @@ static int some_block_size(struct generator *g)
 /* Long gaps are rare: they hold up their transfer until many ticks have gone by. */
 static int some_stmin(struct generator *g)
 {
+    static const int edges[] = { 0x01, 0x7E, 0x7F, 0x80, 0xF0, 0xF1, 0xF9, 0xFA, 0xFF };
     int kind = roll(&g->dice, 20);
     if (kind < 11)
         return 0;
@@ -162,7 +163,7 @@ static int some_stmin(struct generator *g)
         return between(&g->dice, 1, 5);
     if (kind < 18)
         return between(&g->dice, 0xF1, 0xF9);
-    return roll(&g->dice, 256);
+    return chance(&g->dice, 50) ? edges[roll(&g->dice, 9)] : roll(&g->dice, 256);
 }
 
 /* Go as a rule; WAIT keeps the transfer where it is, and any other status ends it. */

@@ -69,6 +69,12 @@ static void clear_sides(struct generator *g)
     }
 }
 
+/* An STmin that asks for a gap, often for the longest, which ends last. */
+static int stmin_of_some_gap(struct generator *g)
+{
+    return chance(&g->dice, 20) ? STMIN_TICKS_MAX : between(&g->dice, 1, STMIN_TICKS_MAX);
+}
+
 /* Sides that only a hand-over leads to: awaits, awaits flow control, consecutive in a gap and without. */
 static void place_waiting_sides(struct generator *g)
 {
@@ -84,7 +90,7 @@ static void place_waiting_sides(struct generator *g)
             advance_receive(g, k);
     for (int k = 0; k < BERTHS; k++)
         if (g->model.node.tx[k].state == AWAITS_FLOW && chance(&g->dice, 30))
-            emit_flow_control(g, k, 0, 0, between(&g->dice, 1, 127));
+            emit_flow_control(g, k, 0, 0, stmin_of_some_gap(g));
     finish_turns(g);
     for (int k = 0; k < BERTHS; k++)
         if (g->model.node.tx[k].state == AWAITS_FLOW && chance(&g->dice, 50))

@@ -4,7 +4,7 @@
  * The peer is paper 01, with the requests of paper 02 that have landed, written
  * a second time, to run the proved programs against. Its parts:
  *
- *   node.h, order.*, frame.c, tick.c, turn.c, node.c   the rules of the paper
+ *   node.*, order.*, frame.c, gap.c, tick.c, turn.c    the rules of the paper
  *   cards.*                                            the cards beside the node
  *   mutants.*                                          mistakes that can be put into them
  *   records.*, world.*, line.*, say.*, program.*       the exerciser and the scenes program

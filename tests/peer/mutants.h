@@ -118,6 +118,9 @@
  * W1 by sentence: a whose card, b begun and delivered, c failed, d too long, e sent
  * and failed in sending, f frozen, g refusal 12, h refusals and cards, i the
  * exerciser's lines, j the records of scenes.
+ *
+ * W2 by sentence: a n + 1, b F1 to F9, c reserved values, d 0 stays 0, e the range;
+ * then what it leaves as it was: f the node's own STmin, g how a gap is kept and passes.
  */
 #define REQUEST_MUTANTS(X)                                                            \
     X(W1a1, "an event goes to the card of the next berth")                            \
@@ -188,7 +191,46 @@
     X(W1j6, "a card that is not lent is shown empty")                                 \
     X(W1j7, "lending fewer cards empties the others")                                 \
     X(W1j8, "a count of a frozen card is not loaded")                                 \
-    X(W1j9, "a count's value is read low byte first")
+    X(W1j9, "a count's value is read low byte first")                                 \
+    X(W2a1, "a gap is as long as it was before W2")                                   \
+    X(W2a2, "STmin 01 to 7F mean so many ticks and none more")                        \
+    X(W2a3, "STmin 7F still means 127 ticks")                                         \
+    X(W2a4, "STmin 01 still means 1 tick")                                            \
+    X(W2a5, "a gap of n ticks becomes n + 2")                                         \
+    X(W2a6, "the gap kept is n, and each hand-over adds the one more")                \
+    X(W2a7, "the gap kept is n + 1, and each hand-over adds one more again")          \
+    X(W2a8, "only a message's first gap has the one more")                            \
+    X(W2b1, "STmin F1 to F9 still mean 1 tick")                                       \
+    X(W2b2, "STmin F1 to F9 mean 2 ticks and one more")                               \
+    X(W2b3, "STmin F0 means 2 ticks")                                                 \
+    X(W2b4, "STmin FA means 2 ticks")                                                 \
+    X(W2b5, "STmin F1 means 128 ticks")                                               \
+    X(W2b6, "STmin F9 means 128 ticks")                                               \
+    X(W2c1, "a reserved STmin still means 127 ticks")                                 \
+    X(W2c2, "a reserved STmin means 128 ticks and one more")                          \
+    X(W2c3, "a reserved STmin means so many ticks and one more, in a byte")           \
+    X(W2c4, "STmin 80 to F0 still mean 127 ticks")                                    \
+    X(W2c5, "STmin FA to FF still mean 127 ticks")                                    \
+    X(W2d1, "STmin 00 means 1 tick")                                                  \
+    X(W2d2, "after a first frame the peer's gap is 1")                                \
+    X(W2e1, "a peer's gap of 128 is out of order while awaiting")                     \
+    X(W2e2, "a peer's gap of 128 is out of order while consecutive")                  \
+    X(W2e3, "a gap left of 128 is out of order")                                      \
+    X(W2e4, "a peer's gap of 129 is in order while awaiting")                         \
+    X(W2e5, "a peer's gap of 129 is in order while consecutive")                      \
+    X(W2e6, "a gap left of 129 is in order")                                          \
+    X(W2e7, "a peer's gap of 1 is out of order, as no STmin asks for it")             \
+    X(W2f1, "go carries the node's STmin and one more")                               \
+    X(W2f2, "go carries the gap that the node's STmin means")                         \
+    X(W2f3, "a node's own STmin may be 80")                                           \
+    X(W2f4, "set-up keeps STmin and one more")                                        \
+    X(W2g1, "a hand-over leaves 127 of a gap of 128")                                 \
+    X(W2g2, "a filled block takes the one more off the gap")                          \
+    X(W2g3, "a frame is due in the last tick of its gap")                             \
+    X(W2g4, "a gap of 128 does not fit seven bits, and is 0")                         \
+    X(W2g5, "after go the first frame waits the one tick more")                       \
+    X(W2g6, "after go the first frame waits the whole gap")                           \
+    X(W2g7, "the one more comes behind the gap, while the timer runs")
 
 #define AS_MUTANT(line, sentence) MISTAKE_##line,
 enum { NO_MUTANT, MUTANTS(AS_MUTANT) REQUEST_MUTANTS(AS_MUTANT) MUTANT_COUNT };

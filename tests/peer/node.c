@@ -32,7 +32,7 @@ int set_up(struct node *node, uint32_t area, uint32_t block_size, uint32_t stmin
     *node = (struct node){
         .area = (int)area,
         .block_size = (int)block_size,
-        .stmin = (int)stmin,
+        .stmin = (int)rule(stmin, W2f4, stmin + 1),
         .served = rule(BERTHS - 1, 06c, before.served),
     };
     for (int k = 0; k < BERTHS && mistake(06d); k++)

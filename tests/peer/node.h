@@ -1,5 +1,5 @@
 /*
- * node.h - the node of paper 01 and its calls, with the cards of request W1 beside it.
+ * node.h - the node of paper 01 and its calls, with the cards of request W1 beside it and the gaps of W2.
  *
  * This is an independent reading of the paper in plain C: it shares no line
  * with the proved node, so that an error would have to be made twice to stay
@@ -17,7 +17,8 @@ enum {
     AREA_MIN = 8,
     AREA_MAX = 4095,
     BLOCK_MAX = 255,
-    GAP_MAX = 127,
+    STMIN_TICKS_MAX = 0x7F, /* up to here an STmin means so many ticks */
+    GAP_MAX = 128,      /* the longest gap, in ticks */
     SN_MAX = 15,
     TIMER_END = 1000,   /* the tick that makes a timer this ends its side */
     SINGLE_MAX = 7,     /* bytes in a single frame, and in a consecutive one */
@@ -54,7 +55,7 @@ struct send_side {
     enum send_state state;
     int length, position, sn;
     int block_size, sent;   /* the peer's block size; frames sent in this block */
-    int gap, gap_left;
+    int gap, gap_left;      /* the peer's gap and what is left of it, in ticks */
     int timer;
 };
 
@@ -148,6 +149,8 @@ int frames_needed(uint64_t length);
 bool in_order(const struct node *node);
 bool has_ten_areas(const struct node *node, struct bytes store);
 bool stmin_allowed(uint32_t stmin);
+bool in_tenths(uint32_t stmin);     /* F1 to F9: tenths of a millisecond */
+int gap_of(uint8_t stmin);
 bool anything_due(const struct node *node);
 
 #endif

@@ -14,9 +14,14 @@
             return name;                                  \
     } while (0)
 
+bool in_tenths(uint32_t stmin)
+{
+    return stmin >= 0xF1 && stmin <= 0xF9;
+}
+
 bool stmin_allowed(uint32_t stmin)
 {
-    return stmin <= 0x7F || (stmin >= 0xF1 && stmin <= 0xF9);
+    return stmin <= (uint32_t)rule(STMIN_TICKS_MAX, W2f3, GAP_MAX) || in_tenths(stmin);
 }
 
 static enum fault settings_fault(const struct node *node)
@@ -51,9 +56,18 @@ static enum fault receive_fault(const struct node *node, const struct receive_si
     return no_fault;
 }
 
+/* The longest gap that a peer may have, but for the mutants that have another one in one of the states. */
+static int longest_gap(enum send_state state)
+{
+    if (state == AWAITS_FLOW)
+        return rule(rule(GAP_MAX, W2e1, GAP_MAX - 1), W2e4, GAP_MAX + 1);
+    return rule(rule(GAP_MAX, W2e2, GAP_MAX - 1), W2e5, GAP_MAX + 1);
+}
+
 /* What awaits flow control and consecutive carry. */
 static enum fault transfer_fault(const struct node *node, const struct send_side *tx)
 {
+    int most_left = rule(rule(GAP_MAX, W2e3, GAP_MAX - 1), W2e6, GAP_MAX + 1);
     BREAKS(length_small, tx->length < AREA_MIN);
     BREAKS(length_large, tx->length > node->area);
     BREAKS(position_small, tx->position < FIRST_BYTES);
@@ -62,10 +76,12 @@ static enum fault transfer_fault(const struct node *node, const struct send_side
     BREAKS(sent_while_awaiting, tx->state == AWAITS_FLOW && tx->sent != 0);
     BREAKS(sent_large, tx->block_size != 0 && tx->sent >= tx->block_size && tx->state == CONSECUTIVE);
     BREAKS(sent_uncounted, tx->block_size == 0 && tx->sent != 0 && tx->state == CONSECUTIVE);
-    BREAKS(gap_large, tx->gap > GAP_MAX);
-    BREAKS(gap_left_large, tx->gap_left > GAP_MAX && tx->state == CONSECUTIVE);
+    BREAKS(gap_large, tx->gap > longest_gap(tx->state));
+    BREAKS(gap_left_large, tx->gap_left > most_left && tx->state == CONSECUTIVE);
     BREAKS(gap_left_while_awaiting, tx->state == AWAITS_FLOW && tx->gap_left != 0);
     BREAKS(timer_in_gap, tx->gap_left > 0 && tx->timer > 0 && tx->state == CONSECUTIVE);
+    /* No STmin asks for a gap of 1, but the range has it. */
+    BREAKS(gap_large, mistake(W2e7) && tx->gap == 1);
     BREAKS(gap_left_large, mistake(04d) && tx->gap_left > tx->gap);
     return no_fault;
 }

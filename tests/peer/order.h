@@ -37,8 +37,8 @@
     X(sent_large, "frames sent not below the peer's block size")        \
     X(sent_uncounted, "frames sent not 0 with the peer's block size 0") \
     X(sent_while_awaiting, "frames sent not 0 while awaiting")          \
-    X(gap_large, "peer's gap above 127")                                \
-    X(gap_left_large, "gap left above 127")                             \
+    X(gap_large, "peer's gap above 128")                                \
+    X(gap_left_large, "gap left above 128")                             \
     X(gap_left_while_awaiting, "gap left above 0 while awaiting")       \
     X(timer_in_gap, "timer above 0 while gap left is above 0")
 

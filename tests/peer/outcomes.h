@@ -67,13 +67,19 @@
     X(status_13, BOTH, OF_NODE, "-", "flow control: awaited, status 13")        \
     X(status_14, BOTH, OF_NODE, "-", "flow control: awaited, status 14")        \
     X(status_15, BOTH, OF_NODE, "-", "flow control: awaited, status 15")        \
-    X(stmin_ticks, BOTH, OF_NODE, "-", "going: STmin 01 to 7F")                 \
-    X(stmin_none, BOTH, OF_NODE, "-", "going: STmin 00")                        \
-    X(stmin_below_ms, BOTH, OF_NODE, "-", "going: STmin F1 to F9")              \
-    X(stmin_unknown, BOTH, OF_NODE, "-", "going: STmin reserved")               \
+    X(stmin_none, BOTH, OF_NODE, "-", "going: STmin 00, gap 0")                 \
+    X(stmin_one, BOTH, OF_NODE, "-", "going: STmin 01, gap 2")                  \
+    X(stmin_ticks, BOTH, OF_NODE, "-", "going: STmin 02 to 7E, gap 3 to 127")   \
+    X(stmin_longest, BOTH, OF_NODE, "-", "going: STmin 7F, gap 128")            \
+    X(stmin_below_ms, BOTH, OF_NODE, "-", "going: STmin F1 to F9, gap 2")       \
+    X(stmin_unknown_low, BOTH, OF_NODE, "-", "going: STmin 80 to F0, gap 128")  \
+    X(stmin_unknown_high, BOTH, OF_NODE, "-", "going: STmin FA to FF, gap 128") \
     X(going_no_blocks, BOTH, OF_NODE, "-", "going: block size 0")               \
     X(going_blocks_of_1, BOTH, OF_NODE, "-", "going: block size 1")             \
     X(going_blocks, BOTH, OF_NODE, "-", "going: block size above 1")            \
+    X(gap_129_awaiting, ONLY_SCENES, OF_NODE, "-", "refused 1: peer's gap 129, awaiting") \
+    X(gap_129_consecutive, ONLY_SCENES, OF_NODE, "-", "refused 1: peer's gap 129, consecutive") \
+    X(gap_left_129, ONLY_SCENES, OF_NODE, "-", "refused 1: gap left 129")       \
     X(show_no_berth, ONLY_SCENES, OF_NODE, "-", "show: berth above 9")          \
     X(show_bad_node, ONLY_SCENES, OF_NODE, "-", "show: node out of order")      \
     X(show_incoming, ONLY_SCENES, OF_NODE, "-", "show: incoming wrong only")    \
@@ -144,9 +150,14 @@
     X(send_tick, BOTH, OF_SEND, "isfwcp", "tick: no code")                      \
     X(send_tick_2, BOTH, OF_SEND, "sfc", "tick: code 2")                        \
     X(send_tick_3, BOTH, OF_SEND, "w", "tick: code 3")                          \
+    X(tick_peers_gap_128, BOTH, OF_SEND, "wcp", "tick: peer's gap 128")         \
+    X(tick_gap_left_128, BOTH, OF_SEND, "p", "tick: gap left 128")              \
+    X(tick_gap_left_1, BOTH, OF_SEND, "p", "tick: gap left 1")                  \
     X(turn_single, BOTH, OF_SEND, "s", "turn: single handed over")              \
     X(turn_first, BOTH, OF_SEND, "f", "turn: first handed over")                \
     X(turn_more, BOTH, OF_SEND, "c", "turn: consecutive, more to go")           \
+    X(turn_no_gap, BOTH, OF_SEND, "c", "turn: consecutive, then gap left 0")    \
+    X(turn_longest_gap, BOTH, OF_SEND, "c", "turn: consecutive, then gap left 128") \
     X(turn_full, BOTH, OF_SEND, "c", "turn: consecutive, block full")           \
     X(turn_last, BOTH, OF_SEND, "c", "turn: consecutive, last")                 \
     X(turn_last_full, BOTH, OF_SEND, "c", "turn: consecutive, last, block full") \

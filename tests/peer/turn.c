@@ -22,11 +22,16 @@ static bool flow_control_due(const struct node *node, int berth)
     return state == OWES_OVERFLOW || state == OWES_GO;
 }
 
+static bool gap_over(const struct send_side *tx)
+{
+    bool one_tick_more = mistake(W2g7) && tx->gap > 0 && tx->timer == 0;
+    return tx->gap_left <= rule(0, W2g3, 1) && !one_tick_more;
+}
+
 static bool message_due(const struct node *node, int berth)
 {
     const struct send_side *tx = &node->tx[berth];
-    return tx->state == SINGLE_DUE || tx->state == FIRST_DUE
-        || (tx->state == CONSECUTIVE && tx->gap_left == 0);
+    return tx->state == SINGLE_DUE || tx->state == FIRST_DUE || (tx->state == CONSECUTIVE && gap_over(tx));
 }
 
 /* The first berth with a frame due, counted as berths passed over; BERTHS if there is none. */
@@ -67,11 +72,13 @@ static void hand_over_overflow(struct hand_over *h)
     *h->rx = (struct receive_side){ .state = RX_IDLE, .last = h->rx->last };
 }
 
+/* The node's own STmin, as it was set up: what a peer makes of it is the peer's business. */
 static void hand_over_go(struct hand_over *h)
 {
+    int stmin = h->node->stmin;
     put_byte(h, 0x30);
     put_byte(h, h->node->block_size);
-    put_byte(h, h->node->stmin);
+    put_byte(h, rule(rule(stmin, W2f1, stmin + 1), W2f2, gap_of((uint8_t)stmin)));
     h->rx->state = AWAITS;
     h->rx->taken = 0;
     h->rx->timer = 0;
@@ -108,6 +115,7 @@ static void hand_over_first(struct hand_over *h)
         .position = FIRST_BYTES,
         .sn = 1,
         .block_size = rule(0, 05c, h->node->block_size),
+        .gap = rule(0, W2d2, 1),
     };
 }
 
@@ -115,6 +123,18 @@ static void hand_over_first(struct hand_over *h)
 static bool fills_peers_block(const struct send_side *tx)
 {
     return tx->block_size > rule(0, 03d, 1) && tx->sent + 1 == tx->block_size;
+}
+
+static int mistaken_gap_left(const struct send_side *tx)
+{
+    bool first_gap = tx->position == FIRST_BYTES + 7;
+    if (tx->gap == 0)
+        return rule(0, 27c, 1);
+    if (mistake(W2a6) || mistake(W2a7))
+        return tx->gap + 1;
+    if (mistake(21b) || (mistake(W2a8) && !first_gap) || (mistake(W2g1) && tx->gap == GAP_MAX))
+        return tx->gap - 1;
+    return tx->gap;
 }
 
 static void after_consecutive(struct send_side *tx)
@@ -125,16 +145,12 @@ static void after_consecutive(struct send_side *tx)
         tx->sent = 0;
         tx->block_size = rule(tx->block_size, 05a, 0);
         tx->gap_left = rule(0, 27b, tx->gap);
-        tx->gap = rule(tx->gap, 05b, 0);
+        tx->gap = rule(rule(tx->gap, 05b, 0), W2g2, tx->gap - (tx->gap > 0));
         return;
     }
     if (tx->block_size != 0 || mistake(03c))
         tx->sent++;
-    tx->gap_left = tx->gap;
-    if (mistake(21b) && tx->gap > 0)
-        tx->gap_left--;
-    if (mistake(27c) && tx->gap == 0)
-        tx->gap_left = 1;
+    tx->gap_left = mutant == NO_MUTANT ? tx->gap : mistaken_gap_left(tx);
 }
 
 static void hand_over_consecutive(struct hand_over *h)

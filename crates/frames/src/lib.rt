@@ -132,12 +132,15 @@ pub fn fills_block(block: u8, n: u8) -> bool
 pub fn gap_of(stmin: u8) -> u8
     ensures { λ r. ⌜ r ≡ gapOf stmin ⌝ }
 {
+    if stmin == 0 {
+        return 0;
+    }
     let s = wide(stmin);
     if s <= rules::MOST_MILLIS {
-        return stmin;
+        return stmin + 1;
     }
     if (rules::LEAST_FRACTION <= s) & (s <= rules::MOST_FRACTION) {
-        return 1;
+        return 2;
     }
     rules::LONGEST_GAP
 }

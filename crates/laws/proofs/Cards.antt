@@ -27,6 +27,18 @@ use Rattle.laws.specs.Cards.{zeroCards, Moment, history, moments, histor
 use Rattle.laws.proofs.Isolation.{part-step, says-step, settings-step, berth-alone}
 use Rattle.laws.proofs.SetUp.{set-up-part}
 
+-- ---- what holds of a berth's part at each of these events, before it
+
+unfoldable pub AtEach : (Settings → Part → Event → Type 0) → Settings → Part → List Event → Type 0
+AtEach P s p [] = Unit {0}
+AtEach P s p (e ∷ es) = P s p e × AtEach P s (partAfter s p e) es
+
+pub at-each-append : (P : Settings → Part → Event → Type 0) (s : Settings) (p : Part) (es fs : List Event) → AtEach P s p es → AtEach P s (alone s p es) fs
+    → AtEach P s p (es ++ fs)
+unfolding alone AtEach
+at-each-append P s p [] fs u v = v
+at-each-append P s p (e ∷ es) fs u v = (u .0, at-each-append P s (partAfter s p e) es fs (u .1) v)
+
 -- ---- a frozen card
 
 -- A FROZEN CARD STAYS FOR EVER, whatever its berth's events.
@@ -38,9 +50,8 @@ frozen-stays s p (e ∷ es) f =
     frozen-stays s (partAfter s p e) es (ap frozen same ∙ f) ∙ same
 
 -- the card is frozen before none of these events
-unfoldable Unfrozen : Settings → Part → List Event → Type 0
-Unfrozen s p [] = Unit {0}
-Unfrozen s p (e ∷ es) = (frozen (p .card) ≡ false) × Unfrozen s (partAfter s p e) es
+abbrev Unfrozen : Settings → Part → List Event → Type 0
+Unfrozen = AtEach (λ s p e. frozen (p .card) ≡ false)
 
 -- one that is not frozen was never
 never-frozen : (s : Settings) (p : Part) (es : List Event) → frozen (alone s p es .card) ≡ false → frozen (p .card) ≡ false
@@ -52,7 +63,7 @@ never-frozen s p es f = go (frozen (p .card)) refl
 
 -- so the card before the last event tells
 before-last : (s : Settings) (p : Part) (es : List Event) (e : Event) → frozen (alone s p es .card) ≡ false → Unfrozen s p (es ++ e ∷ [])
-unfolding alone Unfrozen
+unfolding alone AtEach
 before-last s p [] e f = (f, tt)
 before-last s p (x ∷ es) e f = (never-frozen s p (x ∷ es) f, before-last s (partAfter s p x) es e f)
 
@@ -95,7 +106,7 @@ moment-adds s p turns = refl
 module _ (count : Card → ℕ) (add : Adds → Bool) (up : (c : Card) (a : Adds) → count (raised c a) ≡ plus (count c) (add a)) where
   count-is : (s : Settings) (p : Part) (es : List Event) → Unfrozen s p es
       → count (alone s p es .card) ≡ count (p .card) + howMany (λ m. add (countsFor m)) (history s p es)
-  unfolding alone Unfrozen history howMany
+  unfolding alone AtEach history howMany
   count-is s p [] u = omega arith
   count-is s p (e ∷ es) u =
       let m : Moment = record { before = p .berth .rx; event = e; said = says s p e } in
@@ -150,7 +161,7 @@ balanced-after s p e f b = rw (raised-by s p e f) (go (adds s (p .berth) (p .out
         )
 
 balanced-run : (s : Settings) (p : Part) (es : List Event) → Unfrozen s p es → Balanced p → Balanced (alone s p es)
-unfolding alone Unfrozen
+unfolding alone AtEach
 balanced-run s p [] u b = b
 balanced-run s p (e ∷ es) u b = balanced-run s (partAfter s p e) es (u .1) (balanced-after s p e (u .0) b)
 
@@ -204,7 +215,7 @@ moments-step k h c =
     ∙ own-either (λ es. moments (berthAt (h .node) k .rx) es (saysAll (h .node .settings) (partOf k h) es) ≡ history (h .node .settings) (partOf k h) es)
     (unfold moments history in refl) (λ e. unfold moments saysAll history in refl) k h c
 
-history-is : (k : ℕ) (h : Held) (cs : List Call) → historyOf k h cs ≡ history (h .node .settings) (partOf k h) (owns k h cs)
+pub history-is : (k : ℕ) (h : Held) (cs : List Call) → historyOf k h cs ≡ history (h .node .settings) (partOf k h) (owns k h cs)
 unfolding historyOf owns
 history-is k h [] = unfold history in refl
 history-is k h (c ∷ cs) =
@@ -214,13 +225,8 @@ history-is k h (c ∷ cs) =
 
 -- ---- the card before the last call tells
 
-unfrozen-append : (s : Settings) (p : Part) (es fs : List Event) → Unfrozen s p es → Unfrozen s (alone s p es) fs → Unfrozen s p (es ++ fs)
-unfolding alone Unfrozen
-unfrozen-append s p [] fs u v = v
-unfrozen-append s p (e ∷ es) fs u v = (u .0, unfrozen-append s (partAfter s p e) es fs (u .1) v)
-
 unfrozen-own : (k : ℕ) (h : Held) (c : Call) → frozenAt k h ≡ false → Unfrozen (h .node .settings) (partOf k h) (own k h c)
-unfolding Unfrozen partOf
+unfolding AtEach partOf
 unfrozen-own k h c f = own-either (Unfrozen (h .node .settings) (partOf k h)) tt (λ e. (f, tt)) k h c
 
 never-frozen-at : (k : ℕ) (h : Held) (cs : List Call) → frozenAt k (final h cs) ≡ false → frozenAt k h ≡ false
@@ -230,9 +236,9 @@ never-frozen-at k h cs f = never-frozen (h .node .settings) (partOf k h) (owns k
 before-call : (k : ℕ) (h : Held) (cs : List Call) (c : Call) → frozenAt k (final h cs) ≡ false
     → Unfrozen (h .node .settings) (partOf k h) (owns k h (cs ++ c ∷ []))
 unfolding owns final
-before-call k h [] c f = unfrozen-append (h .node .settings) (partOf k h) (own k h c) [] (unfrozen-own k h c f) (unfold Unfrozen in tt)
+before-call k h [] c f = at-each-append _ (h .node .settings) (partOf k h) (own k h c) [] (unfrozen-own k h c f) (unfold AtEach in tt)
 before-call k h (x ∷ cs) c f =
-    unfrozen-append (h .node .settings) (partOf k h) (own k h x) (owns k (outcome h x .held) (cs ++ c ∷ []))
+    at-each-append _ (h .node .settings) (partOf k h) (own k h x) (owns k (outcome h x .held) (cs ++ c ∷ []))
     (unfrozen-own k h x (never-frozen-at k h (x ∷ cs) f))
     (rw (settings-step h x, part-step k h x) at (before-call k (outcome h x .held) cs c f))
 

@@ -1,15 +1,15 @@
 -- Runs, computed, that meet the premises of the laws: so the laws are about something.
 use mathlib.Core.Path.{_≡_, refl}
-use Prim.Native.Nat.{ℕ, _*_, _<_}
+use Prim.Native.Nat.{ℕ, _*_, _≤_, _<_}
 use mathlib.Core.Bool.{true, false}
 use mathlib.Core.List.{List, [], _∷_, _++_}
-use lib.ListN.{set, replicate}
+use lib.ListN.{length, take, set, replicate}
 use lib.Dec.{lit<, lit≤}
 use Rattle.rules.specs.Tests.{all, each, firstUnmet}
 use Rattle.rules.specs.Numbers.{berthCount}
 use Rattle.rules.specs.Nodes.{fresh, withRx, withTx, berthAt, Held, withBerth}
 use Rattle.rules.specs.Ranges.{settingsAllowed, inBlock, takingInRange, sendingInRange, berthInOrder, inOrder}
-use Rattle.rules.specs.Frames.{kind, low, singleFits, shortLength, escapeLength, announced, firstFits, consecutiveFits, flowFits, padded, singleFrame, firstFrame, consecutiveFrame, goFrame, firstSn, nextSn, counted, fillsBlock, gapOf, share}
+use Rattle.rules.specs.Frames.{kind, low, singleFits, shortLength, escapeLength, announced, firstFits, consecutiveFits, flowFits, padded, singleFrame, firstFrame, consecutiveFrame, goFrame, firstSn, nextSn, counted, fillsBlock, ticksMeant, gapOf, share}
 use Rattle.rules.specs.Arrivals.{ignored, singleCame, begun, firstCame, piece, grown, completed, afterTook, took, wrongSn, awaitedCame, granted, byStatus, heardBy, toldBy, byKind, frameCame, turnedAway}
 use Rattle.rules.specs.Ticks.{ran, ticked, codesOf}
 use Rattle.rules.specs.Turns.{due, moved, afterConsecutive, handOver, beginsWith, sent as sentBerth}
@@ -19,22 +19,24 @@ use Rattle.rules.specs.Cards.{rightCards, addedAt, tickedCards, zeroCard, cardA
 use Rattle.rules.specs.Events.{Call, frame, tick, send, turn, show, Event, arrives, ticks, sends, turns}
 use Rattle.rules.specs.Refusals.{needs, refusal, setUpRefusal}
 use Rattle.rules.specs.Calls.{showable, shownLength, showing, afterFrame, afterTurn, done, reply, written, refusedOutcome, outcome, setUpOutcome, answers, final}
-use Rattle.rules.specs.Alone.{partOf, Part, withCard, stateAfter, partAfter, alone}
+use Rattle.rules.specs.Alone.{partOf, Part, withCard, Says, hears, expires, accepts, hands, stateAfter, partAfter, alone}
 use Rattle.rules.specs.declared.Settings.{Settings}
 use Rattle.rules.specs.declared.Choice.{Choice}
 use Rattle.rules.specs.declared.Rx.{Rx}
 use Rattle.rules.specs.declared.Tx.{Tx}
 use Rattle.rules.specs.declared.Berth.{Berth}
 use Rattle.rules.specs.declared.Codes.{Codes}
-use Rattle.rules.specs.declared.Word.the-variants.{Delivered, Ignored}
+use Rattle.rules.specs.declared.Word.the-variants.{Delivered, Ignored, Going}
 use Rattle.rules.proofs.Ranges.{in-order-range}
 use Rattle.laws.specs.Own.{over, only, ownDone, own, owns, saysOf, ofBerth, Sound, setUp, freshPart, Alone}
-use Rattle.laws.specs.Cards.{zeroCards, history, historyOf, Tallies, TalliesAt, frozenAt}
+use Rattle.laws.specs.Cards.{zeroCards, Moment, history, moments, historyOf, howMany, Tallies, TalliesAt, frozenAt}
+use Rattle.laws.specs.Gaps.{TwoFrames, Ticking, Spaced}
 use Rattle.laws.specs.Rounds.{served, turnOf, StaysDue, Fair}
 use Rattle.laws.specs.Sides.{frameSide, ofSide, handedSide, framesBy}
 use Rattle.laws.specs.Line.{there, back, deliveredIn, leftA, leftB, carriedA, carriedB, Deed, atA, atB, setUpB, carryA, carryB, acts, living, spares, AllApart, gapLeft, AtRest, begin, MayBegin, Arrived, blank}
 use Rattle.laws.proofs.SetUp.{each-alone, each-alone-after-set-up}
 use Rattle.laws.proofs.Cards.{card-tallies, frozen-stays, tallies-after-set-up}
+use Rattle.laws.proofs.Gaps.{run-spaced}
 use Rattle.laws.proofs.Fairness.{fair}
 use Rattle.laws.proofs.World.{line-law}
 
@@ -123,7 +125,7 @@ crowd-computed = (refl, ((λ e. tt), ((λ e. tt), ((λ e. tt), ((λ e. tt), ((λ
 pub crowd-fair : Fair 4 (over turnOf (answers crowd crowdRun))
 crowd-fair = fair 4 (lit< tt) crowd crowdRun (crowd-computed .1)
 
--- ---- the line's law: A 36 and 40, BS 8 and 2, STmin 0 and 2. 36 bytes in five consecutive frames, three blocks, a gap of two ticks; berth
+-- ---- the line's law: A 36 and 40, BS 8 and 2, STmin 0 and 1. 36 bytes in five consecutive frames, three blocks, a gap of two ticks; berth
 -- 6 of A and the send side of B's berth 7 have traffic of their own, a set-up of B is refused, and a frame of kind 5 comes to the taker
 
 abbrev nodeOf : ℕ → ℕ → ℕ → Held
@@ -135,11 +137,11 @@ nodeOf a bs stmin =
       cards = zeroCards;
     }
 
-abbrev scheduler : Held
+abbrev pub scheduler : Held
 scheduler = nodeOf 36 8 0
 
 abbrev mast : Held
-mast = nodeOf 40 2 2
+mast = nodeOf 40 2 1
 
 abbrev programme : List ℕ
 programme =
@@ -174,16 +176,16 @@ pub deeds-computed : AllApart 2 7 (begin 2 programme scheduler mast) deeds
     × AtRest 2 7 (living 2 7 (begin 2 programme scheduler mast) deeds)
     × (living 2 7 (begin 2 programme scheduler mast) deeds .log
     ≡ there (0x10 ∷ 36 ∷ 1 ∷ 2 ∷ 3 ∷ 4 ∷ 5 ∷ 6 ∷ [])
-    ∷ back (0x30 ∷ 2 ∷ 2 ∷ 0xCC ∷ 0xCC ∷ 0xCC ∷ 0xCC ∷ 0xCC ∷ [])
+    ∷ back (0x30 ∷ 2 ∷ 1 ∷ 0xCC ∷ 0xCC ∷ 0xCC ∷ 0xCC ∷ 0xCC ∷ [])
     ∷ there (0x21 ∷ 7 ∷ 8 ∷ 9 ∷ 10 ∷ 11 ∷ 12 ∷ 13 ∷ [])
     ∷ there (0x22 ∷ 14 ∷ 15 ∷ 16 ∷ 17 ∷ 18 ∷ 19 ∷ 20 ∷ [])
-    ∷ back (0x30 ∷ 2 ∷ 2 ∷ 0xCC ∷ 0xCC ∷ 0xCC ∷ 0xCC ∷ 0xCC ∷ [])
+    ∷ back (0x30 ∷ 2 ∷ 1 ∷ 0xCC ∷ 0xCC ∷ 0xCC ∷ 0xCC ∷ 0xCC ∷ [])
     ∷ there (0x23 ∷ 21 ∷ 22 ∷ 23 ∷ 24 ∷ 25 ∷ 26 ∷ 27 ∷ [])
     ∷ there (0x24 ∷ 28 ∷ 29 ∷ 30 ∷ 31 ∷ 32 ∷ 33 ∷ 34 ∷ [])
-    ∷ back (0x30 ∷ 2 ∷ 2 ∷ 0xCC ∷ 0xCC ∷ 0xCC ∷ 0xCC ∷ 0xCC ∷ [])
+    ∷ back (0x30 ∷ 2 ∷ 1 ∷ 0xCC ∷ 0xCC ∷ 0xCC ∷ 0xCC ∷ 0xCC ∷ [])
     ∷ there (0x25 ∷ 35 ∷ 36 ∷ 0xCC ∷ 0xCC ∷ 0xCC ∷ 0xCC ∷ 0xCC ∷ [])
     ∷ [])
-unfolding gapLeft AllApart spares frameSide living acts leftA leftB carriedA carriedB framesBy handedSide ofSide ofBerth only reports reported wordReports codesReports failedSide saysOf deliveredIn over answers final done reply written outcome refusedOutcome refusal needs firstUnmet rightStore rightCards addedAt tickedCards inside berthAt inOrder all each settingsAllowed berthInOrder takingInRange sendingInRange inBlock afterFrame afterTurn cameAt frameCame byKind kind low heardBy toldBy ignored singleCame singleFits withBerth stored tickedNode ticked ran codesOf sentBerth beginsWith passedOver leastDistance distance due reached servedNode handedAt handOver areaOf singleFrame padded showing showable shownLength setUpNode firstCame shortLength escapeLength announced firstFits begun awaitedCame consecutiveFits piece grown completed afterTook took wrongSn counted fillsBlock nextSn share flowFits byStatus granted gapOf goFrame firstFrame consecutiveFrame moved afterConsecutive setUpOutcome setUpRefusal
+unfolding gapLeft AllApart spares frameSide living acts leftA leftB carriedA carriedB framesBy handedSide ofSide ofBerth only reports reported wordReports codesReports failedSide saysOf deliveredIn over answers final done reply written outcome refusedOutcome refusal needs firstUnmet rightStore rightCards addedAt tickedCards inside berthAt inOrder all each settingsAllowed berthInOrder takingInRange sendingInRange inBlock afterFrame afterTurn cameAt frameCame byKind kind low heardBy toldBy ignored singleCame singleFits withBerth stored tickedNode ticked ran codesOf sentBerth beginsWith passedOver leastDistance distance due reached servedNode handedAt handOver areaOf singleFrame padded showing showable shownLength setUpNode firstCame shortLength escapeLength announced firstFits begun awaitedCame consecutiveFits piece grown completed afterTook took wrongSn counted fillsBlock nextSn share flowFits byStatus granted ticksMeant gapOf goFrame firstFrame consecutiveFrame moved afterConsecutive setUpOutcome setUpRefusal
 deeds-computed = (
   (lit< tt, ((λ e. tt), ((λ e. tt), (tt, ((λ e. tt), ((λ e. tt), ((λ e. tt), ((λ e. tt), (tt, ((λ e. tt), ((λ e. tt), (tt, ((λ e. tt), ((λ e. tt), ((λ e. tt), ((λ e. tt), ((λ e. tt), (tt, ((λ e. tt), (tt, ((λ e. tt), (tt, ((λ e. tt), ((λ e. tt), ((λ e. tt), ((λ e. tt), ((λ e. tt), (tt, ((λ e. tt), (tt, ((λ e. tt), (tt, tt)))))))))))))))))))))))))))))))),
   record { none-there = refl; none-back = refl; none-due = refl; no-gap = refl; no-flow = refl },
@@ -192,6 +194,76 @@ deeds-computed = (
 
 pub programme-arrived : Arrived 2 7 programme (living 2 7 (begin 2 programme scheduler mast) deeds)
 programme-arrived = line-law 2 7 programme scheduler mast may-begin deeds (deeds-computed .0) (deeds-computed .1)
+
+-- ---- the law of the gaps: berth 6 asks for 5 ms, and a frame is called for after each tick
+
+abbrev asksFive : List ℕ
+asksFive = 0x30 ∷ 0 ∷ 5 ∷ []
+
+abbrev pub toSix : List Call
+toSix =
+    send 6 (take 20 programme) ∷ turn blank ∷ frame 0x646 asksFive ∷ turn blank ∷ tick ∷ turn blank ∷ tick ∷ turn blank ∷ tick ∷ turn blank ∷
+    tick ∷ turn blank ∷ tick ∷ turn blank ∷ tick ∷ turn blank ∷ []
+
+abbrev momentOf : Event → Says → Moment
+momentOf e x = record { before = Rx.Idle; event = e; said = x }
+
+abbrev quietTick : Moment
+quietTick = momentOf ticks (expires 0 0)
+
+abbrev beforeGoing : List Moment
+beforeGoing = momentOf (sends (take 20 programme)) accepts ∷ momentOf turns (hands (0x10 ∷ 20 ∷ 1 ∷ 2 ∷ 3 ∷ 4 ∷ 5 ∷ 6 ∷ []) 0) ∷ []
+
+abbrev firstOfTwo : Moment
+firstOfTwo = momentOf turns (hands (0x21 ∷ 7 ∷ 8 ∷ 9 ∷ 10 ∷ 11 ∷ 12 ∷ 13 ∷ []) 0)
+
+abbrev secondOfTwo : Moment
+secondOfTwo = momentOf turns (hands (0x22 ∷ 14 ∷ 15 ∷ 16 ∷ 17 ∷ 18 ∷ 19 ∷ 20 ∷ []) 1)
+
+-- the turns after five ticks are not berth 6's, the one after the sixth is
+pub to-six-computed : historyOf 6 scheduler toSix
+    ≡ beforeGoing ++ (momentOf (arrives asksFive) (hears 0 Going) ∷ [] ++ (firstOfTwo ∷ replicate 6 quietTick ++ secondOfTwo ∷ []))
+unfolding
+    historyOf moments own ownDone saysOf outcome done reply refusal needs firstUnmet rightStore rightCards addedAt tickedCards inside
+    berthAt inOrder all each settingsAllowed berthInOrder sendingInRange inBlock afterFrame afterTurn cameAt frameCame byKind kind low
+    toldBy withBerth stored tickedNode ticked ran codesOf sentBerth beginsWith passedOver leastDistance distance due reached servedNode
+    handedAt handOver areaOf padded setUpNode flowFits byStatus granted ticksMeant gapOf firstFrame consecutiveFrame counted fillsBlock
+    nextSn share moved afterConsecutive
+to-six-computed = refl
+
+pub sixFrames : TwoFrames (historyOf 6 scheduler toSix)
+unfolding kind howMany
+sixFrames =
+    record {
+      earlier = beforeGoing;
+      going = momentOf (arrives asksFive) (hears 0 Going);
+      since = [];
+      first = firstOfTwo;
+      between = replicate 6 quietTick;
+      second = secondOfTwo;
+      later = [];
+      splits = to-six-computed;
+      is-going = tt;
+      is-last = refl;
+      is-first = tt;
+      none-between = refl;
+      is-second = tt;
+    }
+
+pub six-spaced : Spaced sixFrames
+six-spaced = run-spaced 6 scheduler toSix sixFrames
+
+-- so 5 ms pass between the two, by ticks 1,000 microseconds apart
+pub six-in-time : (end : ℕ) (times : List ℕ) → length times ≡ 6 → Ticking 1000 0 end times → 5000 ≤ end
+unfolding ticksMeant sixFrames howMany
+six-in-time end times = six-spaced .time 1000 0 end times
+
+-- six ticks of which the first falls right behind the hand-over; of such ticks five are just over 4 ms
+pub right-behind : Ticking 1000 0 5001 (1 ∷ 1001 ∷ 2001 ∷ 3001 ∷ 4001 ∷ 5001 ∷ []) × Ticking 1000 0 4001 (1 ∷ 1001 ∷ 2001 ∷ 3001 ∷ 4001 ∷ [])
+right-behind = (
+  (lit≤ tt, (lit≤ tt, (lit≤ tt, (lit≤ tt, (lit≤ tt, (lit≤ tt, lit≤ tt)))))),
+  (lit≤ tt, (lit≤ tt, (lit≤ tt, (lit≤ tt, (lit≤ tt, lit≤ tt))))),
+)
 
 -- ---- all kinds of ends on one berth: A 8, BS 0, STmin 0
 

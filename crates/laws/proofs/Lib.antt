@@ -3,6 +3,7 @@ pub mod Isolation
 pub mod Reports
 pub mod SetUp
 pub mod Cards
+pub mod Gaps
 pub mod Round
 pub mod Fairness
 pub mod Sides

@@ -28,7 +28,8 @@ use Rattle.rules.specs.declared.Tx.{Tx}
 use Rattle.rules.specs.declared.Berth.{Berth}
 use Rattle.rules.specs.declared.Word.the-variants.{Delivered, Begun, Going}
 use Rattle.rules.proofs.Cases.{Tested, holds, fails, eqb-cases, ltb-cases, leb-cases, eqb-is, leb-is, leb-not, ltb-not}
-use Rattle.rules.proofs.Order.{fills-cases, gap-small}
+use Rattle.rules.proofs.Order.{fills-cases}
+use Rattle.rules.proofs.Gaps.{gap-small}
 use Rattle.laws.specs.Line.{Handed, there, back, deliveredIn, gapLeft, inBlocks, exchanged}
 use Rattle.laws.proofs.Frames.{extended, fills-no, fills-yes, counted-on, snAt, posAt, sn-next, partAt, frameAt, span, span-snoc, singleOf, firstOf, frame-length, frame-kind, frame-low, frame-data, grows, single-length, single-low, single-kind, single-data, single-fits, first-length, first-kind, first-data, first-announced, first-fits, frames-single, frames-long}
 

@@ -6,17 +6,17 @@ use native.Mathlib.Omega.{arith}
 use mathlib.Core.Bool.{Bool, true, false, not, _&&_, _||_}
 use mathlib.Core.List.{List, [], _∷_, _++_, append-nil}
 use mathlib.Core.Logic.{_⊎_, inl, inr}
-use lib.ListN.{length, length-take}
+use lib.ListN.{length}
 use lib.Seq.{sets}
 use lib.Dec.{T, eqb, ltb, leb, le→leb, lt→ltb}
 use mir.Facts.{eqb-yes, yes-eqb, yes-leb, yes-and}
 use Rattle.rules.specs.Tests.{pick, Need, firstUnmet}
-use Rattle.rules.specs.Numbers.{berthCount, fromBerth, frameSize, mostData, singleKind, firstKind, consecutiveKind, flowKind, goStatus, waitStatus, overflowStatus, consecutiveMost, shortMost}
+use Rattle.rules.specs.Numbers.{berthCount, fromBerth, frameSize, mostData, singleKind, firstKind, consecutiveKind, flowKind, consecutiveMost, shortMost}
 use Rattle.rules.specs.Nodes.{berthAt, Held}
-use Rattle.rules.specs.Ranges.{BerthRange, TxRange}
-use Rattle.rules.specs.Frames.{kind, low, padded, singleFits, announced, firstFits, consecutiveFits, flowFits, singleFrame, firstFrame, consecutiveFrame, goFrame, overflowFrame}
-use Rattle.rules.specs.Arrivals.{Heard, Told, Came, ignored, singleCame, firstCame, aboveArea, turnedAway, begun, missing, completed, took, wrongSn, awaitedCame, consecutiveCame, byStatus, flowIgnored, flowCame, heardBy, toldBy, byKind, frameCame}
-use Rattle.rules.specs.Turns.{flowDue, messageDue, due, flowFrame, messageFrame, handOver}
+use Rattle.rules.specs.Ranges.{BerthRange}
+use Rattle.rules.specs.Frames.{kind, low, singleFits, announced, firstFits, consecutiveFits}
+use Rattle.rules.specs.Arrivals.{Heard, Told, Came, ignored, singleCame, firstCame, aboveArea, turnedAway, begun, missing, completed, took, wrongSn, awaitedCame, consecutiveCame, flowIgnored, flowCame, heardBy, toldBy, byKind, frameCame}
+use Rattle.rules.specs.Turns.{flowDue, due, handOver}
 use Rattle.rules.specs.Stores.{rightStore, inside, passedOver, reached, cameAt, handedAt}
 use Rattle.rules.specs.Answers.{Side, receive, send as sendSide, Report, reported, wordReports}
 use Rattle.rules.specs.Cards.{rightCards, zeroCard}
@@ -34,7 +34,8 @@ use Rattle.rules.proofs.Cases.{Tested, holds, fails, test-cases, eqb-cases, ltb
 use Rattle.rules.proofs.Ranges.{range-in-order}
 use Rattle.rules.proofs.Order.{frame-inside}
 use Rattle.rules.proofs.Round.{reached-due}
-use Rattle.rules.proofs.Facts.{frame-either, ignored-leaves}
+use Rattle.rules.proofs.Facts.{frame-either, told-either, ignored-leaves}
+use Rattle.rules.proofs.Handed.{dueKind, flow-kind, message-kind}
 use Rattle.laws.specs.Own.{over, only, ownDone, own, saysOf, saidReports, Sound}
 use Rattle.laws.specs.Sides.{sameSide, uncounted, sideOf, frameSide, turnSide, forSide, sideEvents, ofSide, handedIn, handedSide, framesBy}
 use Rattle.laws.specs.Line.{reportsBy, deliveredIn, isIgnored, tickCode, spares, Spares}
@@ -128,35 +129,17 @@ abbrev Undelivered : Told → Type 0
 Undelivered t = (old : ℕ) → deliveredIn (hears old (t .word)) ≡ []
 
 flow-delivers : (tx : Tx) (d : List ℕ) → Undelivered (flowCame tx d)
-unfolding byStatus flowIgnored deliveredIn
-flow-delivers Tx.Idle d = λ old. refl
-flow-delivers (Tx.SingleDue n t) d = λ old. refl
-flow-delivers (Tx.FirstDue n t) d = λ old. refl
-flow-delivers (Tx.AwaitsFlow o t) d =
-    pick-either Undelivered (flowFits d) _ _
-    (λ u. pick-either Undelivered (eqb (low d) goStatus) _ _ (λ v old. refl)
-    (λ v. pick-either Undelivered (eqb (low d) waitStatus) _ _ (λ w old. refl)
-    (λ w. pick-either Undelivered (eqb (low d) overflowStatus) _ _ (λ x old. refl) (λ x old. refl))))
-    (λ u old. refl)
-flow-delivers (Tx.Consecutive o t) d = λ old. refl
+unfolding flowIgnored deliveredIn
+flow-delivers tx d = told-either Undelivered tx d (λ why old. refl) (λ o old. refl) (λ o t e old. refl) (λ code old. refl)
 
 -- ---- the frame handed over says whose turn it was
 
-flow-kind : (set : Settings) (rx : Rx) → T (flowDue rx) → kind (flowFrame set rx) ≡ flowKind
-unfolding goFrame overflowFrame padded kind
-flow-kind set Rx.Idle t = absurd t
-flow-kind set (Rx.OwesOverflow u) t = refl
-flow-kind set (Rx.OwesGo p u) t = refl
-flow-kind set (Rx.Awaits p u) t = absurd t
-
-message-kind : (set : Settings) (tx : Tx) (area : List ℕ) → set .area ≤ shortMost → TxRange set tx → T (messageDue tx)
-    → kind (messageFrame tx area) ≡ flowKind → ⊥
-unfolding singleFrame firstFrame consecutiveFrame padded kind
-message-kind set Tx.Idle area a r t e = absurd t
-message-kind set (Tx.SingleDue n u) area a r t e = omega (arith, r .0, r .1, length-take n area)
-message-kind set (Tx.FirstDue n u) area a r t e = omega (arith, r .1)
-message-kind set (Tx.AwaitsFlow o u) area a r t e = absurd t
-message-kind set (Tx.Consecutive o u) area a r t e = omega (arith, r .0 .sn-most)
+no-flow : (tx : Tx) → dueKind tx ≡ flowKind → ⊥
+no-flow Tx.Idle e = omega arith
+no-flow (Tx.SingleDue n u) e = omega arith
+no-flow (Tx.FirstDue n u) e = omega arith
+no-flow (Tx.AwaitsFlow o u) e = omega arith
+no-flow (Tx.Consecutive o u) e = omega arith
 
 pub handed-side : (set : Settings) (p : Part) → set .area ≤ shortMost → BerthRange set (p .berth) → T (due (p .berth))
     → handedSide (handOver set (p .berth) (p .outgoing) .frame) ≡ turnSide p
@@ -166,7 +149,7 @@ handed-side set p a r t = go (test-cases (flowDue (p .berth .rx)))
     go : Tested (flowDue (p .berth .rx)) (T (flowDue (p .berth .rx))) (T (not (flowDue (p .berth .rx))))
         → handedSide (handOver set (p .berth) (p .outgoing) .frame) ≡ turnSide p
     go (holds e u) = rw (e, eqb-is _ _ (flow-kind set (p .berth .rx) u))
-    go (fails e u) = rw (e, eqb-not _ _ (message-kind set (p .berth .tx) (p .outgoing) a (r .send) (rw e at t)))
+    go (fails e u) = rw (e, eqb-not _ _ (λ k. no-flow (p .berth .tx) (sym (message-kind set (p .berth .tx) (p .outgoing) a (r .send) (rw e at t)) ∙ k)))
 
 -- ---- which frames are flow control
 

@@ -1,6 +1,7 @@
 -- What the laws cite beside the rules.
 pub mod Own
 pub mod Cards
+pub mod Gaps
 pub mod Rounds
 pub mod Sides
 pub mod Line

@@ -24,7 +24,7 @@ use Rattle.rules.specs.declared.Sending.{Sending}
 use Rattle.rules.specs.declared.Rx.{Rx}
 use Rattle.rules.specs.declared.Tx.{Tx}
 use Rattle.rules.specs.declared.Berth.{Berth}
-use Rattle.rules.specs.declared.Word.the-variants.{Begun, Ignored}
+use Rattle.rules.specs.declared.Word.the-variants.{Begun, Failed, Going, Ignored, Waiting}
 use Rattle.rules.proofs.Areas.{area-same}
 use Rattle.rules.proofs.Answered.{frame-answered}
 use Rattle.rules.proofs.Cases.{is-true, eqb-is, eqb-not, ltb-is, or-cases, and-left, and-right, tests, pick-either}
@@ -45,6 +45,25 @@ frame-either P s b d ignores single first consecutive flow =
     (λ u. pick-either P (eqb (kind d) firstKind) _ _ (λ v. first)
     (λ v. pick-either P (eqb (kind d) consecutiveKind) _ _ (λ w. consecutive)
     (λ w. pick-either P (eqb (kind d) flowKind) _ _ (λ x. flow) (λ x. ignores 2)))))
+
+-- every branch of flow control at a send side: ignored, go, WAIT, and what ends the sending
+pub told-either : (P : Told → Type 0) (tx : Tx) (d : List ℕ)
+    → ((why : ℕ) → P (flowIgnored why tx))
+    → ((o : Sending) → P (record { tx = Tx.Consecutive (granted o d) 0; word = Going }))
+    → ((o : Sending) (t : ℕ) → tx ≡ Tx.AwaitsFlow o t → P (record { tx = Tx.AwaitsFlow o 0; word = Waiting }))
+    → ((code : ℕ) → P (record { tx = Tx.Idle; word = Failed code }))
+    → P (flowCame tx d)
+unfolding byStatus
+told-either P Tx.Idle d ignores goes waits fails = ignores 4
+told-either P (Tx.SingleDue n t) d ignores goes waits fails = ignores 4
+told-either P (Tx.FirstDue n t) d ignores goes waits fails = ignores 4
+told-either P (Tx.AwaitsFlow o t) d ignores goes waits fails =
+    pick-either P (flowFits d) _ _
+    (λ u. pick-either P (eqb (low d) goStatus) _ _ (λ v. goes o)
+    (λ v. pick-either P (eqb (low d) waitStatus) _ _ (λ w. waits o t refl)
+    (λ w. pick-either P (eqb (low d) overflowStatus) _ _ (λ x. fails 9) (λ x. fails 6))))
+    (λ u. ignores 3)
+told-either P (Tx.Consecutive o t) d ignores goes waits fails = ignores 4
 
 -- two words that are not the same
 clash : {X : Type 0} → _≡_ {A = ℕ} 0 1 → X
@@ -88,18 +107,10 @@ module _ (why : ℕ) where
   consecutive-kept s (Rx.Awaits p t) last d = awaited-kept s p t last d
 
   flow-kept : (tx : Tx) (d : List ℕ) → flowCame tx d .word ≡ Ignored why → flowCame tx d .tx ≡ tx
-  unfolding flowIgnored byStatus
-  flow-kept Tx.Idle d = λ e. refl
-  flow-kept (Tx.SingleDue n t) d = λ e. refl
-  flow-kept (Tx.FirstDue n t) d = λ e. refl
-  flow-kept (Tx.AwaitsFlow o t) d =
-      let K : Told → Type 0 = λ told. told .word ≡ Ignored why → told .tx ≡ Tx.AwaitsFlow o t in
-      pick-either K (flowFits d) _ _
-      (λ u. pick-either K (eqb (low d) goStatus) _ _ (λ v e. clash (cc))
-      (λ v. pick-either K (eqb (low d) waitStatus) _ _ (λ w e. clash (cc))
-      (λ w. pick-either K (eqb (low d) overflowStatus) _ _ (λ x e. clash (cc)) (λ x e. clash (cc)))))
-      (λ u e. refl)
-  flow-kept (Tx.Consecutive o t) d = λ e. refl
+  unfolding flowIgnored
+  flow-kept tx d =
+      told-either (λ (told : Told). told .word ≡ Ignored why → told .tx ≡ tx) tx d
+      (λ i e. refl) (λ o e. clash (cc)) (λ o t f e. clash (cc)) (λ code e. clash (cc))
 
   -- AN IGNORED FRAME leaves the berth as it was, timers included, and stores nothing
   pub ignored-leaves : (s : Settings) (b : Berth) (d : List ℕ) → frameCame s b d .word ≡ Ignored why

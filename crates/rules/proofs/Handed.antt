@@ -1,4 +1,5 @@
--- Every frame handed over has eight bytes and the identifier 660 hex + k, and never the first byte 31: the node never sends WAIT.
+-- Every frame handed over has eight bytes and the identifier 660 hex + k, and never the first byte 31: the node never sends WAIT. Its kind
+-- is that of the side and of the message's frame that was due.
 use mathlib.Core.Path.{_≡_, refl, sym, _∙_}
 use Prim.Native.Nat.{ℕ, zero, suc, _+_, _-_, _*_, _/_, _%_, _≤_, _<_, min}
 use native.Mathlib.Omega.{arith}
@@ -8,10 +9,10 @@ use mathlib.Core.List.{List, [], _∷_}
 use lib.ListN.{length, take, drop, replicate, length-take, length-append, length-replicate}
 use lib.Dec.{T, ltb}
 use Rattle.rules.specs.Tests.{unless}
-use Rattle.rules.specs.Numbers.{berthCount, toBerth, filler, firstBytes, consecutiveMost}
+use Rattle.rules.specs.Numbers.{berthCount, toBerth, filler, firstBytes, consecutiveMost, shortMost, singleKind, firstKind, consecutiveKind, flowKind}
 use Rattle.rules.specs.Nodes.{berthAt, Held}
 use Rattle.rules.specs.Ranges.{SettingsRange, TxRange, BerthRange, InOrder}
-use Rattle.rules.specs.Frames.{padded, headed, singleFrame, firstFrame, consecutiveFrame, goFrame, overflowFrame, share}
+use Rattle.rules.specs.Frames.{kind, padded, headed, singleFrame, firstFrame, consecutiveFrame, goFrame, overflowFrame, share}
 use Rattle.rules.specs.Turns.{flowDue, messageDue, due, flowFrame, toGo, messageFrame, HandedOver, handOver}
 use Rattle.rules.specs.Stores.{passedOver, reached, handedAt}
 use Rattle.rules.specs.Answers.{handed, none}
@@ -28,6 +29,34 @@ use Rattle.rules.proofs.Answered.{turn-answered}
 use Rattle.rules.proofs.Ranges.{in-order-range}
 use Rattle.rules.proofs.Order.{reached-small}
 use Rattle.rules.proofs.Round.{reached-due}
+
+-- ---- the kind of the frame that is due says which side's it is, and which frame of a message
+
+pub flow-kind : (s : Settings) (rx : Rx) → T (flowDue rx) → kind (flowFrame s rx) ≡ flowKind
+unfolding goFrame overflowFrame padded kind
+flow-kind s Rx.Idle t = absurd t
+flow-kind s (Rx.OwesOverflow u) t = refl
+flow-kind s (Rx.OwesGo p u) t = refl
+flow-kind s (Rx.Awaits p u) t = absurd t
+
+-- where none is due any number does
+abbrev pub dueKind : Tx → ℕ
+dueKind Tx.Idle = singleKind
+dueKind (Tx.SingleDue n u) = singleKind
+dueKind (Tx.FirstDue n u) = firstKind
+dueKind (Tx.AwaitsFlow o u) = consecutiveKind
+dueKind (Tx.Consecutive o u) = consecutiveKind
+
+pub message-kind : (s : Settings) (tx : Tx) (area : List ℕ) → s .area ≤ shortMost → TxRange s tx → T (messageDue tx)
+    → kind (messageFrame tx area) ≡ dueKind tx
+unfolding singleFrame firstFrame consecutiveFrame padded kind
+message-kind s Tx.Idle area a r t = absurd t
+message-kind s (Tx.SingleDue n u) area a r t = omega (arith, r .0, r .1, length-take n area)
+message-kind s (Tx.FirstDue n u) area a r t = omega (arith, r .1)
+message-kind s (Tx.AwaitsFlow o u) area a r t = absurd t
+message-kind s (Tx.Consecutive o u) area a r t = omega (arith, r .0 .sn-most)
+
+-- ---- eight bytes, and never 31
 
 headed-fit : (k l : ℕ) (s : List ℕ) → length s ≤ 7 → (k * 16 + l ≡ 0x31 → ⊥) → Fit (headed k l s)
 unfolding padded

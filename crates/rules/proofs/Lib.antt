@@ -3,11 +3,13 @@ pub mod Cases
 pub mod Areas
 pub mod Ranges
 pub mod Answered
+pub mod Gaps
 pub mod Order
 pub mod Exact
 pub mod Facts
 pub mod Round
 pub mod Handed
+pub mod Pace
 pub mod Answers
 pub mod Cards
 pub mod Even

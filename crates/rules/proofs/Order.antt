@@ -5,17 +5,17 @@ use mathlib.Core.Logic.{inl, inr, ⊎-elim}
 use Prim.Native.Nat.{ℕ, zero, suc, _+_, _-_, _≤_, _<_, min, max}
 use native.Mathlib.Omega.{arith}
 use native.Mathlib.Nat.{mod-lt}
-use mathlib.Core.Bool.{not, _&&_}
+use mathlib.Core.Bool.{not}
 use mathlib.Core.List.{List, [], _∷_, map}
 use lib.ListN.{length, getD, getD-replicate, drop, set, length-take, length-set, length-map, List·getD-map}
 use lib.Seq.{getD-set-same, getD-set-other}
 use lib.Dec.{T, eqb, ltb, leb, lit<}
 use mir.Facts.{leb-yes, ltb-yes, ltb-no, eqb-yes, eqb-no}
 use Rattle.rules.specs.Tests.{pick, unless}
-use Rattle.rules.specs.Numbers.{berthCount, longestGap, mostMillis, leastFraction, mostFraction, singleMost, firstBytes, consecutiveMost, leastLong, shortMost, frameSize, singleKind, firstKind, consecutiveKind, flowKind, goStatus, waitStatus, overflowStatus, timeout}
+use Rattle.rules.specs.Numbers.{berthCount, longestGap, singleMost, firstBytes, consecutiveMost, leastLong, shortMost, frameSize, singleKind, firstKind, consecutiveKind, flowKind, goStatus, waitStatus, overflowStatus, timeout}
 use Rattle.rules.specs.Nodes.{fresh, berthAt, Held, withBerth}
 use Rattle.rules.specs.Ranges.{SettingsRange, BlockRange, TakingRange, RxRange, SendingRange, TxRange, BerthRange, InOrder}
-use Rattle.rules.specs.Frames.{byteAt, kind, low, singleFits, shortLength, escapeLength, announced, firstFits, consecutiveFits, flowFits, nextSn, counted, fillsBlock, gapOf, share}
+use Rattle.rules.specs.Frames.{byteAt, kind, low, singleFits, shortLength, escapeLength, announced, firstFits, consecutiveFits, flowFits, nextSn, counted, fillsBlock, share}
 use Rattle.rules.specs.Arrivals.{Heard, ignored, singleCame, aboveArea, turnedAway, taking, begun, firstCame, missing, piece, grown, completed, afterTook, took, wrongSn, awaitedCame, consecutiveCame, Told, granted, byStatus, flowIgnored, flowCame, Came, heardBy, toldBy, byKind, frameCame}
 use Rattle.rules.specs.Ticks.{ran, rxTicked, closer, txTicked, ticked}
 use Rattle.rules.specs.Turns.{flowDue, afterFlow, toGo, opened, moved, afterConsecutive, afterMessage, HandedOver, handOver, beginsWith, sent}
@@ -33,6 +33,7 @@ use Rattle.rules.specs.declared.Node.{Node}
 use Rattle.rules.proofs.Cases.{Tested, holds, fails, eqb-cases, tests, and-left, and-right, pick-either, met}
 use Rattle.rules.proofs.Ranges.{block-max, max-block, settings-range}
 use Rattle.rules.proofs.Answered.{frame-answered, send-answered}
+use Rattle.rules.proofs.Gaps.{gap-small}
 
 -- ---- blocks
 
@@ -82,13 +83,6 @@ announced-large d t = go (eqb-cases (shortLength d) 0) (and-right (eqb (length d
         → T (pick (eqb (shortLength d) 0) (ltb shortMost (escapeLength d)) (ltb singleMost (shortLength d))) → leastLong ≤ announced d
     go (holds e z) u = let l : shortMost < escapeLength d = ltb-yes (rw e at u) in rw e (omega arith)
     go (fails e z) u = rw e (ltb-yes (rw e at u))
-
--- a peer's gap is at most the longest
-pub gap-small : (stmin : ℕ) → gapOf stmin ≤ longestGap
-unfolding gapOf
-gap-small stmin =
-    pick-either (λ (k : ℕ). k ≤ longestGap) (leb stmin mostMillis) _ _ (λ t. omega tests)
-    (λ t. pick-either (λ (k : ℕ). k ≤ longestGap) (leb leastFraction stmin && leb stmin mostFraction) _ _ (λ u. omega arith) (λ u. omega arith))
 
 -- a length that is not above A is at most A
 pub within-area : (s : Settings) (n : ℕ) → T (not (aboveArea s n)) → n ≤ s .area
@@ -336,7 +330,7 @@ module _ (s : Settings) (sr : SettingsRange (s .area) (s .block) (s .stmin)) whe
       (λ u. pick-either (TxRange s) (fillsBlock (o .block) (o .sent)) _ _
       (λ v. (moved-ok o 0 0 r (omega tests) (none-range (o .block)) (omega arith), refl, refl, omega arith))
       (λ v. (
-        moved-ok o _ (o .gap) r (omega tests) (counted-range (o .block) (o .sent) (r .sent) (not-filled _ _ v)) (r .gap-most),
+        moved-ok o _ _ r (omega tests) (counted-range (o .block) (o .sent) (r .sent) (not-filled _ _ v)) (omega (arith, r .gap-most)),
         inr refl,
         omega arith,
       )))

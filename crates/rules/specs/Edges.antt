@@ -281,14 +281,14 @@ sendRanges =
     ∷ txEdge (Tx.Consecutive (sendingIs 20 6 1 0 1 0 0) 0) 1
     ∷ txEdge (Tx.AwaitsFlow (sendingIs 20 6 1 3 0 0 0) 0) 0
     ∷ txEdge (Tx.AwaitsFlow (sendingIs 20 6 1 3 1 0 0) 0) 1
-    -- the peer's gap and the gap left 0 to 127; gap left 0 while awaiting; the timer 0 while it is above 0
-    ∷ txEdge (Tx.Consecutive (sendingIs 20 6 1 0 0 127 0) 0) 0
-    ∷ txEdge (Tx.Consecutive (sendingIs 20 6 1 0 0 128 0) 0) 1
-    ∷ txEdge (Tx.Consecutive (sendingIs 20 6 1 0 0 0 127) 0) 0
-    ∷ txEdge (Tx.Consecutive (sendingIs 20 6 1 0 0 0 128) 0) 1
-    ∷ txEdge (Tx.AwaitsFlow (sendingIs 20 6 1 0 0 127 0) 0) 0
-    ∷ txEdge (Tx.AwaitsFlow (sendingIs 20 6 1 0 0 128 0) 0) 1
-    ∷ txEdge (Tx.AwaitsFlow (sendingIs 20 6 1 0 0 127 1) 0) 1
+    -- the peer's gap and the gap left 0 to 128; gap left 0 while awaiting; the timer 0 while it is above 0
+    ∷ txEdge (Tx.Consecutive (sendingIs 20 6 1 0 0 128 0) 0) 0
+    ∷ txEdge (Tx.Consecutive (sendingIs 20 6 1 0 0 129 0) 0) 1
+    ∷ txEdge (Tx.Consecutive (sendingIs 20 6 1 0 0 0 128) 0) 0
+    ∷ txEdge (Tx.Consecutive (sendingIs 20 6 1 0 0 0 129) 0) 1
+    ∷ txEdge (Tx.AwaitsFlow (sendingIs 20 6 1 0 0 128 0) 0) 0
+    ∷ txEdge (Tx.AwaitsFlow (sendingIs 20 6 1 0 0 129 0) 0) 1
+    ∷ txEdge (Tx.AwaitsFlow (sendingIs 20 6 1 0 0 128 1) 0) 1
     ∷ txEdge (Tx.Consecutive (sendingIs 20 6 1 0 0 0 1) 0) 0
     ∷ txEdge (Tx.Consecutive (sendingIs 20 6 1 0 0 0 1) 1) 1
     ∷ txEdge (Tx.Consecutive (sendingIs 20 6 1 0 0 0 0) 1) 0

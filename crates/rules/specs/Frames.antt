@@ -6,7 +6,7 @@ use mathlib.Core.List.{List, [], _∷_, _++_}
 use lib.ListN.{length, getD, take, drop, replicate}
 use lib.Dec.{ltb, leb, eqb}
 use Rattle.rules.specs.Tests.{pick}
-use Rattle.rules.specs.Numbers.{snCount, longestGap, mostMillis, leastFraction, mostFraction, frameSize, filler, leastFlow, singleKind, firstKind, consecutiveKind, flowKind, goStatus, overflowStatus, singleMost, firstBytes, consecutiveMost, largestArea, shortMost}
+use Rattle.rules.specs.Numbers.{snCount, mostMillis, leastFraction, mostFraction, frameSize, filler, leastFlow, singleKind, firstKind, consecutiveKind, flowKind, goStatus, overflowStatus, singleMost, firstBytes, consecutiveMost, largestArea, shortMost}
 use Rattle.rules.specs.declared.Settings.{Settings}
 use Rattle.rules.specs.declared.Sn.{Sn}
 
@@ -93,10 +93,15 @@ counted block n = pick (eqb block 0) 0 (n + 1)
 unfoldable pub fillsBlock : ℕ → ℕ → Bool
 fillsBlock block n = not (eqb block 0) && eqb (n + 1) block
 
--- ---- gaps: a peer's STmin 00 to 7F means so many ticks, F1 to F9 one tick, any other value 127
+-- ---- gaps
 
+-- a peer's STmin 00 to 7F means so many ticks, F1 to F9 one tick, any other value 127
+unfoldable pub ticksMeant : ℕ → ℕ
+ticksMeant stmin = pick (leb stmin mostMillis) stmin (pick (leb leastFraction stmin && leb stmin mostFraction) 1 mostMillis)
+
+-- a gap of n ticks above 0 becomes n + 1, and 0 stays 0 (paper 02, W2): the first tick can fall right behind the hand-over
 unfoldable pub gapOf : ℕ → ℕ
-gapOf stmin = pick (leb stmin mostMillis) stmin (pick (leb leastFraction stmin && leb stmin mostFraction) 1 longestGap)
+gapOf stmin = pick (eqb (ticksMeant stmin) 0) 0 (ticksMeant stmin + 1)
 
 -- ---- how a message is cut, over the most bytes of a single frame, those of a first frame, and the most of a consecutive one
 

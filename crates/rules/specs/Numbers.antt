@@ -1,4 +1,4 @@
--- Every number of paper 01, under one name.
+-- Every number of papers 01 and 02, under one name.
 use Prim.Native.Nat.{ℕ, _+_}
 
 -- ---- the node and its neighbours
@@ -17,7 +17,7 @@ largestArea = 4095
 abbrev pub largestBlock : ℕ
 largestBlock = 255
 
--- an STmin byte: milliseconds up to the first, fractions of one from the second to the third
+-- an STmin byte: milliseconds up to the first, fractions of one from the second to the third; any other value means as much as the first
 abbrev pub mostMillis : ℕ
 mostMillis = 0x7F
 
@@ -44,9 +44,9 @@ timeout = 1000
 abbrev pub snCount : ℕ
 snCount = 16
 
--- the longest gap, in ticks
+-- the longest gap, in ticks (paper 02, W2)
 abbrev pub longestGap : ℕ
-longestGap = 127
+longestGap = 128
 
 -- ---- frames
 

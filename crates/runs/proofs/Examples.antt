@@ -1,7 +1,7 @@
 -- Chains that meet the premises of the laws of the code's runs, and poor nodes that are no run, computed.
 use Prim.Native.Nat.{ℕ}
 use native.Mathlib.Omega.{arith}
-use mathlib.Core.Path.{_≡_, refl, ap}
+use mathlib.Core.Path.{_≡_, refl, sym, ap, subst}
 use mathlib.Core.List.{List, [], _∷_, _++_}
 use lib.ListN.{getD, replicate}
 use lib.Dec.{lit<}
@@ -21,13 +21,14 @@ use Rattle.rules.specs.Alone.{partOf, stateAfter, partAfter, says, hears}
 use Rattle.rules.specs.declared.Word.the-variants.{Delivered}
 use Rattle.rules.specs.declared.Settings.{Settings}
 use Rattle.rules.specs.declared.Tx.{Tx}
-use Rattle.laws.specs.Own.{ownDone, own, over}
-use Rattle.laws.specs.Cards.{zeroCards, TalliesAt}
+use Rattle.laws.specs.Own.{ownDone, own, over, saysOf}
+use Rattle.laws.specs.Cards.{zeroCards, Moment, moments, historyOf, TalliesAt}
+use Rattle.laws.specs.Gaps.{TwoFrames, Spaced}
 use Rattle.laws.specs.Rounds.{turnOf, StaysDue, Fair}
 use Rattle.laws.specs.Line.{blank}
-use Rattle.laws.proofs.Examples.{two, twoRun, afresh-computed, afresh-cards, crowd, crowdRun, crowd-computed}
+use Rattle.laws.proofs.Examples.{two, twoRun, afresh-computed, afresh-cards, crowd, crowdRun, crowd-computed, scheduler, toSix, sixFrames}
 use Rattle.runs.specs.Chains.{Made, AfterSetUp, madeOf, saidBy, leftBy, DueIn, historyIn, EachAlone}
-use Rattle.runs.proofs.Runs.{chain-fair, chain-alone-after-set-up, chain-tallies-after-set-up}
+use Rattle.runs.proofs.Runs.{chain-fair, chain-alone-after-set-up, chain-tallies-after-set-up, chain-spaced}
 use Rattle.runs.proofs.Every.{every-chain, every-after-set-up}
 use Rattle.runs.proofs.PoorNodes.{one-more, refusing-again, idle-again-timers, idle-again-message, counting-again, fixed-again, fixed-again-bytes}
 
@@ -59,6 +60,21 @@ unfolding madeOf leftBy final setUpOutcome setUpRefusal firstUnmet settingsAllow
 cards-here =
     chain-tallies-after-set-up two (two .node .settings) (setUpNode (two .node .settings)) (madeOf start twoRun) lastTick
     (every-after-set-up two (two .node .settings) (twoRun ++ tick ∷ []) (afresh-computed .0)) refl 5 (lit< tt) (afresh-cards .0)
+
+-- ---- the law of the gaps: berth 6 asks for 5 ms
+
+pub told-made : (k : ℕ) (h : Held) (cs : List Call) → historyIn k h (madeOf h cs) ≡ historyOf k h cs
+unfolding historyIn historyOf madeOf
+told-made k h [] = refl
+told-made k h (c ∷ cs) =
+    ap (λ (ms : List Moment). moments (berthAt (h .node) k .rx) (own k h c) (saysOf k (outcome h c .answer)) ++ ms) (told-made k (outcome h c .held) cs)
+
+-- the same two frames, in the code's own answers
+abbrev pub framesHere : TwoFrames (historyIn 6 scheduler (madeOf scheduler toSix))
+framesHere = subst TwoFrames (sym (told-made 6 scheduler toSix)) sixFrames
+
+pub spaced-here : Spaced framesHere
+spaced-here = chain-spaced 6 scheduler (madeOf scheduler toSix) (every-chain scheduler toSix) framesHere
 
 -- ---- poor nodes after a set-up with A 8, BS 0, STmin 0, of a node that no set-up had filled, with stores and cards of zeros
 

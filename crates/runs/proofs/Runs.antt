@@ -21,10 +21,12 @@ use Rattle.node.specs.Promises.{left, SetUpPromise}
 use Rattle.node.proofs.Determined.{same}
 use Rattle.laws.specs.Own.{own, owns, saysOf, over, setUp, freshPart, Alone}
 use Rattle.laws.specs.Cards.{zeroCards, Moment, moments, historyOf, TalliesAt, UnbegunAt, frozenAt}
+use Rattle.laws.specs.Gaps.{TwoFrames, Spaced}
 use Rattle.laws.specs.Sides.{sideOf, sideEvents, SideAlone}
 use Rattle.laws.specs.Rounds.{StaysDue, turnOf, Fair}
 use Rattle.laws.proofs.SetUp.{each-alone, each-alone-after-set-up}
 use Rattle.laws.proofs.Cards.{run-tallies, run-frozen-stays, set-up-unbegun}
+use Rattle.laws.proofs.Gaps.{run-spaced}
 use Rattle.laws.proofs.SideRuns.{side-alone-in-run}
 use Rattle.laws.proofs.Fairness.{fair}
 use Rattle.runs.specs.Chains.{Step, frameStep, tickStep, sendStep, turnStep, showStep, Made, Chain, AfterSetUp, callsOf, saidBy, leftBy, ownIn, DueIn, historyIn, EachAlone}
@@ -171,3 +173,12 @@ pub chain-tallies-after-set-up : (h : Held) (s : Settings) (n : Node) (ms : List
 chain-tallies-after-set-up h s n ms m r z k l f =
     chain-tallies k (withNode h n) ms m (r .chain)
     (subst (UnbegunAt k) (sym (ready-held h s n (r .ready))) (set-up-unbegun h s k l (ready-free h s n (r .ready)) z)) f
+
+-- ---- the gaps
+
+-- THE LAW OF THE GAPS, OF THE CODE. Take any chain of calls, and two consecutive frames that a berth hands over in it with no frame answered
+-- Going between them, as the code's own answers tell it. They are of one message; if the last Going carried an STmin that paper 01 reads as
+-- n > 0 ticks, at least n + 1 ticks are answered between the two, and hence n whole tick intervals pass.
+pub chain-spaced : (k : ℕ) (h : Held) (ms : List Made) → Chain h ms → (f : TwoFrames (historyIn k h ms)) → Spaced f
+chain-spaced k h ms c =
+    subst (λ (told : List Moment). (f : TwoFrames told) → Spaced f) (sym (chain-history k h ms c)) (run-spaced k h (callsOf ms))
