@@ -5,7 +5,7 @@ ghost use Prim.Native.Nat.{_+_, _-_, _≤_, _<_};
 ghost use lib.ListN.{length};
 ghost use Rattle.rules.specs.Numbers.{frameSize, consecutiveMost};
 ghost use Rattle.rules.specs.Ranges.{BlockRange};
-ghost use Rattle.rules.specs.Frames.{kind, low, singleFits, shortLength, escapeLength, announced, firstFits, consecutiveFits, flowFits, padded, headed, counted, fillsBlock, gapOf, share, framesNeeded};
+ghost use Rattle.rules.specs.Frames.{kind, low, singleFits, shortLength, escapeLength, announced, firstFits, consecutiveFits, flowFits, padded, headed, counted, fillsBlock, ticksMeant, gapOf, share, framesNeeded};
 
 // A byte as a length.
 pub fn wide(b: u8) -> u32
@@ -129,20 +129,28 @@ pub fn fills_block(block: u8, n: u8) -> bool
     counted(block, n) == block
 }
 
+fn ticks_meant(stmin: u8) -> u8
+    ensures { λ r. ⌜ r ≡ ticksMeant stmin ⌝ }
+{
+    let s = wide(stmin);
+    if s <= rules::MOST_MILLIS {
+        return stmin;
+    }
+    if (rules::LEAST_FRACTION <= s) & (s <= rules::MOST_FRACTION) {
+        return 1;
+    }
+    rules::MOST_MILLIS as u8
+}
+
+// One tick more than is asked for: the first can fall right behind the hand-over.
 pub fn gap_of(stmin: u8) -> u8
     ensures { λ r. ⌜ r ≡ gapOf stmin ⌝ }
 {
-    if stmin == 0 {
+    let n = ticks_meant(stmin);
+    if n == 0 {
         return 0;
     }
-    let s = wide(stmin);
-    if s <= rules::MOST_MILLIS {
-        return stmin + 1;
-    }
-    if (rules::LEAST_FRACTION <= s) & (s <= rules::MOST_FRACTION) {
-        return 2;
-    }
-    rules::LONGEST_GAP
+    n + 1
 }
 
 // The bytes that the next consecutive frame takes of r.

@@ -11,7 +11,7 @@ use Rattle.rules.specs.Frames.{ticksMeant, gapOf}
 use Rattle.rules.proofs.Cases.{eqb-not, leb-is, leb-not, split, tests, pick-either}
 
 -- a peer's STmin means at most 127 ticks
-meant-most : (stmin : ℕ) → ticksMeant stmin ≤ mostMillis
+pub meant-most : (stmin : ℕ) → ticksMeant stmin ≤ mostMillis
 unfolding ticksMeant
 meant-most stmin =
     pick-either (λ (k : ℕ). k ≤ mostMillis) (leb stmin mostMillis) _ _ (λ t. omega tests)
