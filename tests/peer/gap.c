@@ -1,9 +1,9 @@
 /*
- * gap.c - how many ticks a peer's STmin keeps its next consecutive frame back.
+ * gap.c - how many ticks a peer's STmin keeps the node's next consecutive frame back.
  */
 #include "mutants.h"
 
-/* The mutants change what the rule, at the end, has found. */
+/* The mutants change what the rule, gap_of below, has found. */
 static int mistaken_ticks(uint8_t stmin, int gap)
 {
     bool ticks = stmin > 0 && stmin <= STMIN_TICKS_MAX;

@@ -230,7 +230,7 @@
     X(W2g4, "a gap of 128 does not fit seven bits, and is 0")                         \
     X(W2g5, "after go the first frame waits the one tick more")                       \
     X(W2g6, "after go the first frame waits the whole gap")                           \
-    X(W2g7, "the one more comes behind the gap, while the timer runs")
+    X(W2g7, "the one more is a tick of the timer, before the first frame too")
 
 #define AS_MUTANT(line, sentence) MISTAKE_##line,
 enum { NO_MUTANT, MUTANTS(AS_MUTANT) REQUEST_MUTANTS(AS_MUTANT) MUTANT_COUNT };

@@ -1,4 +1,5 @@
-// Paper 01, "Frames, by first byte": how a frame is read, how the node's own are laid out, blocks and gaps, and the frames needed.
+// Paper 01, "Frames, by first byte": how a frame is read, how the node's own are laid out, blocks and gaps (paper 02, W2), and the frames
+// needed.
 ghost use mathlib.Core.Path.{_≡_};
 ghost use mathlib.Core.List.{_++_};
 ghost use Prim.Native.Nat.{_+_, _-_, _≤_, _<_};
@@ -142,15 +143,15 @@ fn ticks_meant(stmin: u8) -> u8
     rules::MOST_MILLIS as u8
 }
 
-// One tick more than is asked for: the first can fall right behind the hand-over.
+// Where a gap is asked for, one tick more: the first can fall right behind the hand-over.
 pub fn gap_of(stmin: u8) -> u8
     ensures { λ r. ⌜ r ≡ gapOf stmin ⌝ }
 {
-    let n = ticks_meant(stmin);
-    if n == 0 {
+    let ticks = ticks_meant(stmin);
+    if ticks == 0 {
         return 0;
     }
-    n + 1
+    ticks + 1
 }
 
 // The bytes that the next consecutive frame takes of r.

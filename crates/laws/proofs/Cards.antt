@@ -1,43 +1,30 @@
 -- The law of the cards. What an event adds to a count is 1 exactly where its moment is counted, so by induction a card that is not frozen
 -- before an event counts the history; and what an event adds to begun, with what was under way, is what it adds to delivered and failed,
 -- with what is under way after it (rules, `event-even`).
-use mathlib.Core.Path.{_≡_, refl, sym, ap, ap₂, _∙_, subst}
-use Prim.Native.Nat.{ℕ, zero, suc, _+_, _<_}
+use mathlib.Core.Path.{_≡_, refl, sym, ap, _∙_, subst}
+use Prim.Native.Nat.{ℕ, _+_, _<_}
 use native.Mathlib.Omega.{arith}
-use mathlib.Core.Bool.{Bool, true, false, _&&_}
+use mathlib.Core.Bool.{Bool, true, false}
 use mathlib.Core.List.{List, [], _∷_, _++_}
 use lib.ListN.{getD-replicate}
-use lib.Dec.{T, eqb, ltb}
-use Rattle.rules.specs.Tests.{unless}
+use lib.Dec.{T}
 use Rattle.rules.specs.Numbers.{berthCount, N-TIMEOUT-A, N-TIMEOUT-Cr}
-use Rattle.rules.specs.Nodes.{berthAt, Held}
-use Rattle.rules.specs.Events.{Call, frame, tick, send, turn, show, senderOf, Event, arrives, ticks, sends, turns}
+use Rattle.rules.specs.Nodes.{Held}
+use Rattle.rules.specs.Events.{Call, Event, arrives, ticks, sends, turns}
 use Rattle.rules.specs.Cards.{zeroCard, cardAt, frozen, plus, raised, added, frameAdds, underWay, tickAdds, turnAdds, adds}
-use Rattle.rules.specs.Stores.{passedOver, reached}
-use Rattle.rules.specs.Refusals.{refusal, setUpRefusal}
+use Rattle.rules.specs.Refusals.{setUpRefusal}
 use Rattle.rules.specs.Calls.{outcome, final}
-use Rattle.rules.specs.Alone.{Part, partOf, partAfter, says, alone, saysAll}
+use Rattle.rules.specs.Alone.{Part, partOf, partAfter, says, alone, AtEach}
 use Rattle.rules.specs.declared.Settings.{Settings}
 use Rattle.rules.specs.declared.Card.{Card}
 use Rattle.rules.specs.declared.Adds.{Adds}
-use Rattle.rules.proofs.Cases.{pick-either}
 use Rattle.rules.proofs.Even.{one, event-even}
-use Rattle.laws.specs.Own.{ownDone, own, owns, saysOf, setUp}
-use Rattle.laws.specs.Cards.{zeroCards, Moment, history, moments, historyOf, begins, delivers, timesOut, missesSn, endsOld, turnsAway, endsSending, failsSending, howMany, countsOf, failed, Tallies, Unbegun, TalliesAt, UnbegunAt, frozenAt}
-use Rattle.laws.proofs.Isolation.{part-step, says-step, settings-step, berth-alone}
+use Rattle.laws.specs.Own.{own, owns, setUp}
+use Rattle.laws.specs.Histories.{Moment, history, historyOf, howMany}
+use Rattle.laws.specs.Cards.{zeroCards, begins, delivers, timesOut, missesSn, endsOld, turnsAway, endsSending, failsSending, countsOf, failed, Tallies, Unbegun, TalliesAt, UnbegunAt, frozenAt}
+use Rattle.laws.proofs.Isolation.{part-step, settings-step, berth-alone}
 use Rattle.laws.proofs.SetUp.{set-up-part}
-
--- ---- what holds of a berth's part at each of these events, before it
-
-unfoldable pub AtEach : (Settings → Part → Event → Type 0) → Settings → Part → List Event → Type 0
-AtEach P s p [] = Unit {0}
-AtEach P s p (e ∷ es) = P s p e × AtEach P s (partAfter s p e) es
-
-pub at-each-append : (P : Settings → Part → Event → Type 0) (s : Settings) (p : Part) (es fs : List Event) → AtEach P s p es → AtEach P s (alone s p es) fs
-    → AtEach P s p (es ++ fs)
-unfolding alone AtEach
-at-each-append P s p [] fs u v = v
-at-each-append P s p (e ∷ es) fs u v = (u .0, at-each-append P s (partAfter s p e) es fs (u .1) v)
+use Rattle.laws.proofs.Histories.{own-either, at-each-append, history-is}
 
 -- ---- a frozen card
 
@@ -182,52 +169,11 @@ pub card-tallies : (s : Settings) (p : Part) (es : List Event) (e : Event) → U
     → Tallies (alone s p (es ++ e ∷ []) .card) (alone s p (es ++ e ∷ []) .berth .rx) (history s p (es ++ e ∷ []))
 card-tallies s p es e start f = tallies s p (es ++ e ∷ []) start (before-last s p es e f)
 
--- ---- the node's runs
-
--- a call is one event of berth k or none
-own-either : (P : List Event → Type 0) → P [] → ((e : Event) → P (e ∷ [])) → (k : ℕ) (h : Held) (c : Call) → P (own k h c)
-unfolding own ownDone
-own-either P none some k h c = go (refusal h c)
-  where
-    its : (c : Call) → P (ownDone k h c)
-    its (frame id d) = pick-either P (eqb (senderOf id) k) _ _ (λ t. some (arrives d)) (λ t. none)
-    its tick = some ticks
-    its (send j m) = pick-either P (eqb j k) _ _ (λ t. some (sends m)) (λ t. none)
-    its (turn buffer) = pick-either P (ltb (passedOver (h .node)) berthCount && eqb (reached (h .node)) k) _ _ (λ t. some turns) (λ t. none)
-    its (show j choice) = none
-
-    go : (n : ℕ) → P (unless n (λ m. []) (ownDone k h c))
-    go zero = its c
-    go (suc n) = none
-
--- ---- the history of the calls is that of the berth's own events
-
-history-append : (s : Settings) (p : Part) (es fs : List Event) → history s p (es ++ fs) ≡ history s p es ++ history s (alone s p es) fs
-unfolding history alone
-history-append s p [] fs = refl
-history-append s p (e ∷ es) fs = ap (λ (ms : List Moment). record { before = p .berth .rx; event = e; said = says s p e } ∷ ms) (history-append s (partAfter s p e) es fs)
-
-moments-step : (k : ℕ) (h : Held) (c : Call)
-    → moments (berthAt (h .node) k .rx) (own k h c) (saysOf k (outcome h c .answer)) ≡ history (h .node .settings) (partOf k h) (own k h c)
-unfolding partOf
-moments-step k h c =
-    ap (moments (berthAt (h .node) k .rx) (own k h c)) (says-step k h c)
-    ∙ own-either (λ es. moments (berthAt (h .node) k .rx) es (saysAll (h .node .settings) (partOf k h) es) ≡ history (h .node .settings) (partOf k h) es)
-    (unfold moments history in refl) (λ e. unfold moments saysAll history in refl) k h c
-
-pub history-is : (k : ℕ) (h : Held) (cs : List Call) → historyOf k h cs ≡ history (h .node .settings) (partOf k h) (owns k h cs)
-unfolding historyOf owns
-history-is k h [] = unfold history in refl
-history-is k h (c ∷ cs) =
-    ap₂ (λ (q r : List Moment). q ++ r) (moments-step k h c) (history-is k (outcome h c .held) cs)
-    ∙ ap₂ (λ (s : Settings) (p : Part). history (h .node .settings) (partOf k h) (own k h c) ++ history s p (owns k (outcome h c .held) cs)) (settings-step h c) (part-step k h c)
-    ∙ sym (history-append (h .node .settings) (partOf k h) (own k h c) (owns k (outcome h c .held) cs))
-
--- ---- the card before the last call tells
+-- ---- the node's runs: the card before the last call tells
 
 unfrozen-own : (k : ℕ) (h : Held) (c : Call) → frozenAt k h ≡ false → Unfrozen (h .node .settings) (partOf k h) (own k h c)
 unfolding AtEach partOf
-unfrozen-own k h c f = own-either (Unfrozen (h .node .settings) (partOf k h)) tt (λ e. (f, tt)) k h c
+unfrozen-own k h c f = own-either (Unfrozen (h .node .settings) (partOf k h)) k h c tt (λ e r. (f, tt))
 
 never-frozen-at : (k : ℕ) (h : Held) (cs : List Call) → frozenAt k (final h cs) ≡ false → frozenAt k h ≡ false
 unfolding partOf

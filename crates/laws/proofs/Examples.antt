@@ -29,7 +29,8 @@ use Rattle.rules.specs.declared.Codes.{Codes}
 use Rattle.rules.specs.declared.Word.the-variants.{Delivered, Ignored, Going}
 use Rattle.rules.proofs.Ranges.{in-order-range}
 use Rattle.laws.specs.Own.{over, only, ownDone, own, owns, saysOf, ofBerth, Sound, setUp, freshPart, Alone}
-use Rattle.laws.specs.Cards.{zeroCards, Moment, history, moments, historyOf, howMany, Tallies, TalliesAt, frozenAt}
+use Rattle.laws.specs.Histories.{Moment, history, moments, historyOf, howMany}
+use Rattle.laws.specs.Cards.{zeroCards, Tallies, TalliesAt, frozenAt}
 use Rattle.laws.specs.Gaps.{TwoFrames, Ticking, Spaced}
 use Rattle.laws.specs.Rounds.{served, turnOf, StaysDue, Fair}
 use Rattle.laws.specs.Sides.{frameSide, ofSide, handedSide, framesBy}
@@ -205,24 +206,24 @@ toSix =
     send 6 (take 20 programme) ∷ turn blank ∷ frame 0x646 asksFive ∷ turn blank ∷ tick ∷ turn blank ∷ tick ∷ turn blank ∷ tick ∷ turn blank ∷
     tick ∷ turn blank ∷ tick ∷ turn blank ∷ tick ∷ turn blank ∷ []
 
-abbrev momentOf : Event → Says → Moment
-momentOf e x = record { before = Rx.Idle; event = e; said = x }
+abbrev moment : Event → Says → Moment
+moment e x = record { before = Rx.Idle; event = e; said = x }
 
 abbrev quietTick : Moment
-quietTick = momentOf ticks (expires 0 0)
+quietTick = moment ticks (expires 0 0)
 
 abbrev beforeGoing : List Moment
-beforeGoing = momentOf (sends (take 20 programme)) accepts ∷ momentOf turns (hands (0x10 ∷ 20 ∷ 1 ∷ 2 ∷ 3 ∷ 4 ∷ 5 ∷ 6 ∷ []) 0) ∷ []
+beforeGoing = moment (sends (take 20 programme)) accepts ∷ moment turns (hands (0x10 ∷ 20 ∷ 1 ∷ 2 ∷ 3 ∷ 4 ∷ 5 ∷ 6 ∷ []) 0) ∷ []
 
 abbrev firstOfTwo : Moment
-firstOfTwo = momentOf turns (hands (0x21 ∷ 7 ∷ 8 ∷ 9 ∷ 10 ∷ 11 ∷ 12 ∷ 13 ∷ []) 0)
+firstOfTwo = moment turns (hands (0x21 ∷ 7 ∷ 8 ∷ 9 ∷ 10 ∷ 11 ∷ 12 ∷ 13 ∷ []) 0)
 
 abbrev secondOfTwo : Moment
-secondOfTwo = momentOf turns (hands (0x22 ∷ 14 ∷ 15 ∷ 16 ∷ 17 ∷ 18 ∷ 19 ∷ 20 ∷ []) 1)
+secondOfTwo = moment turns (hands (0x22 ∷ 14 ∷ 15 ∷ 16 ∷ 17 ∷ 18 ∷ 19 ∷ 20 ∷ []) 1)
 
--- the turns after five ticks are not berth 6's, the one after the sixth is
+-- the turns after each of the first five ticks answer None, the one after the sixth is berth 6's
 pub to-six-computed : historyOf 6 scheduler toSix
-    ≡ beforeGoing ++ (momentOf (arrives asksFive) (hears 0 Going) ∷ [] ++ (firstOfTwo ∷ replicate 6 quietTick ++ secondOfTwo ∷ []))
+    ≡ beforeGoing ++ (moment (arrives asksFive) (hears 0 Going) ∷ [] ++ (firstOfTwo ∷ replicate 6 quietTick ++ secondOfTwo ∷ []))
 unfolding
     historyOf moments own ownDone saysOf outcome done reply refusal needs firstUnmet rightStore rightCards addedAt tickedCards inside
     berthAt inOrder all each settingsAllowed berthInOrder sendingInRange inBlock afterFrame afterTurn cameAt frameCame byKind kind low
@@ -236,7 +237,7 @@ unfolding kind howMany
 sixFrames =
     record {
       earlier = beforeGoing;
-      going = momentOf (arrives asksFive) (hears 0 Going);
+      going = moment (arrives asksFive) (hears 0 Going);
       since = [];
       first = firstOfTwo;
       between = replicate 6 quietTick;
@@ -244,10 +245,10 @@ sixFrames =
       later = [];
       splits = to-six-computed;
       is-going = tt;
-      is-last = refl;
-      is-first = tt;
+      none-since = refl;
+      first-hands = tt;
       none-between = refl;
-      is-second = tt;
+      second-hands = tt;
     }
 
 pub six-spaced : Spaced sixFrames

@@ -1,91 +1,29 @@
 -- The law of the gaps. From a Going on, a berth's send side keeps the gap that it took (rules, `Paced`); a consecutive frame handed over puts
 -- the whole gap before the next one, and by induction over the moments after it the ticks make up for what is gone of it.
-use mathlib.Core.Path.{_≡_, refl, sym, ap, _∙_, subst}
+use mathlib.Core.Path.{_≡_, refl, sym, ap, subst}
 use Prim.Native.Nat.{ℕ, zero, suc, _+_, _*_, _≤_, _<_}
 use native.Mathlib.Omega.{arith}
 use native.Mathlib.Nat.{zero-add, zero-mul, suc-mul}
-use mathlib.Core.Bool.{Bool, true, false, not, _&&_}
+use mathlib.Core.Bool.{Bool, true, false, not}
 use mathlib.Core.List.{List, [], _∷_, _++_}
 use lib.ListN.{length}
-use lib.Dec.{T, eqb, ltb}
-use mir.Facts.{eqb-yes, ltb-yes}
-use Rattle.rules.specs.Tests.{pick, unless}
-use Rattle.rules.specs.Numbers.{berthCount, shortMost, consecutiveKind}
-use Rattle.rules.specs.Nodes.{berthAt, Held}
-use Rattle.rules.specs.Ranges.{BerthRange}
-use Rattle.rules.specs.Frames.{byteAt, kind, ticksMeant, gapOf}
-use Rattle.rules.specs.Arrivals.{frameCame}
+use lib.Dec.{T}
+use mir.Facts.{eqb-yes}
+use Rattle.rules.specs.Tests.{pick}
+use Rattle.rules.specs.Nodes.{Held}
+use Rattle.rules.specs.Frames.{gapOf}
 use Rattle.rules.specs.Ticks.{txTicked, ticked}
-use Rattle.rules.specs.Turns.{due, handOver, sent}
-use Rattle.rules.specs.Stores.{passedOver, reached}
-use Rattle.rules.specs.Events.{Call, frame, tick, send, turn, show, senderOf, Event, arrives, ticks, sends, turns}
-use Rattle.rules.specs.Refusals.{refusal}
-use Rattle.rules.specs.Calls.{outcome}
-use Rattle.rules.specs.Alone.{Part, partOf, stateAfter, partAfter, says, alone}
-use Rattle.rules.specs.Handing.{isGoing}
+use Rattle.rules.specs.Turns.{sent}
+use Rattle.rules.specs.Events.{Call, Event, arrives, ticks, sends, turns}
+use Rattle.rules.specs.Alone.{Part, partOf, stateAfter, partAfter, says, AtEach}
 use Rattle.rules.specs.declared.Settings.{Settings}
-use Rattle.rules.proofs.Cases.{pick-either, and-left, and-right}
-use Rattle.rules.proofs.Answered.{turn-answered}
-use Rattle.rules.proofs.Ranges.{in-order-range}
-use Rattle.rules.proofs.Order.{reached-small}
-use Rattle.rules.proofs.Round.{reached-due}
 use Rattle.rules.proofs.Even.{one}
 use Rattle.rules.proofs.Gaps.{gap-longer}
 use Rattle.rules.proofs.Pace.{Paced, going-paced, frame-paced, tick-paced, begins-paced, turn-paced, consecutive-paced}
-use Rattle.laws.specs.Own.{ownDone, own, owns}
-use Rattle.laws.specs.Cards.{Moment, history, historyOf, howMany}
+use Rattle.laws.specs.Own.{owns}
+use Rattle.laws.specs.Histories.{Moment, history, historyOf, howMany}
 use Rattle.laws.specs.Gaps.{goes, stminIn, handsConsecutive, ticksAt, sendsAt, TwoFrames, asked, TickingFrom, Ticking, Spaced}
-use Rattle.laws.proofs.Isolation.{part-step, settings-step}
-use Rattle.laws.proofs.Cards.{AtEach, at-each-append, history-is}
-
--- ---- a berth's own turns come where it has a frame due, and in order
-
-record ServedRight (s : Settings) (p : Part) : Type 0 where
-  small : s .area ≤ shortMost
-  range : BerthRange s (p .berth)
-  is-due : T (due (p .berth))
-
-abbrev Served : Settings → Part → Event → Type 0
-Served s p (arrives d) = Unit {0}
-Served s p ticks = Unit {0}
-Served s p (sends m) = Unit {0}
-Served s p turns = ServedRight s p
-
-served-step : (k : ℕ) (h : Held) (c : Call) → AtEach Served (h .node .settings) (partOf k h) (own k h c)
-unfolding AtEach own ownDone partOf
-served-step k h c = go c (refusal h c) refl
-  where
-    P : List Event → Type 0
-    P = AtEach Served (h .node .settings) (partOf k h)
-
-    turned : (buffer : List ℕ) → refusal h (turn buffer) ≡ 0 → T (ltb (passedOver (h .node)) berthCount && eqb (reached (h .node)) k) → ServedRight (h .node .settings) (partOf k h)
-    turned buffer e t =
-        let o = in-order-range (h .node) (turn-answered h buffer e .order) in
-        let l : passedOver (h .node) < berthCount = ltb-yes (and-left (ltb (passedOver (h .node)) berthCount) _ t) in
-        let mine : reached (h .node) ≡ k = eqb-yes (and-right (ltb (passedOver (h .node)) berthCount) _ t) in
-        record {
-          small = o .settings .area-most;
-          range = rw mine at (o .berth (reached (h .node)) (reached-small (h .node)));
-          is-due = rw mine at (reached-due (h .node) o l .0);
-        }
-
-    its : (c : Call) → refusal h c ≡ 0 → P (ownDone k h c)
-    its (frame id d) e = pick-either P (eqb (senderOf id) k) _ _ (λ t. (tt, tt)) (λ t. tt)
-    its tick e = (tt, tt)
-    its (send j m) e = pick-either P (eqb j k) _ _ (λ t. (tt, tt)) (λ t. tt)
-    its (turn buffer) e = pick-either P (ltb (passedOver (h .node)) berthCount && eqb (reached (h .node)) k) _ _ (λ t. (turned buffer e t, tt)) (λ t. tt)
-    its (show j choice) e = tt
-
-    go : (c : Call) (n : ℕ) → refusal h c ≡ n → P (unless n (λ m. []) (ownDone k h c))
-    go c zero e = its c e
-    go c (suc n) e = tt
-
-served-run : (k : ℕ) (h : Held) (cs : List Call) → AtEach Served (h .node .settings) (partOf k h) (owns k h cs)
-unfolding owns
-served-run k h [] = unfold AtEach in tt
-served-run k h (c ∷ cs) =
-    at-each-append Served (h .node .settings) (partOf k h) (own k h c) (owns k (outcome h c .held) cs) (served-step k h c)
-    (rw (settings-step h c, part-step k h c) at (served-run k (outcome h c .held) cs))
+use Rattle.laws.proofs.Histories.{Served, served-run, history-is}
 
 -- ---- one moment
 
@@ -231,11 +169,11 @@ spaced : (s : Settings) (p : Part) (es : List Event) → AtEach Served s p es �
 spaced s p es v f =
     let g = gapOf (stminIn (f .going .event)) in
     let start = from-going s (f .earlier) (f .going) (f .since ++ (f .first ∷ f .between ++ f .second ∷ f .later)) p es v (f .splits) (f .is-going) in
-    let (most, first) = to-frame s g 0 0 (f .since) (f .first) (f .between ++ f .second ∷ f .later) (omega arith) start (f .is-last) (f .is-first) in
-    let (gone, second) = to-frame s g g 0 (f .between) (f .second) (f .later) (omega arith) first (f .none-between) (f .is-second) in
+    let (most, first) = to-frame s g 0 0 (f .since) (f .first) (f .between ++ f .second ∷ f .later) (omega arith) start (f .none-since) (f .first-hands) in
+    let (gone, second) = to-frame s g g 0 (f .between) (f .second) (f .later) (omega arith) first (f .none-between) (f .second-hands) in
     let enough : 0 < asked f → asked f + 1 ≤ howMany ticksAt (f .between) = λ some. omega (arith, gone, gap-longer (stminIn (f .going .event)) some) in
     record {
-      one-message = no-send s (f .between) (f .second) (f .later) (first .part) (first .events) (first .served) (first .told) (f .none-between) (f .is-second);
+      one-message = no-send s (f .between) (f .second) (f .later) (first .part) (first .events) (first .served) (first .told) (f .none-between) (f .second-hands);
       enough = enough;
       time = λ interval start end times same k. ticking interval start end times (asked f) (λ some. omega (arith, enough some, same)) k;
     }

@@ -7,12 +7,12 @@ use mathlib.Core.Bool.{Bool, true, false}
 use mathlib.Core.List.{List, [], _∷_, _++_, map, append-nil}
 use lib.ListN.{length}
 use lib.Seq.{sets}
-use lib.Dec.{eqb, leb}
+use lib.Dec.{eqb}
 use Rattle.rules.specs.Tests.{pick}
-use Rattle.rules.specs.Numbers.{singleKind, firstKind, consecutiveKind, flowKind, goStatus, waitStatus, overflowStatus, consecutiveMost, noData, otherKind}
+use Rattle.rules.specs.Numbers.{singleKind, firstKind, consecutiveKind, flowKind, goStatus, waitStatus, overflowStatus, noData, otherKind}
 use Rattle.rules.specs.Nodes.{fresh, withTx}
-use Rattle.rules.specs.Frames.{kind, low, singleFits, announced, firstFits, consecutiveFits, flowFits}
-use Rattle.rules.specs.Arrivals.{Heard, Told, Came, ignored, singleCame, firstCame, aboveArea, turnedAway, begun, missing, completed, took, wrongSn, awaitedCame, consecutiveCame, byStatus, flowIgnored, flowCame, heardBy, toldBy, byKind, frameCame}
+use Rattle.rules.specs.Frames.{kind, low, singleFits, announced, firstFits, flowFits}
+use Rattle.rules.specs.Arrivals.{Heard, Told, Came, ignored, singleCame, firstCame, aboveArea, turnedAway, begun, completed, took, wrongSn, consecutiveCame, byStatus, flowIgnored, flowCame, heardBy, toldBy, byKind, frameCame}
 use Rattle.rules.specs.Ticks.{ticked, rxCode, txCode}
 use Rattle.rules.specs.Turns.{flowDue, handOver, sent}
 use Rattle.rules.specs.Answers.{Side, receive, send, Report, reported, failedSide, wordReports}
@@ -24,6 +24,7 @@ use Rattle.rules.specs.declared.Rx.{Rx}
 use Rattle.rules.specs.declared.Tx.{Tx}
 use Rattle.rules.specs.declared.Berth.{Berth}
 use Rattle.rules.proofs.Cases.{Tested, holds, fails, eqb-cases, eqb-not, pick-either}
+use Rattle.rules.proofs.Facts.{consecutive-either}
 use Rattle.laws.specs.Own.{over, only, saidReports}
 use Rattle.laws.specs.Sides.{sameSide, uncounted, sideOf, frameSide, turnSide, forSide, sideEvents, onlySide, sideSays, ofSide}
 use Rattle.laws.proofs.Isolation.{alone-append, says-append}
@@ -119,16 +120,9 @@ module _ (k : ℕ) where
       (λ t. ignored-all 3 rx last)
 
   consecutive-all : (set : Settings) (rx : Rx) (last : ℕ) (d : List ℕ) → HeardAll (consecutiveCame set rx last d)
-  unfolding awaitedCame completed took wrongSn wordReports failedSide
-  consecutive-all set Rx.Idle last d = ignored-all 4 Rx.Idle last
-  consecutive-all set (Rx.OwesOverflow t) last d = ignored-all 4 (Rx.OwesOverflow t) last
-  consecutive-all set (Rx.OwesGo p t) last d = ignored-all 4 (Rx.OwesGo p t) last
-  consecutive-all set (Rx.Awaits p t) last d =
-      pick-either HeardAll (consecutiveFits (missing p) d) _ _
-      (λ u. pick-either HeardAll (eqb (low d) (p .sn .0)) _ _
-      (λ v. pick-either HeardAll (leb (missing p) consecutiveMost) _ _ (λ w. reported-all receive 1) (λ w. no-reports receive))
-      (λ v. reported-all receive 5))
-      (λ u. ignored-all 3 (Rx.Awaits p t) last)
+  unfolding completed took wrongSn wordReports failedSide
+  consecutive-all set rx last d =
+      consecutive-either HeardAll set rx last d (λ why. ignored-all why rx last) (λ p. reported-all receive 1) (λ p. no-reports receive) (reported-all receive 5)
 
   abbrev ToldAll : Told → Type 0
   ToldAll t = AllOf send (wordReports k (t .word))

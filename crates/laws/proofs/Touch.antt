@@ -11,11 +11,11 @@ use lib.Seq.{sets}
 use lib.Dec.{T, eqb, ltb, leb, le→leb, lt→ltb}
 use mir.Facts.{eqb-yes, yes-eqb, yes-leb, yes-and}
 use Rattle.rules.specs.Tests.{pick, Need, firstUnmet}
-use Rattle.rules.specs.Numbers.{berthCount, fromBerth, frameSize, mostData, singleKind, firstKind, consecutiveKind, flowKind, consecutiveMost, shortMost}
+use Rattle.rules.specs.Numbers.{berthCount, fromBerth, frameSize, mostData, singleKind, firstKind, consecutiveKind, flowKind, shortMost}
 use Rattle.rules.specs.Nodes.{berthAt, Held}
 use Rattle.rules.specs.Ranges.{BerthRange}
-use Rattle.rules.specs.Frames.{kind, low, singleFits, announced, firstFits, consecutiveFits}
-use Rattle.rules.specs.Arrivals.{Heard, Told, Came, ignored, singleCame, firstCame, aboveArea, turnedAway, begun, missing, completed, took, wrongSn, awaitedCame, consecutiveCame, flowIgnored, flowCame, heardBy, toldBy, byKind, frameCame}
+use Rattle.rules.specs.Frames.{kind, singleFits, announced, firstFits}
+use Rattle.rules.specs.Arrivals.{Heard, Told, Came, ignored, singleCame, firstCame, aboveArea, turnedAway, begun, completed, took, wrongSn, consecutiveCame, flowIgnored, flowCame, heardBy, toldBy, byKind, frameCame}
 use Rattle.rules.specs.Turns.{flowDue, due, handOver}
 use Rattle.rules.specs.Stores.{rightStore, inside, passedOver, reached, cameAt, handedAt}
 use Rattle.rules.specs.Answers.{Side, receive, send as sendSide, Report, reported, wordReports}
@@ -34,7 +34,7 @@ use Rattle.rules.proofs.Cases.{Tested, holds, fails, test-cases, eqb-cases, ltb
 use Rattle.rules.proofs.Ranges.{range-in-order}
 use Rattle.rules.proofs.Order.{frame-inside}
 use Rattle.rules.proofs.Round.{reached-due}
-use Rattle.rules.proofs.Facts.{frame-either, told-either, ignored-leaves}
+use Rattle.rules.proofs.Facts.{frame-either, told-either, ignored-leaves, consecutive-either}
 use Rattle.rules.proofs.Handed.{dueKind, flow-kind, message-kind}
 use Rattle.laws.specs.Own.{over, only, ownDone, own, saysOf, saidReports, Sound}
 use Rattle.laws.specs.Sides.{sameSide, uncounted, sideOf, frameSide, turnSide, forSide, sideEvents, ofSide, handedIn, handedSide, framesBy}
@@ -80,15 +80,8 @@ first-old set rx last d =
     (λ u. pick-either NoOldHeard (aboveArea set (announced d)) _ _ (λ v t. absurd t) (λ v t. absurd t)) (λ u. ignored-old 3 rx last)
 
 consecutive-old : (set : Settings) (rx : Rx) (last : ℕ) (d : List ℕ) → NoOldHeard (consecutiveCame set rx last d)
-unfolding awaitedCame completed took wrongSn
-consecutive-old set Rx.Idle last d = ignored-old 4 Rx.Idle last
-consecutive-old set (Rx.OwesOverflow u) last d = ignored-old 4 (Rx.OwesOverflow u) last
-consecutive-old set (Rx.OwesGo p u) last d = ignored-old 4 (Rx.OwesGo p u) last
-consecutive-old set (Rx.Awaits p u) last d =
-    pick-either NoOldHeard (consecutiveFits (missing p) d) _ _
-    (λ v. pick-either NoOldHeard (eqb (low d) (p .sn .0)) _ _
-    (λ w. pick-either NoOldHeard (leb (missing p) consecutiveMost) _ _ (λ x t. refl) (λ x t. refl)) (λ w t. refl))
-    (λ v. ignored-old 3 (Rx.Awaits p u) last)
+unfolding completed took wrongSn
+consecutive-old set rx last d = consecutive-either NoOldHeard set rx last d (λ why. ignored-old why rx last) (λ p t. refl) (λ p t. refl) (λ t. refl)
 
 frame-old : (set : Settings) (b : Berth) (d : List ℕ) → NoOld (frameCame set b d)
 unfolding heardBy toldBy
@@ -130,16 +123,16 @@ Undelivered t = (old : ℕ) → deliveredIn (hears old (t .word)) ≡ []
 
 flow-delivers : (tx : Tx) (d : List ℕ) → Undelivered (flowCame tx d)
 unfolding flowIgnored deliveredIn
-flow-delivers tx d = told-either Undelivered tx d (λ why old. refl) (λ o old. refl) (λ o t e old. refl) (λ code old. refl)
+flow-delivers tx d = told-either Undelivered tx d (λ why old. refl) (λ o old. refl) (λ o old. refl) (λ code old. refl)
 
 -- ---- the frame handed over says whose turn it was
 
-no-flow : (tx : Tx) → dueKind tx ≡ flowKind → ⊥
-no-flow Tx.Idle e = omega arith
-no-flow (Tx.SingleDue n u) e = omega arith
-no-flow (Tx.FirstDue n u) e = omega arith
-no-flow (Tx.AwaitsFlow o u) e = omega arith
-no-flow (Tx.Consecutive o u) e = omega arith
+due-not-flow : (tx : Tx) → dueKind tx ≡ flowKind → ⊥
+due-not-flow Tx.Idle e = omega arith
+due-not-flow (Tx.SingleDue n u) e = omega arith
+due-not-flow (Tx.FirstDue n u) e = omega arith
+due-not-flow (Tx.AwaitsFlow o u) e = omega arith
+due-not-flow (Tx.Consecutive o u) e = omega arith
 
 pub handed-side : (set : Settings) (p : Part) → set .area ≤ shortMost → BerthRange set (p .berth) → T (due (p .berth))
     → handedSide (handOver set (p .berth) (p .outgoing) .frame) ≡ turnSide p
@@ -149,7 +142,7 @@ handed-side set p a r t = go (test-cases (flowDue (p .berth .rx)))
     go : Tested (flowDue (p .berth .rx)) (T (flowDue (p .berth .rx))) (T (not (flowDue (p .berth .rx))))
         → handedSide (handOver set (p .berth) (p .outgoing) .frame) ≡ turnSide p
     go (holds e u) = rw (e, eqb-is _ _ (flow-kind set (p .berth .rx) u))
-    go (fails e u) = rw (e, eqb-not _ _ (λ k. no-flow (p .berth .tx) (sym (message-kind set (p .berth .tx) (p .outgoing) a (r .send) (rw e at t)) ∙ k)))
+    go (fails e u) = rw (e, eqb-not _ _ (λ k. due-not-flow (p .berth .tx) (sym (message-kind set (p .berth .tx) (p .outgoing) a (r .send) (rw e at t)) ∙ k)))
 
 -- ---- which frames are flow control
 

@@ -1,59 +1,25 @@
--- Paper 02, W1, the law of the cards: a berth's history, which of its moments each count counts, and what begun equals.
+-- Paper 02, W1, the law of the cards: which moments of a berth's history each count counts, and what begun equals.
 use Prim.Native.Nat.{ℕ, _+_}
 use mathlib.Core.Path.{_≡_}
 use mathlib.Core.Bool.{Bool, false, not, _&&_, _||_}
-use mathlib.Core.List.{List, [], _∷_, _++_}
+use mathlib.Core.List.{List}
 use lib.ListN.{replicate}
 use lib.Dec.{eqb}
 use Rattle.rules.specs.Tests.{pick}
 use Rattle.rules.specs.Numbers.{berthCount, N-OK, N-TIMEOUT-A, N-TIMEOUT-Cr, N-WRONG-SN, N-INVALID-FS, N-UNEXP-PDU, N-BUFFER-OVFLW}
 use Rattle.rules.specs.Nodes.{berthAt, Held}
-use Rattle.rules.specs.Events.{Call, Event, arrives, ticks, sends, turns}
+use Rattle.rules.specs.Events.{Event, arrives, ticks, sends, turns}
 use Rattle.rules.specs.Cards.{zeroCard, cardAt, frozen, isDelivered, isBegun, isTooLong, isFailed, isSingle, underWay}
-use Rattle.rules.specs.Calls.{outcome}
-use Rattle.rules.specs.Alone.{Part, partAfter, says, Says, hears, expires, accepts, hands}
-use Rattle.rules.specs.declared.Settings.{Settings}
+use Rattle.rules.specs.Alone.{Says, hears, expires, accepts, hands}
 use Rattle.rules.specs.declared.Rx.{Rx}
 use Rattle.rules.specs.declared.Card.{Card}
-use Rattle.rules.specs.declared.Word.{Word}
-use Rattle.laws.specs.Own.{own, saysOf}
+use Rattle.laws.specs.Histories.{Moment, wordIs, howMany}
 
 -- ten cards of zeros
 abbrev pub zeroCards : List Card
 zeroCards = replicate berthCount zeroCard
 
--- ---- the history of a berth
-
--- one event of it: its receive side before the event, the event, and what the berth says
-pub record Moment : Type 0 where
-  pub before : Rx
-  pub event : Event
-  pub said : Says
-
--- of a run of its own events
-unfoldable pub history : Settings → Part → List Event → List Moment
-history s p [] = []
-history s p (e ∷ es) = record { before = p .berth .rx; event = e; said = says s p e } ∷ history s (partAfter s p e) es
-
--- of calls on the node: berth k's own events, each with what the answer says of k
-unfoldable pub moments : Rx → List Event → List Says → List Moment
-moments rx [] xs = []
-moments rx (e ∷ es) [] = []
-moments rx (e ∷ es) (x ∷ xs) = record { before = rx; event = e; said = x } ∷ moments rx es xs
-
-unfoldable pub historyOf : ℕ → Held → List Call → List Moment
-historyOf k h [] = []
-historyOf k h (c ∷ cs) =
-    moments (berthAt (h .node) k .rx) (own k h c) (saysOf k (outcome h c .answer)) ++ historyOf k (outcome h c .held) cs
-
 -- ---- which moments each count counts
-
--- a frame's word passes a test
-abbrev pub wordIs : (Word → Bool) → Says → Bool
-wordIs f (hears old w) = f w
-wordIs f (expires receive send) = false
-wordIs f accepts = false
-wordIs f (hands frame code) = false
 
 -- the event is a single frame, whatever the message's length
 abbrev pub singleFrameCame : Event → Bool
@@ -117,11 +83,6 @@ sendingFails (hands frame code) = false
 
 abbrev pub failsSending : Moment → Bool
 failsSending m = sendingFails (m .said)
-
--- how many of them
-unfoldable pub howMany : (Moment → Bool) → List Moment → ℕ
-howMany f [] = 0
-howMany f (m ∷ ms) = pick (f m) 1 0 + howMany f ms
 
 -- the counts of a history
 abbrev pub countsOf : List Moment → Card

@@ -7,10 +7,10 @@ use lib.ListN.{length}
 use lib.Dec.{T, eqb}
 use Rattle.rules.specs.Numbers.{consecutiveKind}
 use Rattle.rules.specs.Frames.{byteAt, kind, ticksMeant}
+use Rattle.rules.specs.Arrivals.{isGoing}
 use Rattle.rules.specs.Events.{Event, arrives, ticks, sends, turns}
 use Rattle.rules.specs.Alone.{Says, hears, expires, accepts, hands}
-use Rattle.rules.specs.Handing.{isGoing}
-use Rattle.laws.specs.Cards.{Moment, wordIs, howMany}
+use Rattle.laws.specs.Histories.{Moment, wordIs, howMany}
 
 -- ---- the moments of a berth's history that the law speaks of
 
@@ -18,7 +18,7 @@ use Rattle.laws.specs.Cards.{Moment, wordIs, howMany}
 abbrev pub goes : Moment → Bool
 goes m = wordIs isGoing (m .said)
 
--- the STmin that a frame carries, if it is flow control
+-- the STmin that a frame carries, where it is flow control
 abbrev pub stminIn : Event → ℕ
 stminIn (arrives d) = byteAt d 2
 stminIn ticks = 0
@@ -55,7 +55,8 @@ isSend turns = false
 abbrev pub sendsAt : Moment → Bool
 sendsAt m = isSend (m .event)
 
--- ---- two consecutive frames that a berth hands over with no frame answered Going between them, and the last Going before the first
+-- ---- two consecutive frames that a berth hands over, neighbours or not, with no frame answered Going between them, and the last Going
+-- before the first
 pub record TwoFrames (history : List Moment) : Type 0 where
   pub earlier : List Moment
   pub going : Moment
@@ -66,10 +67,10 @@ pub record TwoFrames (history : List Moment) : Type 0 where
   pub later : List Moment
   pub splits : history ≡ earlier ++ (going ∷ since ++ (first ∷ between ++ second ∷ later))
   pub is-going : T (goes going)
-  pub is-last : howMany goes since ≡ 0
-  pub is-first : T (handsConsecutive first)
+  pub none-since : howMany goes since ≡ 0
+  pub first-hands : T (handsConsecutive first)
   pub none-between : howMany goes between ≡ 0
-  pub is-second : T (handsConsecutive second)
+  pub second-hands : T (handsConsecutive second)
 
 -- the ticks that paper 01 reads in the STmin of that Going
 abbrev pub asked : {history : List Moment} → TwoFrames history → ℕ
@@ -77,18 +78,19 @@ asked f = ticksMeant (stminIn (f .going .event))
 
 -- ---- time
 
--- ticks come at these times, an interval or more apart, the first at t, and none after `end`
+-- after a tick at t, ticks come at these times, each an interval or more after the one before, and none after `end`
 abbrev pub TickingFrom : (interval t end : ℕ) → List ℕ → Type 0
 TickingFrom interval t end [] = t ≤ end
 TickingFrom interval t end (u ∷ times) = (t + interval ≤ u) × TickingFrom interval u end times
 
--- from `start` to `end` ticks come at these times: the first at any moment, the others an interval or more after the one before
+-- from `start` to `end` ticks come at these times: the first at any moment, each other one an interval or more after the one before
 abbrev pub Ticking : (interval start end : ℕ) → List ℕ → Type 0
 Ticking interval start end [] = start ≤ end
 Ticking interval start end (t ∷ times) = (start ≤ t) × TickingFrom interval t end times
 
 -- ---- what the law says of the two: they are of one message, no other is taken between them; if paper 01 reads n > 0 ticks, at least
--- n + 1 are answered between the two; hence n whole intervals pass, whatever the moment of the first tick
+-- n + 1 are answered between the two; hence, for any times of these ticks, with the first frame at `start` and the second at `end`, n whole
+-- intervals lie between
 pub record Spaced {history : List Moment} (f : TwoFrames history) : Type 0 where
   pub one-message : howMany sendsAt (f .between) ≡ 0
   pub enough : 0 < asked f → asked f + 1 ≤ howMany ticksAt (f .between)

@@ -1,5 +1,6 @@
 -- What the laws cite beside the rules.
 pub mod Own
+pub mod Histories
 pub mod Cards
 pub mod Gaps
 pub mod Rounds

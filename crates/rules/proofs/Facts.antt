@@ -50,7 +50,7 @@ frame-either P s b d ignores single first consecutive flow =
 pub told-either : (P : Told → Type 0) (tx : Tx) (d : List ℕ)
     → ((why : ℕ) → P (flowIgnored why tx))
     → ((o : Sending) → P (record { tx = Tx.Consecutive (granted o d) 0; word = Going }))
-    → ((o : Sending) (t : ℕ) → tx ≡ Tx.AwaitsFlow o t → P (record { tx = Tx.AwaitsFlow o 0; word = Waiting }))
+    → ((o : Sending) → P (record { tx = Tx.AwaitsFlow o 0; word = Waiting }))
     → ((code : ℕ) → P (record { tx = Tx.Idle; word = Failed code }))
     → P (flowCame tx d)
 unfolding byStatus
@@ -60,7 +60,7 @@ told-either P (Tx.FirstDue n t) d ignores goes waits fails = ignores 4
 told-either P (Tx.AwaitsFlow o t) d ignores goes waits fails =
     pick-either P (flowFits d) _ _
     (λ u. pick-either P (eqb (low d) goStatus) _ _ (λ v. goes o)
-    (λ v. pick-either P (eqb (low d) waitStatus) _ _ (λ w. waits o t refl)
+    (λ v. pick-either P (eqb (low d) waitStatus) _ _ (λ w. waits o)
     (λ w. pick-either P (eqb (low d) overflowStatus) _ _ (λ x. fails 9) (λ x. fails 6))))
     (λ u. ignores 3)
 told-either P (Tx.Consecutive o t) d ignores goes waits fails = ignores 4
@@ -110,7 +110,7 @@ module _ (why : ℕ) where
   unfolding flowIgnored
   flow-kept tx d =
       told-either (λ (told : Told). told .word ≡ Ignored why → told .tx ≡ tx) tx d
-      (λ i e. refl) (λ o e. clash (cc)) (λ o t f e. clash (cc)) (λ code e. clash (cc))
+      (λ i e. refl) (λ o e. clash (cc)) (λ o e. clash (cc)) (λ code e. clash (cc))
 
   -- AN IGNORED FRAME leaves the berth as it was, timers included, and stores nothing
   pub ignored-leaves : (s : Settings) (b : Berth) (d : List ℕ) → frameCame s b d .word ≡ Ignored why
@@ -126,6 +126,24 @@ module _ (why : ℕ) where
     where
       kept : (h : Heard) → (h .rx ≡ b .rx) × (h .last ≡ b .last) × (h .bytes ≡ []) → (heardBy b h .berth ≡ b) × (heardBy b h .bytes ≡ [])
       kept h k = ((λ i. record { rx = k .0 i; last = k .1 i; tx = b .tx }), k .2)
+
+-- ---- every branch of a consecutive frame at a receive side: ignored, the last, one of several, and a wrong SN
+
+pub consecutive-either : (P : Heard → Type 0) (s : Settings) (rx : Rx) (last : ℕ) (d : List ℕ)
+    → ((why : ℕ) → P (ignored why rx last))
+    → ((p : Taking) → P (completed p d))
+    → ((p : Taking) → P (took s p last d))
+    → P (wrongSn last)
+    → P (consecutiveCame s rx last d)
+unfolding awaitedCame
+consecutive-either P s Rx.Idle last d ignores completes takes misses = ignores 4
+consecutive-either P s (Rx.OwesOverflow t) last d ignores completes takes misses = ignores 4
+consecutive-either P s (Rx.OwesGo p t) last d ignores completes takes misses = ignores 4
+consecutive-either P s (Rx.Awaits p t) last d ignores completes takes misses =
+    pick-either P (consecutiveFits (missing p) d) _ _
+    (λ u. pick-either P (eqb (low d) (p .sn .0)) _ _
+    (λ v. pick-either P (leb (missing p) consecutiveMost) _ _ (λ w. completes p) (λ w. takes p)) (λ v. misses))
+    (λ u. ignores 3)
 
 -- ---- trusting the announced length
 

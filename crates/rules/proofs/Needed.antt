@@ -14,7 +14,7 @@ use Rattle.rules.specs.Arrivals.{Told, granted, byStatus, flowIgnored, f
 use Rattle.rules.specs.Ticks.{ran, txTicked, ticked}
 use Rattle.rules.specs.Turns.{flowDue, messageDue, flowFrame, toGo, messageFrame, messageCode, moved, afterConsecutive, afterMessage, HandedOver, handOver, beginsWith, sent, busy}
 use Rattle.rules.specs.Events.{Event, arrives, ticks, sends, turns}
-use Rattle.rules.specs.Alone.{Part, hands, stateAfter, partAfter, says, alone, saysAll}
+use Rattle.rules.specs.Alone.{Part, hands, stateAfter, partAfter, says, alone, saysAll, AtEach}
 use Rattle.rules.specs.Handing.{dataFrames, dataTotal, Carried, CarriedAll}
 use Rattle.rules.specs.declared.Settings.{Settings}
 use Rattle.rules.specs.declared.Sending.{Sending}
@@ -164,7 +164,7 @@ module _ (s : Settings) (sr : SettingsRange (s .area) (s .block) (s .stmin)) whe
 
   run-counts : (es : List Event) (p : Part) → BerthRange s (p .berth) → CarriedAll s p es
       → dataTotal (saysAll s p es) + framesLeft (alone s p es .berth .tx) ≡ framesLeft (p .berth .tx)
-  unfolding dataTotal saysAll alone CarriedAll
+  unfolding dataTotal saysAll alone AtEach
   run-counts [] p r f = zero-add _
   run-counts (e ∷ es) p r f =
       let one = step-counts p e r (f .0) in

@@ -329,6 +329,7 @@ module _ (s : Settings) (sr : SettingsRange (s .area) (s .block) (s .stmin)) whe
       pick-either (TxRange s) (leb (toGo o) consecutiveMost) _ _ (λ u. tt)
       (λ u. pick-either (TxRange s) (fillsBlock (o .block) (o .sent)) _ _
       (λ v. (moved-ok o 0 0 r (omega tests) (none-range (o .block)) (omega arith), refl, refl, omega arith))
+      -- that the whole gap is left is no matter of order: rules/proofs/Pace has it
       (λ v. (
         moved-ok o _ _ r (omega tests) (counted-range (o .block) (o .sent) (r .sent) (not-filled _ _ v)) (omega (arith, r .gap-most)),
         inr refl,

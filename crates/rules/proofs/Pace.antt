@@ -9,20 +9,19 @@ use lib.Dec.{T, eqb, ltb, leb}
 use mir.Facts.{eqb-yes, eqb-no}
 use Rattle.rules.specs.Numbers.{timeout, shortMost, consecutiveKind, flowKind, singleMost, consecutiveMost}
 use Rattle.rules.specs.Ranges.{BerthRange}
-use Rattle.rules.specs.Frames.{byteAt, kind, low, singleFits, announced, firstFits, consecutiveFits, fillsBlock, gapOf}
-use Rattle.rules.specs.Arrivals.{Heard, ignored, singleCame, aboveArea, turnedAway, begun, firstCame, missing, completed, took, wrongSn, awaitedCame, consecutiveCame, Told, granted, flowIgnored, Came, heardBy, toldBy, frameCame}
+use Rattle.rules.specs.Frames.{byteAt, kind, singleFits, announced, firstFits, fillsBlock, gapOf}
+use Rattle.rules.specs.Arrivals.{Heard, ignored, singleCame, aboveArea, turnedAway, begun, firstCame, completed, took, wrongSn, consecutiveCame, Told, granted, flowIgnored, Came, heardBy, toldBy, frameCame, isGoing}
 use Rattle.rules.specs.Ticks.{ran, txTicked}
 use Rattle.rules.specs.Turns.{flowDue, messageDue, due, toGo, moved, afterConsecutive, messageFrame, afterMessage, HandedOver, handOver, beginsWith}
-use Rattle.rules.specs.Handing.{isGoing}
 use Rattle.rules.specs.declared.Settings.{Settings}
 use Rattle.rules.specs.declared.Rx.{Rx}
 use Rattle.rules.specs.declared.Tx.{Tx}
 use Rattle.rules.specs.declared.Berth.{Berth}
 use Rattle.rules.proofs.Cases.{Tested, holds, fails, test-cases, pick-either}
-use Rattle.rules.proofs.Facts.{frame-either, told-either}
+use Rattle.rules.proofs.Facts.{frame-either, told-either, consecutive-either}
 use Rattle.rules.proofs.Handed.{dueKind, flow-kind, message-kind}
 
--- a side that hands over consecutive frames keeps the gap g, and what is left of it and n more are at least m
+-- a side that hands over consecutive frames keeps the gap g, and what is left of it, with n ticks that came, is at least the m wanted
 abbrev pub Paced : (g m n : ℕ) → Tx → Type 0
 Paced g m n Tx.Idle = Unit {0}
 Paced g m n (Tx.SingleDue l t) = Unit {0}
@@ -50,15 +49,8 @@ first-not s rx last d =
     (λ u. ignored-not 3 rx last)
 
 consecutive-not : (s : Settings) (rx : Rx) (last : ℕ) (d : List ℕ) → NotGoing (consecutiveCame s rx last d)
-unfolding awaitedCame completed took wrongSn
-consecutive-not s Rx.Idle last d = ignored-not 4 Rx.Idle last
-consecutive-not s (Rx.OwesOverflow t) last d = ignored-not 4 (Rx.OwesOverflow t) last
-consecutive-not s (Rx.OwesGo p t) last d = ignored-not 4 (Rx.OwesGo p t) last
-consecutive-not s (Rx.Awaits p t) last d =
-    pick-either NotGoing (consecutiveFits (missing p) d) _ _
-    (λ u. pick-either NotGoing (eqb (low d) (p .sn .0)) _ _
-    (λ v. pick-either NotGoing (leb (missing p) consecutiveMost) _ _ (λ w x. x) (λ w x. x)) (λ v x. x))
-    (λ u. ignored-not 3 (Rx.Awaits p t) last)
+unfolding completed took wrongSn
+consecutive-not s rx last d = consecutive-either NotGoing s rx last d (λ why. ignored-not why rx last) (λ p t. t) (λ p t. t) (λ t. t)
 
 -- ---- a frame
 
@@ -71,7 +63,7 @@ going-paced s b d =
     (λ why t. absurd (ignored-not why (b .rx) (b .last) t)) (λ t. absurd (single-not (b .rx) (b .last) d t))
     (λ t. absurd (first-not s (b .rx) (b .last) d t)) (λ t. absurd (consecutive-not s (b .rx) (b .last) d t))
     (told-either (λ (told : Told). T (isGoing (told .word)) → Paced (gapOf (byteAt d 2)) 0 0 (told .tx)) (b .tx) d
-    (λ why t. absurd t) (λ o t. (refl, omega arith)) (λ o u e t. absurd t) (λ code t. absurd t))
+    (λ why t. absurd t) (λ o t. (refl, omega arith)) (λ o t. absurd t) (λ code t. absurd t))
 
 module _ (g m n : ℕ) where
   -- any other frame leaves it
@@ -82,7 +74,7 @@ module _ (g m n : ℕ) where
       frame-either (λ (c : Came). T (not (isGoing (c .word))) → Paced g m n (b .tx) → Paced g m n (c .berth .tx)) s b d
       (λ why t p. p) (λ t p. p) (λ t p. p) (λ t p. p)
       (told-either (λ (told : Told). T (not (isGoing (told .word))) → Paced g m n (b .tx) → Paced g m n (told .tx)) (b .tx) d
-      (λ why t p. p) (λ o t p. absurd t) (λ o u e t p. tt) (λ code t p. tt))
+      (λ why t p. p) (λ o t p. absurd t) (λ o t p. tt) (λ code t p. tt))
 
   -- ---- a tick takes at most one off what is left
 

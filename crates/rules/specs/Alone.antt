@@ -78,3 +78,8 @@ alone s p (e ∷ es) = alone s (partAfter s p e) es
 unfoldable pub saysAll : Settings → Part → List Event → List Says
 saysAll s p [] = []
 saysAll s p (e ∷ es) = says s p e ∷ saysAll s (partAfter s p e) es
+
+-- what holds of the berth's part before each event of a run
+unfoldable pub AtEach : (Settings → Part → Event → Type 0) → Settings → Part → List Event → Type 0
+AtEach P s p [] = Unit {0}
+AtEach P s p (e ∷ es) = P s p e × AtEach P s (partAfter s p e) es

@@ -1,7 +1,7 @@
 -- Paper 01, "A frame arrives", at one berth. A rule says the berth's next state, the old code, the word, and which bytes are
 -- stored at which place of the berth's area; it does not carry the area.
 use Prim.Native.Nat.{ℕ, _+_, _-_}
-use mathlib.Core.Bool.{Bool}
+use mathlib.Core.Bool.{Bool, true, false}
 use mathlib.Core.List.{List, []}
 use lib.ListN.{length, take, drop}
 use lib.Dec.{ltb, leb, eqb}
@@ -142,6 +142,17 @@ byStatus o d =
     (pick (eqb (low d) waitStatus) (record { tx = Tx.AwaitsFlow o 0; word = Waiting })
     (pick (eqb (low d) overflowStatus) (record { tx = Tx.Idle; word = Failed N-BUFFER-OVFLW })
     (record { tx = Tx.Idle; word = Failed N-INVALID-FS })))
+
+-- the word is Going
+abbrev pub isGoing : Word → Bool
+isGoing (Delivered n) = false
+isGoing (Begun n) = false
+isGoing (Failed c) = false
+isGoing (Ignored why) = false
+isGoing TooLong = false
+isGoing Took = false
+isGoing Going = true
+isGoing Waiting = false
 
 unfoldable pub flowIgnored : ℕ → Tx → Told
 flowIgnored why tx = record { tx = tx; word = Ignored why }

@@ -1,5 +1,5 @@
--- Paper 01, "Frames, by first byte": how a frame is read, how the node's own are laid out, sequence numbers, gaps, and how a
--- message is cut.
+-- Paper 01, "Frames, by first byte": how a frame is read, how the node's own are laid out, sequence numbers, gaps (paper 02, W2), and
+-- how a message is cut.
 use Prim.Native.Nat.{ℕ, zero, suc, _+_, _-_, _*_, _/_, _%_, min}
 use mathlib.Core.Bool.{Bool, not, _&&_, _||_}
 use mathlib.Core.List.{List, [], _∷_, _++_}

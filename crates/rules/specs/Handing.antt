@@ -1,8 +1,7 @@
--- What is said of the frames that are handed over: how each looks, how many are a message's, and that a sending is carried on; and that a
--- frame lets a berth's frames go.
+-- What is said of the frames that are handed over: how each looks, how many are a message's, and that a sending is carried on.
 use mathlib.Core.Path.{_≡_}
 use Prim.Native.Nat.{ℕ, _+_}
-use mathlib.Core.Bool.{Bool, true, false, _||_}
+use mathlib.Core.Bool.{_||_}
 use mathlib.Core.List.{List, [], _∷_}
 use lib.ListN.{length}
 use lib.Dec.{T, eqb}
@@ -13,26 +12,13 @@ use Rattle.rules.specs.Arrivals.{frameCame}
 use Rattle.rules.specs.Ticks.{txTicked}
 use Rattle.rules.specs.Turns.{busy}
 use Rattle.rules.specs.Events.{Event, arrives, ticks, sends, turns}
-use Rattle.rules.specs.Alone.{Part, Says, hears, expires, accepts, hands, partAfter}
+use Rattle.rules.specs.Alone.{Part, Says, hears, expires, accepts, hands, AtEach}
 use Rattle.rules.specs.declared.Settings.{Settings}
-use Rattle.rules.specs.declared.Word.{Word}
-use Rattle.rules.specs.declared.Word.the-variants.{Delivered, Begun, Failed, Ignored, TooLong, Took, Going, Waiting}
 
 -- eight bytes, and the first is not 31
 pub record Fit (f : List ℕ) : Type 0 where
   pub eight : length f ≡ frameSize
   pub no-wait : byteAt f 0 ≡ 0x31 → ⊥
-
--- a frame is answered Going
-abbrev pub isGoing : Word → Bool
-isGoing (Delivered n) = false
-isGoing (Begun n) = false
-isGoing (Failed c) = false
-isGoing (Ignored why) = false
-isGoing TooLong = false
-isGoing Took = false
-isGoing Going = true
-isGoing Waiting = false
 
 -- the data frames that a berth hands over at an event: a frame that is no flow control. Where nothing is due no byte is handed over
 abbrev pub dataFrames : Says → ℕ
@@ -52,6 +38,5 @@ Carried s p ticks = T (busy (p .berth .tx)) → T (busy (txTicked (p .berth .tx)
 Carried s p (sends m) = ⊥
 Carried s p turns = Unit {0}
 
-unfoldable pub CarriedAll : Settings → Part → List Event → Type 0
-CarriedAll s p [] = Unit {0}
-CarriedAll s p (e ∷ es) = Carried s p e × CarriedAll s (partAfter s p e) es
+abbrev pub CarriedAll : Settings → Part → List Event → Type 0
+CarriedAll = AtEach Carried

@@ -17,7 +17,7 @@ largestArea = 4095
 abbrev pub largestBlock : ℕ
 largestBlock = 255
 
--- an STmin byte: milliseconds up to the first, fractions of one from the second to the third; any other value means as much as the first
+-- an STmin byte: milliseconds up to the first, fractions of one from the second to the third
 abbrev pub mostMillis : ℕ
 mostMillis = 0x7F
 

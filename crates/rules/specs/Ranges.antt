@@ -84,7 +84,7 @@ RxRange s last (Rx.Awaits p t) = (last ≡ 0) × TakingRange s p × (t < timeout
 -- ---- the send side
 
 -- length, position and the next SN are those of a message under way, the frames sent are a count in a block of the peer's size,
--- the peer's gap and the gap left are 0 to 128
+-- the peer's gap and the gap left are 0 to 128 (paper 02, W2)
 unfoldable pub sendingInRange : Settings → Sending → Bool
 sendingInRange s o =
     all

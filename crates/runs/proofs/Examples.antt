@@ -22,7 +22,8 @@ use Rattle.rules.specs.declared.Word.the-variants.{Delivered}
 use Rattle.rules.specs.declared.Settings.{Settings}
 use Rattle.rules.specs.declared.Tx.{Tx}
 use Rattle.laws.specs.Own.{ownDone, own, over, saysOf}
-use Rattle.laws.specs.Cards.{zeroCards, Moment, moments, historyOf, TalliesAt}
+use Rattle.laws.specs.Histories.{Moment, moments, historyOf}
+use Rattle.laws.specs.Cards.{zeroCards, TalliesAt}
 use Rattle.laws.specs.Gaps.{TwoFrames, Spaced}
 use Rattle.laws.specs.Rounds.{turnOf, StaysDue, Fair}
 use Rattle.laws.specs.Line.{blank}

@@ -20,7 +20,8 @@ use Rattle.rules.specs.declared.SetUpAnswer.{SetUpAnswer}
 use Rattle.node.specs.Promises.{left, SetUpPromise}
 use Rattle.node.proofs.Determined.{same}
 use Rattle.laws.specs.Own.{own, owns, saysOf, over, setUp, freshPart, Alone}
-use Rattle.laws.specs.Cards.{zeroCards, Moment, moments, historyOf, TalliesAt, UnbegunAt, frozenAt}
+use Rattle.laws.specs.Histories.{Moment, moments, historyOf}
+use Rattle.laws.specs.Cards.{zeroCards, TalliesAt, UnbegunAt, frozenAt}
 use Rattle.laws.specs.Gaps.{TwoFrames, Spaced}
 use Rattle.laws.specs.Sides.{sideOf, sideEvents, SideAlone}
 use Rattle.laws.specs.Rounds.{StaysDue, turnOf, Fair}

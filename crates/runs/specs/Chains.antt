@@ -20,7 +20,7 @@ use Rattle.rules.specs.declared.SendAnswer.{SendAnswer}
 use Rattle.rules.specs.declared.TurnAnswer.{TurnAnswer}
 use Rattle.node.specs.Promises.{left, SetUpPromise, FramePromise, TickPromise, SendPromise, TurnPromise, ShowPromise}
 use Rattle.laws.specs.Own.{own, saysOf, freshPart, Alone}
-use Rattle.laws.specs.Cards.{Moment, moments}
+use Rattle.laws.specs.Histories.{Moment, moments}
 use Rattle.laws.specs.Rounds.{DueAt}
 
 -- one call of the code: it was given h, and answered and left this, of which its promise alone is known. A store that it is not given, and
