@@ -1,7 +1,7 @@
 /*
  * frame.c - the call "a frame came in": refusals, ignored frames and the four kinds.
  *
- * Refusal 11 has no test here. In a node in order no byte can land outside
+ * What it stores needs no test. In a node in order no byte can land outside
  * its area: a single frame holds 7 bytes at most and A is at least 8, a first
  * frame stores 6 bytes of at least 8, and a consecutive frame stores no more
  * than are missing from a total that is at most A.
@@ -101,6 +101,8 @@ static struct frame_answer first_came(struct arrival *a)
     if (length == 0)
         return ignored(a, 3);
     uint32_t most = (uint32_t)a->node->area;
+    if (length > most && mistake(W11b3))
+        return (struct frame_answer){ .refusal = 11 };
     if (length > rule(most, 13b, most - 1))
         return too_long(a);
 
@@ -138,6 +140,11 @@ static struct frame_answer take(struct arrival *a, int missing)
 {
     struct receive_side *rx = a->rx;
     int count = missing < rule(SINGLE_MAX, 15c, 0) ? missing : SINGLE_MAX;
+    int room = a->node->area - rx->got;
+    if ((mistake(W11b1) && room < SINGLE_MAX) || (mistake(W11b2) && room == count))
+        return (struct frame_answer){ .refusal = 11 };
+    if (mistake(W11a1))
+        count = room < SINGLE_MAX ? room : SINGLE_MAX;
     for (int i = 0; i < count; i++)
         a->area[rx->got + i] = a->data[1 + i];
     bool full = fills_block(rx, a->node->block_size);
@@ -236,6 +243,13 @@ static bool cards_lent(struct cards cards, int identifier, int length)
         || (mistake(W1g8) && length > FRAME_BYTES) || (mistake(W1g14) && length == 0);
 }
 
+/* Whether what is missing at a berth would leave its area; no node in order is so. */
+static bool lands_outside(const struct node *node, int berth)
+{
+    const struct receive_side *rx = &node->rx[berth];
+    return rx->state == AWAITS && rx->total > node->area;
+}
+
 static int frame_refusal(const struct node *node, struct bytes incoming, struct cards cards,
                          int identifier, int length)
 {
@@ -243,13 +257,13 @@ static int frame_refusal(const struct node *node, struct bytes incoming, struct 
     if (mistake(W1g9) && !lent)
         return 12;
     if (!in_order(node) && !(mistake(02b) && !has_ten_areas(node, incoming)))
-        return 1;
+        return mistake(W11d1) && known(identifier) && lands_outside(node, identifier - FROM_BERTH_0) ? 11 : 1;
     if (mistake(W1g6) && !lent)
         return 12;
     if (!has_ten_areas(node, incoming))
         return 2;
     if (!lent)
-        return 12;
+        return rule(12, W11c1, 11);
     if (mistake(07c) && length > FRAME_BYTES)
         return 4;
     if (!known(identifier))

@@ -230,7 +230,13 @@
     X(W2g4, "a gap of 128 does not fit seven bits, and is 0")                         \
     X(W2g5, "after go the first frame waits the one tick more")                       \
     X(W2g6, "after go the first frame waits the whole gap")                           \
-    X(W2g7, "the one more is a tick of the timer, before the first frame too")
+    X(W2g7, "the one more is a tick of the timer, before the first frame too")        \
+    X(W11a1, "a last consecutive frame stores its padding up to the end of the area") \
+    X(W11b1, "11, where seven bytes would leave the area though fewer are missing")   \
+    X(W11b2, "11, where the last byte of a message is the last of its area")          \
+    X(W11b3, "a first frame of a message above A is refused with 11")                 \
+    X(W11c1, "a frame's list that is not ten long is refused with 11, as it is free") \
+    X(W11d1, "a node whose total is above A is refused with 11, not 1")
 
 #define AS_MUTANT(line, sentence) MISTAKE_##line,
 enum { NO_MUTANT, MUTANTS(AS_MUTANT) REQUEST_MUTANTS(AS_MUTANT) MUTANT_COUNT };

@@ -10,8 +10,6 @@
  * A count of a card has what an event that adds to it did to it:
  *   r raised, t raised to the top, which freezes the card, k kept, as the card was frozen
  * In a state that is not named the outcome is impossible by the paper.
- *
- * Refusal 11 has no row: it cannot be reached (see frame.c).
  */
 #ifndef OUTCOMES_H
 #define OUTCOMES_H

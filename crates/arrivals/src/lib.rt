@@ -1,5 +1,5 @@
 // Paper 01, "A frame arrives", at one berth. Nothing is stored here: an answer says which part of the frame goes to which place of
-// the area, so that refusal 11 can be tested before any byte is stored.
+// the area, as the rule does.
 pub mod areas;
 
 ghost use mathlib.Core.Path.{_≡_};

@@ -9,20 +9,19 @@ use lib.ListN.{length, getD}
 use lib.Dec.{T, ltb, leb, eqb, eqb→eq, leb→le}
 use mir.Facts.{leb-no}
 use Rattle.rules.specs.Numbers.{berthCount}
-use Rattle.rules.specs.Tests.{firstUnmet}
 use Rattle.rules.specs.Nodes.{fresh, berthAt}
 use Rattle.rules.specs.Ranges.{inOrder}
 use Rattle.rules.specs.Stores.{passedOver, reached}
 use Rattle.rules.specs.Answers.{frameSays, sendSays, turnSays}
-use Rattle.rules.specs.Events.{send, turn, senderOf}
-use Rattle.rules.specs.Refusals.{toHear, refusal}
+use Rattle.rules.specs.Events.{frame, send, turn, senderOf}
+use Rattle.rules.specs.Refusals.{refusal}
 use Rattle.rules.specs.declared.Node.{Node}
 use Rattle.rules.specs.declared.FrameAnswer.{FrameAnswer}
 use Rattle.rules.specs.declared.SendAnswer.{SendAnswer}
 use Rattle.rules.specs.declared.TurnAnswer.{TurnAnswer}
 use Rattle.rules.specs.declared.Card.{Card}
 use Rattle.rules.proofs.Cases.{is-true}
-use Rattle.rules.proofs.Answered.{may-hear, send-answered, turn-answered}
+use Rattle.rules.proofs.Answered.{frame-answered, send-answered, turn-answered}
 use Rattle.rules.proofs.Ranges.{in-order-range}
 use Rattle.rules.proofs.Round.{passed-ten}
 use Rattle.looks.specs.Probes.{probeAt}
@@ -50,23 +49,24 @@ module _ (h : Node) {order : ℕ} (eo : order ≡ orderOf h) where
 
   module _ {number : ℕ} (cards : List Card) (incoming : List ℕ) (id : ℕ) (d : List ℕ)
       (en : number ≡ frameRefusal (ltb order unordered) (h .settings .area) (length incoming) (length cards) id (length d)) where
-    frame-number : number ≡ firstUnmet (toHear h incoming cards id d)
-    frame-number =
-        en ∙ ap (λ (t : Bool). frameRefusal t (h .settings .area) (length incoming) (length cards) id (length d)) test ∙ frame-found h cards incoming d id
+    frame-number : (outgoing : List ℕ) → number ≡ refusal (lent h cards incoming outgoing) (frame id d)
+    frame-number outgoing =
+        en ∙ ap (λ (t : Bool). frameRefusal t (h .settings .area) (length incoming) (length cards) id (length d)) test
+        ∙ frame-found h cards incoming outgoing id d
 
     pub frame-refused : T (not (eqb number 0)) → FramePromise h cards incoming id d (FrameAnswer.Refused number) h cards incoming
     unfolding frameSays
     frame-refused found = refused-frame h number (some number found) cards incoming id d frame-number (FrameAnswer.Refused number) refl
 
     module _ (fine : T (not (not (eqb number 0)))) {j : ℕ} (ej : j ≡ placeOfSender id) where
-      may : firstUnmet (toHear h incoming cards id d) ≡ 0
-      may = sym frame-number ∙ none number fine
+      may-hear : (outgoing : List ℕ) → refusal (lent h cards incoming outgoing) (frame id d) ≡ 0
+      may-hear outgoing = sym (frame-number outgoing) ∙ none number fine
 
       is-sender : j ≡ senderOf id
-      is-sender = let m = may-hear h incoming cards id d [] may .0 in ej ∙ sender-is id (m .known) (m .mine)
+      is-sender = let m = frame-answered (lent h cards incoming []) id d (may-hear []) in ej ∙ sender-is id (m .known) (m .mine)
 
       pub arriving : Arriving h cards id j incoming d
-      arriving = record { may = may; place = is-sender }
+      arriving = record { may = may-hear; place = is-sender }
 
   -- ---- a send
 

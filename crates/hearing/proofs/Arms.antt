@@ -18,11 +18,11 @@ use Rattle.rules.specs.Cards.{cardAt, added, addedAt, isSingle, frameAdds}
 use Rattle.cards.specs.Counting.{answerAdds, answerAdded, delivers, counts, wordCounts, oldOf}
 use Rattle.cards.proofs.Counted.{when-delivered, undelivered-cards, uncounted-cards}
 use Rattle.rules.proofs.Cases.{is-true, is-false}
-use Rattle.rules.proofs.Answered.{may-hear}
+use Rattle.rules.proofs.Answered.{frame-answered}
 use Rattle.arrivals.specs.Reading.{isFlow, whyIgnored}
 use Rattle.arrivals.proofs.Touches.{no-data}
 use Rattle.looks.proofs.Bodies.{some, above-none}
-use Rattle.node.specs.Promises.{FramePromise}
+use Rattle.node.specs.Promises.{lent, FramePromise}
 use Rattle.sides.specs.Parts.{Arriving, Telling, Hearing}
 use Rattle.sides.proofs.Ignoring.{ignores}
 
@@ -46,10 +46,10 @@ ignored-uncounted (FrameAnswer.Heard k old w) e = ap saysCounts e
 
 module _ {h : Node} {cards : List Card} {id j : ℕ} {incoming d : List ℕ} (a : Arriving h cards id j incoming d) where
   pub arrived-within : j < berthCount
-  arrived-within = rw (a .place) (may-hear h incoming cards id d [] (a .may) .0 .mine)
+  arrived-within = rw (a .place) (frame-answered (lent h cards incoming []) id d (a .may []) .mine)
 
   pub card-within : j < length cards
-  card-within = subst (λ (m : ℕ). j < m) (sym (may-hear h incoming cards id d [] (a .may) .0 .ten)) arrived-within
+  card-within = subst (λ (m : ℕ). j < m) (sym (frame-answered (lent h cards incoming []) id d (a .may []) .ten)) arrived-within
 
   pub telling : isFlow d ≡ true → Telling h cards id j (getD (h .berths) j fresh .tx) incoming d
   unfolding berthAt

@@ -13,7 +13,7 @@ use rules::Card;
 use rules::FrameAnswer;
 use rules::Node;
 
-// Flow control for the berth at a place, that no refusal before 11 holds back: it touches the send side.
+// Flow control for the berth at a place: it touches the send side.
 fn tell(node: &mut Node, at: usize, payload: &[u8]) -> FrameAnswer
     requires { ⌜ (isFlow (now payload) ≡ true) × ((cards : List Card) × ((id : ℕ) × ((incoming : List ℕ) × Arriving (now node) cards id at incoming (now payload)))) ⌝ }
     ensures { λ r. ⌜ ((cards : List Card) (id : ℕ) (incoming : List ℕ) → Arriving (now (node .entry)) cards id at incoming (now (payload .entry)) → FramePromise (now (node .entry)) cards incoming id (now (payload .entry)) r (now (node .exit)) (answerAdded cards at (now (payload .entry)) r) incoming) ⌝ }

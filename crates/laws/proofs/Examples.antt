@@ -13,7 +13,7 @@ use Rattle.rules.specs.Frames.{kind, low, singleFits, shortLength, escapeLength
 use Rattle.rules.specs.Arrivals.{ignored, singleCame, begun, firstCame, piece, grown, completed, afterTook, took, wrongSn, awaitedCame, granted, byStatus, heardBy, toldBy, byKind, frameCame, turnedAway}
 use Rattle.rules.specs.Ticks.{ran, ticked, codesOf}
 use Rattle.rules.specs.Turns.{due, moved, afterConsecutive, handOver, beginsWith, sent as sentBerth}
-use Rattle.rules.specs.Stores.{rightStore, areaOf, stored, inside, tickedNode, servedNode, setUpNode, distance, leastDistance, passedOver, reached, cameAt, handedAt}
+use Rattle.rules.specs.Stores.{rightStore, areaOf, stored, tickedNode, servedNode, setUpNode, distance, leastDistance, passedOver, reached, cameAt, handedAt}
 use Rattle.rules.specs.Answers.{refused, heard, codes, sent, handed, shown, receive, reported, failedSide, wordReports, codesReports, reports}
 use Rattle.rules.specs.Cards.{rightCards, addedAt, tickedCards, zeroCard, cardAt, frozen, added, isSingle, frameAdds, tickAdds, turnAdds, adds}
 use Rattle.rules.specs.Events.{Call, frame, tick, send, turn, show, Event, arrives, ticks, sends, turns}
@@ -75,7 +75,7 @@ pub two-computed : (answers two twoRun
     ∷ codes (set (replicate 10 (pairOf 0 0)) 3 (pairOf 4 0)) ∷ shown (0xAA ∷ 0xBB ∷ []) ∷ [])
     × (owns 3 two twoRun ≡ arrives (0x70 ∷ []) ∷ ticks ∷ ticks ∷ [])
     × (owns 5 two twoRun ≡ sends (1 ∷ 2 ∷ 3 ∷ []) ∷ ticks ∷ turns ∷ arrives (0x02 ∷ 0xAA ∷ 0xBB ∷ []) ∷ ticks ∷ [])
-unfolding owns own ownDone answers final done reply written outcome refusedOutcome refusal needs firstUnmet rightStore rightCards addedAt tickedCards inside berthAt inOrder all each settingsAllowed berthInOrder takingInRange sendingInRange inBlock afterFrame afterTurn cameAt frameCame byKind kind low heardBy toldBy ignored singleCame singleFits withBerth stored tickedNode ticked ran codesOf sentBerth beginsWith passedOver leastDistance distance due reached servedNode handedAt handOver areaOf singleFrame padded showing showable shownLength
+unfolding owns own ownDone answers final done reply written outcome refusedOutcome refusal needs firstUnmet rightStore rightCards addedAt tickedCards berthAt inOrder all each settingsAllowed berthInOrder takingInRange sendingInRange inBlock afterFrame afterTurn cameAt frameCame byKind kind low heardBy toldBy ignored singleCame singleFits withBerth stored tickedNode ticked ran codesOf sentBerth beginsWith passedOver leastDistance distance due reached servedNode handedAt handOver areaOf singleFrame padded showing showable shownLength
 two-computed = (refl, refl, refl)
 
 -- so each is as it would be alone
@@ -92,7 +92,7 @@ pub afresh-computed : (setUpRefusal 8 2 0 ≡ 0)
     ≡ sent 5 ∷ heard 3 0 (Ignored 2) ∷ refused 9 ∷ codes (replicate 10 (pairOf 0 0))
     ∷ handed 0x665 (0x03 ∷ 1 ∷ 2 ∷ 3 ∷ 0xCC ∷ 0xCC ∷ 0xCC ∷ 0xCC ∷ []) 1 5 ∷ heard 5 0 (Delivered 2)
     ∷ codes (replicate 10 (pairOf 0 0)) ∷ shown (0xAA ∷ 0xBB ∷ []) ∷ [])
-unfolding setUpRefusal setUpOutcome setUpNode answers final done reply written outcome refusedOutcome refusal needs firstUnmet rightStore rightCards addedAt tickedCards inside berthAt inOrder all each settingsAllowed berthInOrder takingInRange sendingInRange inBlock afterFrame afterTurn cameAt frameCame byKind kind low heardBy toldBy ignored singleCame singleFits withBerth stored tickedNode ticked ran codesOf sentBerth beginsWith passedOver leastDistance distance due reached servedNode handedAt handOver areaOf singleFrame padded showing showable shownLength
+unfolding setUpRefusal setUpOutcome setUpNode answers final done reply written outcome refusedOutcome refusal needs firstUnmet rightStore rightCards addedAt tickedCards berthAt inOrder all each settingsAllowed berthInOrder takingInRange sendingInRange inBlock afterFrame afterTurn cameAt frameCame byKind kind low heardBy toldBy ignored singleCame singleFits withBerth stored tickedNode ticked ran codesOf sentBerth beginsWith passedOver leastDistance distance due reached servedNode handedAt handOver areaOf singleFrame padded showing showable shownLength
 afresh-computed = (refl, refl)
 
 -- so each is as it would be alone from fresh
@@ -120,7 +120,7 @@ crowdRun = replicate 10 (turn blank)
 pub crowd-computed : (over turnOf (answers crowd crowdRun)
     ≡ served 5 ∷ served 6 ∷ served 7 ∷ served 8 ∷ served 9 ∷ served 0 ∷ served 1 ∷ served 2 ∷ served 3 ∷ served 4 ∷ [])
     × StaysDue 4 crowd crowdRun
-unfolding StaysDue over turnOf answers final done reply written outcome refusedOutcome refusal needs firstUnmet rightStore rightCards addedAt tickedCards inside berthAt inOrder all each settingsAllowed berthInOrder takingInRange sendingInRange inBlock afterFrame afterTurn cameAt frameCame byKind kind low heardBy toldBy ignored singleCame singleFits withBerth stored tickedNode ticked ran codesOf sentBerth beginsWith passedOver leastDistance distance due reached servedNode handedAt handOver areaOf singleFrame padded showing showable shownLength
+unfolding StaysDue over turnOf answers final done reply written outcome refusedOutcome refusal needs firstUnmet rightStore rightCards addedAt tickedCards berthAt inOrder all each settingsAllowed berthInOrder takingInRange sendingInRange inBlock afterFrame afterTurn cameAt frameCame byKind kind low heardBy toldBy ignored singleCame singleFits withBerth stored tickedNode ticked ran codesOf sentBerth beginsWith passedOver leastDistance distance due reached servedNode handedAt handOver areaOf singleFrame padded showing showable shownLength
 crowd-computed = (refl, ((λ e. tt), ((λ e. tt), ((λ e. tt), ((λ e. tt), ((λ e. tt), ((λ e. tt), ((λ e. tt), ((λ e. tt), ((λ e. tt), ((λ e. tt), tt)))))))))))
 
 pub crowd-fair : Fair 4 (over turnOf (answers crowd crowdRun))
@@ -186,7 +186,7 @@ pub deeds-computed : AllApart 2 7 (begin 2 programme scheduler mast) deeds
     ∷ back (0x30 ∷ 2 ∷ 1 ∷ 0xCC ∷ 0xCC ∷ 0xCC ∷ 0xCC ∷ 0xCC ∷ [])
     ∷ there (0x25 ∷ 35 ∷ 36 ∷ 0xCC ∷ 0xCC ∷ 0xCC ∷ 0xCC ∷ 0xCC ∷ [])
     ∷ [])
-unfolding gapLeft AllApart spares frameSide living acts leftA leftB carriedA carriedB framesBy handedSide ofSide ofBerth only reports reported wordReports codesReports failedSide saysOf deliveredIn over answers final done reply written outcome refusedOutcome refusal needs firstUnmet rightStore rightCards addedAt tickedCards inside berthAt inOrder all each settingsAllowed berthInOrder takingInRange sendingInRange inBlock afterFrame afterTurn cameAt frameCame byKind kind low heardBy toldBy ignored singleCame singleFits withBerth stored tickedNode ticked ran codesOf sentBerth beginsWith passedOver leastDistance distance due reached servedNode handedAt handOver areaOf singleFrame padded showing showable shownLength setUpNode firstCame shortLength escapeLength announced firstFits begun awaitedCame consecutiveFits piece grown completed afterTook took wrongSn counted fillsBlock nextSn share flowFits byStatus granted ticksMeant gapOf goFrame firstFrame consecutiveFrame moved afterConsecutive setUpOutcome setUpRefusal
+unfolding gapLeft AllApart spares frameSide living acts leftA leftB carriedA carriedB framesBy handedSide ofSide ofBerth only reports reported wordReports codesReports failedSide saysOf deliveredIn over answers final done reply written outcome refusedOutcome refusal needs firstUnmet rightStore rightCards addedAt tickedCards berthAt inOrder all each settingsAllowed berthInOrder takingInRange sendingInRange inBlock afterFrame afterTurn cameAt frameCame byKind kind low heardBy toldBy ignored singleCame singleFits withBerth stored tickedNode ticked ran codesOf sentBerth beginsWith passedOver leastDistance distance due reached servedNode handedAt handOver areaOf singleFrame padded showing showable shownLength setUpNode firstCame shortLength escapeLength announced firstFits begun awaitedCame consecutiveFits piece grown completed afterTook took wrongSn counted fillsBlock nextSn share flowFits byStatus granted ticksMeant gapOf goFrame firstFrame consecutiveFrame moved afterConsecutive setUpOutcome setUpRefusal
 deeds-computed = (
   (lit< tt, ((λ e. tt), ((λ e. tt), (tt, ((λ e. tt), ((λ e. tt), ((λ e. tt), ((λ e. tt), (tt, ((λ e. tt), ((λ e. tt), (tt, ((λ e. tt), ((λ e. tt), ((λ e. tt), ((λ e. tt), ((λ e. tt), (tt, ((λ e. tt), (tt, ((λ e. tt), (tt, ((λ e. tt), ((λ e. tt), ((λ e. tt), ((λ e. tt), ((λ e. tt), (tt, ((λ e. tt), (tt, ((λ e. tt), (tt, tt)))))))))))))))))))))))))))))))),
   record { none-there = refl; none-back = refl; none-due = refl; no-gap = refl; no-flow = refl },
@@ -225,7 +225,7 @@ secondOfTwo = moment turns (hands (0x22 ∷ 14 ∷ 15 ∷ 16 ∷ 17 ∷ 18 ∷ 1
 pub to-six-computed : historyOf 6 scheduler toSix
     ≡ beforeGoing ++ (moment (arrives asksFive) (hears 0 Going) ∷ [] ++ (firstOfTwo ∷ replicate 6 quietTick ++ secondOfTwo ∷ []))
 unfolding
-    historyOf moments own ownDone saysOf outcome done reply refusal needs firstUnmet rightStore rightCards addedAt tickedCards inside
+    historyOf moments own ownDone saysOf outcome done reply refusal needs firstUnmet rightStore rightCards addedAt tickedCards
     berthAt inOrder all each settingsAllowed berthInOrder sendingInRange inBlock afterFrame afterTurn cameAt frameCame byKind kind low
     toldBy withBerth stored tickedNode ticked ran codesOf sentBerth beginsWith passedOver leastDistance distance due reached servedNode
     handedAt handOver areaOf padded setUpNode flowFits byStatus granted ticksMeant gapOf firstFrame consecutiveFrame counted fillsBlock
@@ -339,7 +339,7 @@ pub afresh-cards : (frozenAt 5 (final afresh twoRun) ≡ false)
     ≡ record { begun = 1; delivered = 1; failed2 = 0; failed4 = 0; failed5 = 0; failed7 = 0; toolong = 0; sent = 1; unsent = 0 })
 unfolding
     setUpRefusal setUpOutcome setUpNode final done outcome refusedOutcome refusal needs firstUnmet rightStore rightCards addedAt
-    tickedCards inside berthAt inOrder all each settingsAllowed berthInOrder takingInRange sendingInRange inBlock afterFrame
+    tickedCards berthAt inOrder all each settingsAllowed berthInOrder takingInRange sendingInRange inBlock afterFrame
     afterTurn cameAt frameCame byKind kind low heardBy toldBy ignored singleCame singleFits withBerth stored tickedNode ticked ran
     sentBerth beginsWith passedOver leastDistance distance due reached servedNode handedAt handOver areaOf singleFrame padded cardAt
     frozen added isSingle frameAdds tickAdds turnAdds

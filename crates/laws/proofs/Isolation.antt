@@ -33,6 +33,7 @@ use Rattle.rules.proofs.Cards.{added-nothing, card-same, card-other, card-ticke
 use Rattle.rules.proofs.Areas.{area-same, area-other}
 use Rattle.rules.proofs.Ranges.{in-order-range}
 use Rattle.rules.proofs.Order.{reached-small, berth-ticked}
+use Rattle.rules.proofs.Inside.{answered-inside}
 use Rattle.rules.proofs.Answered.{FrameAnswered, frame-answered, SendAnswered, send-answered, TurnAnswered, turn-answered, TickAnswered, tick-answered}
 use Rattle.laws.specs.Own.{over, ownDone, own, owns, noCodes, saysOf}
 
@@ -78,20 +79,26 @@ codes-fresh = refl
 -- ---- berth k's part after an answered call
 
 module _ (k : ℕ) where
-  part-frame : (h : Held) (id : ℕ) (d : List ℕ) → FrameAnswered h id d
+  part-frame : (h : Held) (id : ℕ) (d : List ℕ) → refusal h (frame id d) ≡ 0
       → partOf k (done h (frame id d)) ≡ alone (h .node .settings) (partOf k h) (ownDone k h (frame id d))
   unfolding partOf done afterFrame cameAt withBerth berthAt alone stateAfter partAfter adds ownDone
-  part-frame h id d ok = go (eqb-cases (senderOf id) k)
+  part-frame h id d answered = go (eqb-cases (senderOf id) k)
     where
+      ok : FrameAnswered h id d
+      ok = frame-answered h id d answered
+
+      fits : cameAt h (senderOf id) d .place + length (cameAt h (senderOf id) d .bytes) ≤ h .node .settings .area
+      fits = answered-inside h id d answered
+
       go : Tested (eqb (senderOf id) k) (senderOf id ≡ k) (senderOf id ≡ k → ⊥)
           → partOf k (done h (frame id d)) ≡ alone (h .node .settings) (partOf k h) (ownDone k h (frame id d))
       go (holds t e) =
-          rw t (part-path (berth-same k (h .node) (senderOf id) (cameAt h (senderOf id) d .berth) (ten (h .node) (ok .heard .order)) (ok .heard .mine) e ∙ rw e)
-          (rw e (area-same (h .node .settings .area) k _ _ (h .incoming) (rw e at (ok .fits)))) refl
-          (card-mine k (h .cards) (senderOf id) _ (ok .heard .ten) (ok .heard .mine) e ∙ rw e))
+          rw t (part-path (berth-same k (h .node) (senderOf id) (cameAt h (senderOf id) d .berth) (ten (h .node) (ok .order)) (ok .mine) e ∙ rw e)
+          (rw e (area-same (h .node .settings .area) k _ _ (h .incoming) (rw e at fits))) refl
+          (card-mine k (h .cards) (senderOf id) _ (ok .ten) (ok .mine) e ∙ rw e))
       go (fails t ne) =
           rw t (part-path (berth-other k (h .node) (senderOf id) (cameAt h (senderOf id) d .berth) ne)
-          (area-other (h .node .settings .area) k (senderOf id) _ _ (h .incoming) (λ e. ne (sym e)) (ok .fits)) refl
+          (area-other (h .node .settings .area) k (senderOf id) _ _ (h .incoming) (λ e. ne (sym e)) fits) refl
           (card-other (h .cards) (senderOf id) k _ ne))
 
   part-send : (h : Held) (j : ℕ) (m : List ℕ) → SendAnswered h j m
@@ -132,7 +139,7 @@ module _ (k : ℕ) where
           rw (u, t) (part-path (berth-other k (h .node) (reached (h .node)) (handedAt h (reached (h .node)) .berth) ne) refl refl (card-other (h .cards) (reached (h .node)) k _ ne))
 
   pub part-done : (h : Held) (c : Call) → refusal h c ≡ 0 → partOf k (done h c) ≡ alone (h .node .settings) (partOf k h) (ownDone k h c)
-  part-done h (frame id d) e = part-frame h id d (frame-answered h id d e)
+  part-done h (frame id d) e = part-frame h id d e
   part-done h tick e = part-tick h (tick-answered h e)
   part-done h (send j m) e = part-send h j m (send-answered h j m e)
   part-done h (turn buffer) e = part-turn h buffer (turn-answered h buffer e)

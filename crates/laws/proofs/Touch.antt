@@ -17,7 +17,7 @@ use Rattle.rules.specs.Ranges.{BerthRange}
 use Rattle.rules.specs.Frames.{kind, singleFits, announced, firstFits}
 use Rattle.rules.specs.Arrivals.{Heard, Told, Came, ignored, singleCame, firstCame, aboveArea, turnedAway, begun, completed, took, wrongSn, consecutiveCame, flowIgnored, flowCame, heardBy, toldBy, byKind, frameCame}
 use Rattle.rules.specs.Turns.{flowDue, due, handOver}
-use Rattle.rules.specs.Stores.{rightStore, inside, passedOver, reached, cameAt, handedAt}
+use Rattle.rules.specs.Stores.{rightStore, passedOver, reached, cameAt, handedAt}
 use Rattle.rules.specs.Answers.{Side, receive, send as sendSide, Report, reported, wordReports}
 use Rattle.rules.specs.Cards.{rightCards, zeroCard}
 use Rattle.rules.specs.Events.{Call, frame, tick, send, turn, show, senderOf, Event, arrives, ticks, sends, turns}
@@ -32,7 +32,6 @@ use Rattle.rules.specs.declared.Word.{Word}
 use Rattle.rules.specs.declared.Word.the-variants.{Delivered, Begun, Failed, Ignored, TooLong, Took, Going, Waiting}
 use Rattle.rules.proofs.Cases.{Tested, holds, fails, test-cases, eqb-cases, ltb-cases, eqb-is, eqb-not, ltb-is, is-true, is-false, or-cases, or-left, or-right, pick-either}
 use Rattle.rules.proofs.Ranges.{range-in-order}
-use Rattle.rules.proofs.Order.{frame-inside}
 use Rattle.rules.proofs.Round.{reached-due}
 use Rattle.rules.proofs.Facts.{frame-either, told-either, ignored-leaves, consecutive-either}
 use Rattle.rules.proofs.Handed.{dueKind, flow-kind, message-kind}
@@ -456,9 +455,8 @@ module _ (k : ℕ) (h : Held) where
     back-again = omega arith
 
     carried-met : (d : List ℕ) → length d ≤ mostData → refusal h (frame (fromBerth + k) d) ≡ 0
-    unfolding refusal needs rightStore rightCards inside
+    unfolding refusal needs rightStore rightCards
     carried-met d l =
-        let i : senderOf (fromBerth + k) < berthCount = omega arith in
         let known : T (leb fromBerth (fromBerth + k) && ltb (fromBerth + k) (fromBerth + berthCount)) =
         yes-and (leb fromBerth (fromBerth + k)) (ltb (fromBerth + k) (fromBerth + berthCount)) (le→leb fromBerth (fromBerth + k) (omega arith)) (lt→ltb (fromBerth + k) (fromBerth + berthCount) (omega arith)) in
         all-met (needs h (frame (fromBerth + k) d)) (
@@ -469,10 +467,7 @@ module _ (k : ℕ) (h : Held) where
               yes-eqb (sound .ten),
               (
                 known,
-                (
-                  yes-leb l,
-                  (yes-leb (frame-inside h (senderOf (fromBerth + k)) d i (sound .order)), tt),
-                ),
+                (yes-leb l, tt),
               ),
             ),
           ),

@@ -2,9 +2,12 @@
 use Prim.Native.Nat.{ℕ, zero, suc}
 use mathlib.Core.Path.{_≡_, refl, sym, ap, _∙_}
 use mathlib.Core.List.{List, []}
+use lib.ListN.{length}
 use Rattle.rules.specs.Tests.{unless}
+use Rattle.rules.specs.Frames.{byteAt}
+use Rattle.rules.specs.Stores.{Outside}
 use Rattle.rules.specs.Answers.{shown, setUpSays, frameSays, tickSays, sendSays, turnSays}
-use Rattle.rules.specs.Events.{frame, tick, send, turn, show}
+use Rattle.rules.specs.Events.{frame, tick, send, turn, show, senderOf}
 use Rattle.rules.specs.Calls.{Outcome, outcome, setUpOutcome}
 use Rattle.rules.specs.declared.Node.{Node}
 use Rattle.rules.specs.declared.Card.{Card}
@@ -16,6 +19,7 @@ use Rattle.rules.specs.declared.TickAnswer.{TickAnswer}
 use Rattle.rules.specs.declared.SendAnswer.{SendAnswer}
 use Rattle.rules.specs.declared.TurnAnswer.{TurnAnswer}
 use Rattle.node.specs.Promises.{lent, left, Agrees, tenZeros, SetUpPromise, FramePromise, TickPromise, SendPromise, TurnPromise, ShowPromise, NeededPromise}
+use Rattle.rules.proofs.Inside.{outside-stays}
 use Rattle.rules.proofs.Answers.{paper-one}
 
 -- outcomes that agree are equal
@@ -57,6 +61,18 @@ pub show-is : (n : Node) (incoming outgoing : List ℕ) (k : ℕ) (choice : Choi
     → (cards : List Card)
     → left (shown part) (lent n cards incoming outgoing) [] ≡ outcome (lent n cards incoming outgoing) (show k choice)
 show-is n incoming outgoing k choice part in-at out-at part-at p cards = same (p .agrees cards)
+
+-- ---- so of the code too (paper 02, W11)
+
+-- A FRAME CHANGES NO BYTE OUTSIDE ITS BERTH'S AREA, whatever arrives, and the store keeps its length
+pub frame-outside-stays : (n : Node) (cards : List Card) (incoming : List ℕ) (id : ℕ) (d : List ℕ)
+    (a : FrameAnswer) (n′ : Node) (cards′ : List Card) (incoming′ : List ℕ) → FramePromise n cards incoming id d a n′ cards′ incoming′
+    → ((i : ℕ) → Outside (n .settings .area) (senderOf id) i → byteAt incoming′ i ≡ byteAt incoming i) × (length incoming′ ≡ length incoming)
+frame-outside-stays n cards incoming id d a n′ cards′ incoming′ p =
+    let after : incoming′ ≡ outcome (lent n cards incoming []) (frame id d) .held .incoming =
+    ap (λ (o : Outcome). o .held .incoming) (frame-is n cards n′ cards′ incoming incoming′ id d a p []) in
+    let stays = outside-stays (lent n cards incoming []) id d in
+    rw after (stays .0, stays .1)
 
 -- ---- two answers of the code that say the same are the same
 

@@ -1,6 +1,6 @@
 -- What a call tests over its numbers is what the rules ask of the node that they are of: the needs are the same, one by one. So a
 -- number that was found is the call's refusal, and where a turn finds no berth due it leaves everything as it was.
-use Prim.Native.Nat.{ℕ, _+_, _-_, _≤_, _<_}
+use Prim.Native.Nat.{ℕ, _-_, _≤_, _<_}
 use native.Mathlib.Omega.{arith}
 use mathlib.Core.Path.{_≡_, refl, sym}
 use mathlib.Core.List.{List}
@@ -14,7 +14,7 @@ use Rattle.rules.specs.Stores.{rightStore, passedOver}
 use Rattle.rules.specs.Cards.{rightCards}
 use Rattle.rules.specs.Answers.{refused, none, frameSays, sendSays, turnSays}
 use Rattle.rules.specs.Events.{frame, tick, send, turn, senderOf}
-use Rattle.rules.specs.Refusals.{toHear, refusal, needs}
+use Rattle.rules.specs.Refusals.{refusal, needs}
 use Rattle.rules.specs.Calls.{showable, done, reply, written}
 use Rattle.rules.specs.declared.Node.{Node}
 use Rattle.rules.specs.declared.Card.{Card}
@@ -25,15 +25,16 @@ use Rattle.rules.specs.declared.TurnAnswer.{TurnAnswer}
 use Rattle.rules.proofs.Cases.{Tested, holds, fails, ltb-cases, ltb-is, ltb-not}
 use Rattle.node.specs.Promises.{lent, FramePromise, SendPromise, TurnPromise}
 use Rattle.node.specs.Numbered.{frameRefusal, tickRefusal, sendRefusal, turnRefusal, canShow, placeOf, placeOfSender}
-use Rattle.node.proofs.Outcomes.{stands, refuses, does}
+use Rattle.node.proofs.Outcomes.{refuses, does}
 
 -- ---- what a call finds is the refusal of the rules
 
 module _ (n : Node) where
-  pub frame-found : (cards : List Card) (incoming d : List ℕ) (id : ℕ)
-      → frameRefusal (inOrder n) (n .settings .area) (length incoming) (length cards) id (length d) ≡ firstUnmet (toHear n incoming cards id d)
-  unfolding frameRefusal rightStore rightCards
-  frame-found cards incoming d id = refl
+  pub frame-found : (cards : List Card) (incoming outgoing : List ℕ) (id : ℕ) (d : List ℕ)
+      → frameRefusal (inOrder n) (n .settings .area) (length incoming) (length cards) id (length d)
+      ≡ refusal (lent n cards incoming outgoing) (frame id d)
+  unfolding frameRefusal refusal needs rightStore rightCards
+  frame-found cards incoming outgoing id d = refl
 
   pub tick-found : (cards : List Card) (incoming outgoing : List ℕ)
       → tickRefusal (inOrder n) (length cards) ≡ refusal (lent n cards incoming outgoing) tick
@@ -91,11 +92,10 @@ sender-within id = go (ltb-cases id fromBerth)
 -- ---- a number that was found is answered, and all else stays
 
 module _ (n : Node) (number : ℕ) (some : number ≡ 0 → ⊥) where
-  pub refused-frame : (cards : List Card) (incoming : List ℕ) (id : ℕ) (d : List ℕ) → number ≡ firstUnmet (toHear n incoming cards id d)
+  pub refused-frame : (cards : List Card) (incoming : List ℕ) (id : ℕ) (d : List ℕ)
+      → ((outgoing : List ℕ) → number ≡ refusal (lent n cards incoming outgoing) (frame id d))
       → (a : FrameAnswer) → frameSays a ≡ refused number → FramePromise n cards incoming id d a n cards incoming
-  unfolding refusal needs
-  refused-frame cards incoming id d e a says =
-      λ outgoing. refuses (lent n cards incoming outgoing) (frame id d) number some says refl (stands (toHear n incoming cards id d) _ some e)
+  refused-frame cards incoming id d e a says = λ outgoing. refuses (lent n cards incoming outgoing) (frame id d) number some says refl (e outgoing)
 
   pub refused-send : (outgoing : List ℕ) (k : ℕ) (m : List ℕ)
       → ((cards : List Card) (incoming : List ℕ) → number ≡ refusal (lent n cards incoming outgoing) (send k m))

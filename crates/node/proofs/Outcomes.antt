@@ -28,10 +28,6 @@ pub all-met : 0 ≡ firstUnmet []
 unfolding firstUnmet
 all-met = refl
 
-pub last-one : {b x : Bool} (n : ℕ) → x ≡ b → pick b 0 n ≡ firstUnmet (need n x ∷ [])
-unfolding firstUnmet
-last-one n e = rw e
-
 -- ---- needs before others: the number of one that is not met stands; where all are met the others decide
 
 pub stands : (ns ms : List Need) {r : ℕ} → (r ≡ 0 → ⊥) → r ≡ firstUnmet ns → r ≡ firstUnmet (ns ++ ms)

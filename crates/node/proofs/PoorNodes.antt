@@ -14,12 +14,12 @@ use Rattle.rules.specs.Numbers.{berthCount, toBerth, timeout, consecutiveKind, 
 use Rattle.rules.specs.Nodes.{fresh, withRx, blankNode, berthAt, Held}
 use Rattle.rules.specs.Ranges.{settingsAllowed, inBlock, takingInRange, berthInOrder, inOrder}
 use Rattle.rules.specs.Frames.{kind, low, singleFits, shortLength, announced, firstFits, consecutiveFits, share}
-use Rattle.rules.specs.Arrivals.{singleCame, begun, firstCame, missing, piece, completed, awaitedCame, heardBy, byKind, frameCame}
+use Rattle.rules.specs.Arrivals.{singleCame, begun, firstCame, missing, piece, heardBy, byKind, frameCame}
 use Rattle.rules.specs.Ticks.{ran, closer, rxTicked, txTicked, ticked}
 use Rattle.rules.specs.Turns.{due}
 use Rattle.rules.specs.Cards.{zeroCard, rightCards, cardAt, frozen, added, addedAt, frameAdds}
 use Rattle.rules.specs.Events.{Call, frame, tick, send, turn, show, senderOf}
-use Rattle.rules.specs.Stores.{rightStore, areaOf, stored, inside, distance, leastDistance, passedOver, reached, cameAt, handedAt}
+use Rattle.rules.specs.Stores.{rightStore, areaOf, stored, distance, leastDistance, passedOver, reached, cameAt, handedAt}
 use Rattle.rules.specs.Answers.{Answer, refused, ready, heard, codes, sent, handed, none, shown, setUpSays, frameSays, tickSays, sendSays, turnSays, wordPaper}
 use Rattle.rules.specs.Refusals.{needs, refusal, setUpRefusal}
 use Rattle.rules.specs.Calls.{Outcome, showable, shownLength, showing, afterFrame, done, reply, written, refusedOutcome, outcome, setUpOutcome}
@@ -45,6 +45,7 @@ use Rattle.rules.proofs.Order.{berth-ticked}
 use Rattle.rules.proofs.Round.{passed-ten, reached-due}
 use Rattle.rules.proofs.Facts.{consecutive-came, frame-area}
 use Rattle.rules.proofs.Answered.{frame-answered, send-answered, turn-answered}
+use Rattle.rules.proofs.Inside.{answered-inside}
 use Rattle.node.specs.Promises.{lent, left, Agrees, SetUpPromise, FramePromise, TickPromise, SendPromise, TurnPromise, ShowPromise}
 use Rattle.node.proofs.Determined.{same}
 
@@ -143,9 +144,9 @@ first-byte : (h : Held) (id x : ℕ) (a : FrameAnswer) (n : Node) (cards : List 
 unfolding done afterFrame stored cameAt frameCame byKind kind low heardBy singleCame singleFits
 first-byte h id x a n cards incoming e p =
     let ok = frame-answered h id (0x01 ∷ x ∷ []) e in
-    let range = in-order-range (h .node) (ok .heard .order) .settings .area-least in
+    let range = in-order-range (h .node) (ok .order) .settings .area-least in
     ap (λ (o : Outcome). getD (o .held .incoming) (senderOf id * h .node .settings .area + 0) 0) (answered h (frame id (0x01 ∷ x ∷ [])) e (p (h .outgoing)))
-    ∙ getD-set-same (h .incoming) _ x 0 (in-store (h .node .settings .area) (senderOf id) _ (omega arith) (ok .heard .mine) (ok .heard .store))
+    ∙ getD-set-same (h .incoming) _ x 0 (in-store (h .node .settings .area) (senderOf id) _ (omega arith) (ok .mine) (ok .store))
 
 -- FIXED BYTES: at every node and store, of two single frames of one byte one shuts out every store
 pub not-fixed-bytes : (h : Held) (id x y : ℕ) → (x ≡ y → ⊥) → refusal h (frame id (0x01 ∷ x ∷ [])) ≡ 0 → refusal h (frame id (0x01 ∷ y ∷ [])) ≡ 0
@@ -287,8 +288,8 @@ module _ (h : Held) (id : ℕ) (d : List ℕ) (a : FrameAnswer) (n : Node) (card
       → FramePromise (h .node) (h .cards) (h .incoming) id d a n cards incoming → ⊥
   not-idle-bytes differ kept p =
       let ok = frame-answered h id d e in
-      let room = area-length (h .node .settings .area) (senderOf id) (h .incoming) (ok .heard .mine) (ok .heard .store) in
-      differ (stood-before (areaOf (h .node .settings .area) (senderOf id) (h .incoming)) _ _ (omega (arith, ok .fits)) (sym (area-after p) ∙ kept))
+      let room = area-length (h .node .settings .area) (senderOf id) (h .incoming) (ok .mine) (ok .store) in
+      differ (stood-before (areaOf (h .node .settings .area) (senderOf id) (h .incoming)) _ _ (omega (arith, answered-inside h id d e)) (sym (area-after p) ∙ kept))
 
 -- so is it at every send that the paper answers, whose message differs from the bytes at the front of the area
 pub not-idle-message : (h : Held) (k : ℕ) (m : List ℕ) (a : SendAnswer) (n : Node) (outgoing : List ℕ) → refusal h (send k m) ≡ 0
@@ -357,7 +358,7 @@ not-uncounted h id d l a n incoming e w thawed p =
     let ok = frame-answered h id d e in
     let z : getD (h .cards) k zeroCard .begun ≡ getD (h .cards) k zeroCard .begun + 1 =
     ap (λ (o : Outcome). getD (o .held .cards) k zeroCard .begun) (answered h (frame id d) e (p (h .outgoing)))
-    ∙ ap (λ (c : Card). c .begun) (getD-set-same (h .cards) k _ zeroCard (omega (arith, ok .heard .ten, ok .heard .mine)))
+    ∙ ap (λ (c : Card). c .begun) (getD-set-same (h .cards) k _ zeroCard (omega (arith, ok .ten, ok .mine)))
     ∙ simp (thawed, w) in
     absurd (omega arith)
 
@@ -397,8 +398,7 @@ pub answered-here : (refusal (hearing Rx.Idle 0) (frame 0x640 (0x01 ∷ 7 ∷ []
     × (refusal (hearing Rx.Idle 0) (frame 0x640 (0x01 ∷ 8 ∷ [])) ≡ 0)
     × (refusal (hearing Rx.Idle 0) (frame 0x640 eightBegun) ≡ 0)
 unfolding
-    all each firstUnmet kind low singleFits consecutiveFits share settingsAllowed inBlock takingInRange berthInOrder berthAt inOrder
-    singleCame shortLength announced firstFits begun firstCame piece completed awaitedCame heardBy byKind frameCame rightStore rightCards inside cameAt needs refusal setUpRefusal
+    all each firstUnmet settingsAllowed inBlock takingInRange berthInOrder berthAt inOrder rightStore rightCards needs refusal setUpRefusal
 answered-here = (refl, refl, refl, refl, refl, refl, refl, refl, refl, refl, refl, refl, refl)
 
 -- so for every fixed answer, and for every part, there is a call that shuts it out

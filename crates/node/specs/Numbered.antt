@@ -22,7 +22,6 @@ orderAndStoreNeeds ordered area store = need outOfOrder ordered ∷ need wrongSt
 abbrev pub areTen : ℕ → Bool
 areTen cards = eqb cards berthCount
 
--- the refusals of a frame but 11, which comes after them
 unfoldable pub frameRefusal : Bool → (area store cards id size : ℕ) → ℕ
 frameRefusal ordered area store cards id size =
     firstUnmet

@@ -12,12 +12,11 @@ use Rattle.rules.specs.Numbers.{berthCount, fromBerth, mostData, leastBu
 use Rattle.rules.specs.Nodes.{berthAt, Held}
 use Rattle.rules.specs.Ranges.{inOrder}
 use Rattle.rules.specs.Turns.{busy}
-use Rattle.rules.specs.Stores.{rightStore, inside, cameAt}
+use Rattle.rules.specs.Stores.{rightStore}
 use Rattle.rules.specs.Events.{Call, senderOf}
 use Rattle.rules.specs.Cards.{rightCards}
-use Rattle.rules.specs.Refusals.{orderAndStore, toHear, needs, refusal}
+use Rattle.rules.specs.Refusals.{orderAndStore, needs, refusal}
 use Rattle.rules.specs.declared.Node.{Node}
-use Rattle.rules.specs.declared.Card.{Card}
 use Rattle.rules.proofs.Cases.{met, and-left, and-right}
 
 -- the needs that frame, send and turn share; what is left is that no other is unmet
@@ -29,36 +28,23 @@ first-two n store ns e =
     let (r2, e2) = met _ _ _ e1 in
     (r1, eqb-yes r2, e2)
 
--- a frame that no refusal before 11 holds back
-pub record MayHear (n : Node) (incoming : List ℕ) (cards : List Card) (id : ℕ) (d : List ℕ) : Type 0 where
-  pub order : T (inOrder n)
-  pub store : length incoming ≡ berthCount * n .settings .area
-  pub ten : length cards ≡ berthCount
+pub record FrameAnswered (h : Held) (id : ℕ) (d : List ℕ) : Type 0 where
+  pub order : T (inOrder (h .node))
+  pub store : length (h .incoming) ≡ berthCount * h .node .settings .area
+  pub ten : length (h .cards) ≡ berthCount
   pub known : fromBerth ≤ id
   pub mine : senderOf id < berthCount
   pub short : length d ≤ mostData
 
-pub may-hear : (n : Node) (incoming : List ℕ) (cards : List Card) (id : ℕ) (d : List ℕ) (ns : List Need)
-    → firstUnmet (toHear n incoming cards id d ++ ns) ≡ 0 → MayHear n incoming cards id d × (firstUnmet ns ≡ 0)
-unfolding rightCards
-may-hear n incoming cards id d ns e =
-    let (r1, r2, e2) = first-two n incoming _ e in
+pub frame-answered : (h : Held) (id : ℕ) (d : List ℕ) → refusal h (Call.frame id d) ≡ 0 → FrameAnswered h id d
+unfolding refusal needs rightCards
+frame-answered h id d e =
+    let (r1, r2, e2) = first-two (h .node) (h .incoming) _ e in
     let (r12, e12) = met _ _ _ e2 in
     let (r3, e3) = met _ _ _ e12 in
-    let (r4, e4) = met _ _ _ e3 in
     let from : fromBerth ≤ id = leb-yes (and-left (leb fromBerth id) (ltb id (fromBerth + berthCount)) r3) in
     let below : id < fromBerth + berthCount = ltb-yes (and-right (leb fromBerth id) (ltb id (fromBerth + berthCount)) r3) in
-    (record { order = r1; store = r2; ten = eqb-yes r12; known = from; mine = omega arith; short = leb-yes r4 }, e4)
-
-pub record FrameAnswered (h : Held) (id : ℕ) (d : List ℕ) : Type 0 where
-  pub heard : MayHear (h .node) (h .incoming) (h .cards) id d
-  pub fits : cameAt h (senderOf id) d .place + length (cameAt h (senderOf id) d .bytes) ≤ h .node .settings .area
-
-pub frame-answered : (h : Held) (id : ℕ) (d : List ℕ) → refusal h (Call.frame id d) ≡ 0 → FrameAnswered h id d
-unfolding refusal needs inside
-frame-answered h id d e =
-    let (may, e4) = may-hear (h .node) (h .incoming) (h .cards) id d _ e in
-    record { heard = may; fits = leb-yes (met _ _ _ e4 .0) }
+    record { order = r1; store = r2; ten = eqb-yes r12; known = from; mine = omega arith; short = leb-yes (met _ _ _ e3 .0) }
 
 pub record SendAnswered (h : Held) (k : ℕ) (m : List ℕ) : Type 0 where
   pub order : T (inOrder (h .node))

@@ -6,7 +6,7 @@ use native.Mathlib.Omega.{arith}
 use native.Mathlib.Decide.{decLe}
 use native.Mathlib.Nat.{lt-of-not-le}
 use mathlib.Core.Bool.{Bool, true, false, not, _&&_, _||_}
-use mathlib.Core.List.{List, [], _∷_}
+use mathlib.Core.List.{List, [], _∷_, _++_}
 use lib.ListN.{length, getD}
 use lib.Dec.{T, eqb, ltb, leb, leb→le, ltb→lt, eqb→eq, le→leb, lt→ltb, nleb→lt, nltb→le}
 use mir.Facts.{eqb-yes, eqb-no, ltb-yes, ltb-no, leb-yes, leb-no, yes-eqb, no-eqb, yes-leb, no-leb, yes-ltb, no-ltb, yes-and}
@@ -154,3 +154,15 @@ pub met : (n : ℕ) (b : Bool) (ns : List Need) → firstUnmet (need (suc n) b �
 unfolding firstUnmet
 met n true ns e = (tt, e)
 met n false ns e = absurd (omega arith)
+
+-- a last need that is met wherever all before it are changes no answer
+pub never-first : (ns : List Need) (n : ℕ) (b : Bool) → (firstUnmet ns ≡ 0 → T b) → firstUnmet (ns ++ (need n b ∷ [])) ≡ firstUnmet ns
+unfolding firstUnmet
+never-first [] n b h = rw (is-true b (h refl))
+never-first (m ∷ ns) n b h = go (test-cases (m .met)) (never-first ns n b)
+  where
+    go : Tested (m .met) (T (m .met)) (T (not (m .met)))
+        → ((firstUnmet ns ≡ 0 → T b) → firstUnmet (ns ++ (need n b ∷ [])) ≡ firstUnmet ns)
+        → pick (m .met) (firstUnmet (ns ++ (need n b ∷ []))) (m .number) ≡ pick (m .met) (firstUnmet ns) (m .number)
+    go (holds t u) ih = rw t (ih (rw t at h))
+    go (fails t u) ih = rw t

@@ -7,21 +7,21 @@ use native.Mathlib.Omega.{arith}
 use mathlib.Core.Bool.{Bool, true, false, not, _&&_}
 use mathlib.Core.List.{List, [], _∷_}
 use lib.ListN.{length}
-use lib.Dec.{T, ltb, leb, eqb}
+use lib.Dec.{T, ltb, leb}
 use mir.Facts.{leb-yes, leb-no, ltb-yes, ltb-no, eqb-yes, eqb-no, yes-leb, yes-ltb, yes-and}
 use Rattle.rules.specs.Tests.{Need, need, firstUnmet}
-use Rattle.rules.specs.Numbers.{berthCount, fromBerth, outOfOrder, badSetting, outsideArea}
+use Rattle.rules.specs.Numbers.{berthCount, fromBerth, outOfOrder, badSetting, unused}
 use Rattle.rules.specs.Nodes.{berthAt, Held}
 use Rattle.rules.specs.Ranges.{settingsAllowed, inOrder, InOrder}
 use Rattle.rules.specs.Turns.{busy}
-use Rattle.rules.specs.Stores.{rightStore, inside, cameAt}
+use Rattle.rules.specs.Stores.{rightStore}
 use Rattle.rules.specs.Cards.{rightCards}
-use Rattle.rules.specs.Events.{Call, senderOf}
+use Rattle.rules.specs.Events.{Call}
 use Rattle.rules.specs.Refusals.{needs, refusal, setUpRefusal, Condition, conditions, setUpConditions, Holds, Refuses}
 use Rattle.rules.specs.Calls.{setUpOutcome, final}
-use Rattle.rules.proofs.Cases.{Tested, holds, fails, test-cases, leb-cases, and-left, and-right, tests}
+use Rattle.rules.proofs.Cases.{Tested, holds, fails, test-cases, and-left, and-right, tests}
 use Rattle.rules.proofs.Ranges.{settings-range, settings-allowed, in-order-range, range-in-order}
-use Rattle.rules.proofs.Order.{frame-inside, run-in-order, set-up-in-order}
+use Rattle.rules.proofs.Order.{run-in-order, set-up-in-order}
 
 -- row by row: the same number, above 0; the test decides the condition
 abbrev Decides : List Need → List Condition → Type 0
@@ -131,7 +131,7 @@ module _ (h : Held) where
   ten-cards = ((λ t f. f (eqb-yes t)), (λ t e. eqb-no t e))
 
   decides : (c : Call) → Decides (needs h c) (conditions h c)
-  unfolding needs rightStore inside
+  unfolding needs rightStore
   decides (Call.frame id d) = (
     (refl, omega arith),
     in-order-decided .0,
@@ -148,7 +148,7 @@ module _ (h : Held) where
           (refl, omega arith),
           known id .0,
           known id .1,
-          ((refl, omega arith), (λ t f. omega tests), (λ t. leb-no t), ((refl, omega arith), (λ t f. omega tests), (λ t. leb-no t), tt)),
+          ((refl, omega arith), (λ t f. omega tests), (λ t. leb-no t), tt),
         ),
       ),
     ),
@@ -219,13 +219,13 @@ pub set-up-answered-exactly : (a bs stmin : ℕ) → (setUpRefusal a bs stmin �
 unfolding setUpRefusal
 set-up-answered-exactly a bs stmin = (none-holds _ (setUpConditions a bs stmin) (set-up-decides a bs stmin), all-met _ (setUpConditions a bs stmin) (set-up-decides a bs stmin))
 
--- ---- refusals 1 and 11 never come where the node is in order
+-- ---- refusal 1 never comes where the node is in order, and 11 nowhere
 
 -- condition 1 says that the node is out of order, whatever the call
 first-condition : (h : Held) (c : Call) → Holds (conditions h c) outOfOrder → InOrder (h .node) → ⊥
 first-condition h (Call.frame id d) x o =
     ⊎-elim (λ q. q .1 o)
-    (⊎-elim (λ q. omega arith) (⊎-elim (λ q. omega arith) (⊎-elim (λ q. omega arith) (⊎-elim (λ q. omega arith) (⊎-elim (λ q. omega arith) (λ q. q)))))) x
+    (⊎-elim (λ q. omega arith) (⊎-elim (λ q. omega arith) (⊎-elim (λ q. omega arith) (⊎-elim (λ q. omega arith) (λ q. q))))) x
 first-condition h Call.tick x o = ⊎-elim (λ q. q .1 o) (⊎-elim (λ q. omega arith) (λ q. q)) x
 first-condition h (Call.send k m) x o =
     ⊎-elim (λ q. q .1 o)
@@ -242,31 +242,17 @@ pub never-after-set-up : (h : Held) (a bs stmin : ℕ) → setUpRefusal a bs stm
     → refusal (final (setUpOutcome h a bs stmin .held) cs) c ≡ outOfOrder → ⊥
 never-after-set-up h a bs stmin e cs c = never-out-of-order _ c (run-in-order _ cs (set-up-in-order h a bs stmin e))
 
--- REFUSAL 11 NEVER COMES: where conditions 1 and 3 do not hold the node is in order and the berth is one of the ten, and then every
--- byte lands inside
-frame-never-outside : (h : Held) (id : ℕ) (d : List ℕ) → Refuses (conditions h (Call.frame id d)) outsideArea → ⊥
-frame-never-outside h id d r =
-    later tt (λ r1. later tt (λ r2. later tt (λ r12. later tt (λ r3. later tt (λ r4. ⊎-elim (λ q. r1 .0 (λ o. r3 .0 (λ k. lands o k (q .1)))) (λ r11. r11 .1) (r4 .1)) (r3 .1)) (r12 .1)) (r2 .1)) (r1 .1)) r
+-- NO CALL IS REFUSED WITH 11: no list has it
+pub never-unused : (h : Held) (c : Call) → refusal h c ≡ unused → ⊥
+never-unused h c e = go c (refuses-holds (conditions h c) unused (refused-exactly h c unused (omega arith) .0 e))
   where
-    -- a condition with another number is not the one
-    later : {n : ℕ} {P Q : Type 0} → T (not (eqb outsideArea n)) → (Q → ⊥) → ((outsideArea ≡ n) × P) ⊎ Q → ⊥
-    later t f x = ⊎-elim (λ q. eqb-no t (q .0)) f x
-
-    lands : InOrder (h .node) → Known id
-        → h .node .settings .area < cameAt h (senderOf id) d .place + length (cameAt h (senderOf id) d .bytes) → ⊥
-    lands o k w = let i = frame-inside h (senderOf id) d (omega (arith, k .0, k .1)) o in omega arith
-
-pub never-outside : (h : Held) (c : Call) → refusal h c ≡ outsideArea → ⊥
-never-outside h c e = go c (refused-exactly h c outsideArea (omega arith) .0 e)
-  where
-    go : (c : Call) → Refuses (conditions h c) outsideArea → ⊥
-    go (Call.frame id d) r = frame-never-outside h id d r
-    go Call.tick r = ⊎-elim (λ q. omega arith) (⊎-elim (λ q. omega arith) (λ q. q)) (refuses-holds (conditions h Call.tick) outsideArea r)
-    go (Call.send k m) r =
+    go : (c : Call) → Holds (conditions h c) unused → ⊥
+    go (Call.frame id d) x =
+        ⊎-elim (λ q. omega arith) (⊎-elim (λ q. omega arith) (⊎-elim (λ q. omega arith) (⊎-elim (λ q. omega arith) (⊎-elim (λ q. omega arith) (λ q. q))))) x
+    go Call.tick x = ⊎-elim (λ q. omega arith) (⊎-elim (λ q. omega arith) (λ q. q)) x
+    go (Call.send k m) x =
         ⊎-elim (λ q. omega arith)
-        (⊎-elim (λ q. omega arith) (⊎-elim (λ q. omega arith) (⊎-elim (λ q. omega arith) (⊎-elim (λ q. omega arith) (⊎-elim (λ q. omega arith) (λ q. q))))))
-        (refuses-holds (conditions h (Call.send k m)) outsideArea r)
-    go (Call.turn buffer) r =
-        ⊎-elim (λ q. omega arith) (⊎-elim (λ q. omega arith) (⊎-elim (λ q. omega arith) (⊎-elim (λ q. omega arith) (λ q. q))))
-        (refuses-holds (conditions h (Call.turn buffer)) outsideArea r)
-    go (Call.show k choice) r = r
+        (⊎-elim (λ q. omega arith) (⊎-elim (λ q. omega arith) (⊎-elim (λ q. omega arith) (⊎-elim (λ q. omega arith) (⊎-elim (λ q. omega arith) (λ q. q)))))) x
+    go (Call.turn buffer) x =
+        ⊎-elim (λ q. omega arith) (⊎-elim (λ q. omega arith) (⊎-elim (λ q. omega arith) (⊎-elim (λ q. omega arith) (λ q. q)))) x
+    go (Call.show k choice) x = x

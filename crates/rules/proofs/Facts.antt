@@ -26,7 +26,7 @@ use Rattle.rules.specs.declared.Tx.{Tx}
 use Rattle.rules.specs.declared.Berth.{Berth}
 use Rattle.rules.specs.declared.Word.the-variants.{Begun, Failed, Going, Ignored, Waiting}
 use Rattle.rules.proofs.Areas.{area-same}
-use Rattle.rules.proofs.Answered.{frame-answered}
+use Rattle.rules.proofs.Inside.{answered-inside}
 use Rattle.rules.proofs.Cases.{is-true, eqb-is, eqb-not, ltb-is, or-cases, and-left, and-right, tests, pick-either}
 
 -- ---- every branch of a frame at a berth: what holds of each kind's rule holds of the frame
@@ -173,7 +173,7 @@ pub frame-area : (h : Held) (id : ℕ) (d : List ℕ) → refusal h (frame id d)
     → areaOf (h .node .settings .area) (senderOf id) (done h (frame id d) .incoming)
     ≡ sets (areaOf (h .node .settings .area) (senderOf id) (h .incoming)) (cameAt h (senderOf id) d .place) (cameAt h (senderOf id) d .bytes)
 unfolding done afterFrame
-frame-area h id d e = area-same (h .node .settings .area) (senderOf id) _ _ (h .incoming) (frame-answered h id d e .fits)
+frame-area h id d e = area-same (h .node .settings .area) (senderOf id) _ _ (h .incoming) (answered-inside h id d e)
 
 -- THE AREA AFTER A RIGHT AWAITED CONSECUTIVE FRAME: the next min(7, r) bytes stand at got, and every other byte is as it was
 pub consecutive-stores : (h : Held) (id : ℕ) (d : List ℕ) (p : Taking) (t : ℕ) → refusal h (frame id d) ≡ 0

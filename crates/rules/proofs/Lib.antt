@@ -5,6 +5,7 @@ pub mod Ranges
 pub mod Answered
 pub mod Gaps
 pub mod Order
+pub mod Inside
 pub mod Exact
 pub mod Facts
 pub mod Round

@@ -2,7 +2,7 @@
 -- order, and a set-up that is answered is in order. On the way: from the ranges alone no stored byte lands outside the berth's area.
 use mathlib.Core.Path.{_≡_, refl, sym, ap, _∙_}
 use mathlib.Core.Logic.{inl, inr, ⊎-elim}
-use Prim.Native.Nat.{ℕ, zero, suc, _+_, _-_, _≤_, _<_, min, max}
+use Prim.Native.Nat.{ℕ, zero, suc, _+_, _-_, _≤_, _<_, max}
 use native.Mathlib.Omega.{arith}
 use native.Mathlib.Nat.{mod-lt}
 use mathlib.Core.Bool.{not}
@@ -152,8 +152,7 @@ module _ (s : Settings) (sr : SettingsRange (s .area) (s .block) (s .stmin)) whe
   -- the bytes of a consecutive frame end inside the message, and so inside the area
   piece-inside : (p : Taking) (d : List ℕ) → TakingRange s p → p .got + length (piece p d) ≤ s .area
   unfolding piece share
-  piece-inside p d r =
-      omega (arith, r .total-most, r .got-most, length-take (min consecutiveMost (p .total - p .got)) (drop 1 d))
+  piece-inside p d r = simp (length-take) (omega (arith, r .total-most, r .got-most))
 
   awaited-ok : (p : Taking) (t last : ℕ) (d : List ℕ) → RxRange s last (Rx.Awaits p t) → HeardOk (awaitedCame s p t last d)
   unfolding awaitedCame completed took wrongSn afterTook
@@ -363,12 +362,6 @@ module _ (s : Settings) (sr : SettingsRange (s .area) (s .block) (s .stmin)) whe
 
 -- ---- the node
 
--- FROM THE RANGES ALONE: no stored byte lands outside the berth's area
-pub frame-inside : (h : Held) (k : ℕ) (d : List ℕ) → k < berthCount → InOrder (h .node)
-    → cameAt h k d .place + length (cameAt h k d .bytes) ≤ h .node .settings .area
-unfolding cameAt
-frame-inside h k d l o = came-ok (h .node .settings) (o .settings) (berthAt (h .node) k) d (o .berth k l) .inside
-
 pub reached-small : (n : Node) → reached n < berthCount
 unfolding reached
 reached-small n = mod-lt (n .served + 1 + passedOver n) (lit< tt)
@@ -407,7 +400,7 @@ unfolding done afterFrame afterTurn withBerth servedNode cameAt handedAt
 done-ok h (Call.frame id d) e o =
     let a = frame-answered h id d e in
     with-ok (h .node) (senderOf id) (h .node .served) _ (o .served)
-    (came-ok (h .node .settings) (o .settings) _ d (o .berth (senderOf id) (a .heard .mine)) .berth) o
+    (came-ok (h .node .settings) (o .settings) _ d (o .berth (senderOf id) (a .mine)) .berth) o
 done-ok h Call.tick e o = tick-ok (h .node) o
 done-ok h (Call.send k m) e o =
     let a = send-answered h k m e in

@@ -1,5 +1,5 @@
 -- The edges of the refusals as rows: one on either side of each, each range of a node in order on either side, and one for each pair of
--- neighbouring refusals that both hold. Refusal 11 has no row: it never comes (proofs/Exact, `never-outside`).
+-- neighbouring refusals that both hold.
 use Prim.Native.Nat.{ℕ, _+_}
 use mathlib.Core.List.{List, [], _∷_, _++_}
 use lib.ListN.{length, replicate}

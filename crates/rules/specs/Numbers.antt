@@ -141,7 +141,7 @@ N-UNEXP-PDU = 7
 abbrev pub N-BUFFER-OVFLW : ℕ
 N-BUFFER-OVFLW = 9
 
--- ---- refusals 1 to 12: the most data bytes of a frame that comes in, the fewest bytes of a turn's buffer, and the numbers
+-- ---- refusals 1 to 12 without 11: the most data bytes of a frame that comes in, the fewest bytes of a turn's buffer, and the numbers
 
 abbrev pub mostData : ℕ
 mostData = 8
@@ -179,8 +179,9 @@ shortBuffer = 9
 abbrev pub badSetting : ℕ
 badSetting = 10
 
-abbrev pub outsideArea : ℕ
-outsideArea = 11
+-- paper 02, W11: no refusal has this number; in paper 01 it was that a byte would land outside the berth's area
+abbrev pub unused : ℕ
+unused = 11
 
 abbrev pub wrongCards : ℕ
 wrongCards = 12

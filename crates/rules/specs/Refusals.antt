@@ -1,41 +1,35 @@
--- Paper 01, "Refusal numbers", and 12 of paper 02: for each call its needs in the order in which they are tested, as tests and as
--- plain conditions. That a refusal is n if and only if condition n is the first of the call's list that holds is proved (proofs/Exact).
+-- Paper 01, "Refusal numbers", as paper 02 changes it (12 is new, 11 is struck): for each call its needs in the order in which they are
+-- tested, as tests and as plain conditions. That a refusal is n if and only if condition n is the first of the call's list that holds is
+-- proved (proofs/Exact).
 use Prim.Native.Nat.{ℕ, _+_, _-_, _*_, _≤_, _<_}
 use mathlib.Core.Path.{_≡_}
 use mathlib.Core.Logic.{_⊎_}
-use mathlib.Core.Bool.{Bool, true, not, _&&_}
+use mathlib.Core.Bool.{true, not, _&&_}
 use mathlib.Core.List.{List, [], _∷_, _++_}
 use lib.ListN.{length}
 use lib.Dec.{ltb, leb}
 use Rattle.rules.specs.Tests.{Need, need, firstUnmet}
-use Rattle.rules.specs.Numbers.{berthCount, fromBerth, mostData, leastBuffer, outOfOrder, wrongStore, wrongIdentifier, tooManyBytes, noSuchBerth, emptyMessage, messageTooLong, alreadySending, shortBuffer, badSetting, outsideArea, wrongCards}
+use Rattle.rules.specs.Numbers.{berthCount, fromBerth, mostData, leastBuffer, outOfOrder, wrongStore, wrongIdentifier, tooManyBytes, noSuchBerth, emptyMessage, messageTooLong, alreadySending, shortBuffer, badSetting, wrongCards}
 use Rattle.rules.specs.Nodes.{berthAt, Held}
 use Rattle.rules.specs.Ranges.{settingsAllowed, SettingsRange, inOrder, InOrder}
 use Rattle.rules.specs.Turns.{busy}
-use Rattle.rules.specs.Events.{Call, frame, tick, send, turn, show, senderOf}
-use Rattle.rules.specs.Stores.{rightStore, inside, cameAt}
+use Rattle.rules.specs.Events.{Call, frame, tick, send, turn, show}
+use Rattle.rules.specs.Stores.{rightStore}
 use Rattle.rules.specs.Cards.{rightCards}
 use Rattle.rules.specs.declared.Node.{Node}
-use Rattle.rules.specs.declared.Card.{Card}
 
 -- what frame, send and turn need first: the node is in order, and the store has ten areas
 abbrev pub orderAndStore : Node → List ℕ → List Need
 orderAndStore n store = need outOfOrder (inOrder n) ∷ need wrongStore (rightStore n store) ∷ []
 
--- what a frame needs before it is looked into: besides, ten cards, an identifier of the ten, and at most eight bytes
-abbrev pub toHear : Node → List ℕ → List Card → ℕ → List ℕ → List Need
-toHear n incoming cards id d =
-    orderAndStore n incoming
-    ++ (need wrongCards (rightCards cards)
-    ∷ need wrongIdentifier (leb fromBerth id && ltb id (fromBerth + berthCount))
-    ∷ need tooManyBytes (leb (length d) mostData)
-    ∷ [])
-
 -- the needs of each call; show has none, it answers with an empty part
 unfoldable pub needs : Held → Call → List Need
 needs h (frame id d) =
-    toHear (h .node) (h .incoming) (h .cards) id d
-    ++ (need outsideArea (inside (h .node .settings .area) (cameAt h (senderOf id) d .place) (length (cameAt h (senderOf id) d .bytes))) ∷ [])
+    orderAndStore (h .node) (h .incoming)
+    ++ (need wrongCards (rightCards (h .cards))
+    ∷ need wrongIdentifier (leb fromBerth id && ltb id (fromBerth + berthCount))
+    ∷ need tooManyBytes (leb (length d) mostData)
+    ∷ [])
 needs h tick = need outOfOrder (inOrder (h .node)) ∷ need wrongCards (rightCards (h .cards)) ∷ []
 needs h (send k m) =
     orderAndStore (h .node) (h .outgoing)
@@ -71,7 +65,6 @@ conditions h (frame id d) =
     ∷ condition 12 (length (h .cards) ≡ 10 → ⊥)
     ∷ condition 3 ((0x640 ≤ id) × (id ≤ 0x649) → ⊥)
     ∷ condition 4 (8 < length d)
-    ∷ condition 11 (h .node .settings .area < cameAt h (senderOf id) d .place + length (cameAt h (senderOf id) d .bytes))
     ∷ []
 conditions h tick = condition 1 (InOrder (h .node) → ⊥) ∷ condition 12 (length (h .cards) ≡ 10 → ⊥) ∷ []
 conditions h (send k m) =

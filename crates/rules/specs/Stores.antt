@@ -1,10 +1,11 @@
 -- Paper 01, ten berths: the two stores and the berths' areas, the node after a tick and a turn, set-up, and the round.
-use Prim.Native.Nat.{ℕ, suc, _+_, _-_, _*_, _%_, min}
+use Prim.Native.Nat.{ℕ, suc, _+_, _-_, _*_, _%_, _≤_, _<_, min}
+use mathlib.Core.Logic.{_⊎_}
 use mathlib.Core.Bool.{Bool}
 use mathlib.Core.List.{List, [], _∷_, map}
 use lib.ListN.{length, take, drop, set, replicate}
 use lib.Seq.{sets}
-use lib.Dec.{leb, eqb}
+use lib.Dec.{eqb}
 use Rattle.rules.specs.Tests.{pick}
 use Rattle.rules.specs.Numbers.{berthCount}
 use Rattle.rules.specs.Nodes.{fresh, berthAt, withBerths, withServed, Held}
@@ -29,9 +30,9 @@ areaOf a k store = take a (drop (k * a) store)
 unfoldable pub stored : ℕ → ℕ → ℕ → List ℕ → List ℕ → List ℕ
 stored a k place bytes store = sets store (k * a + place) bytes
 
--- so many bytes at a place stay inside an area of A bytes
-unfoldable pub inside : ℕ → ℕ → ℕ → Bool
-inside a place count = leb (place + count) a
+-- byte i of a store is none of berth k's
+abbrev pub Outside : ℕ → ℕ → ℕ → Type 0
+Outside a k i = (i < k * a) ⊎ (k * a + a ≤ i)
 
 -- ---- the node with each berth after a tick, and with one berth after its turn
 

@@ -12,7 +12,7 @@ use Rattle.rules.specs.Frames.{kind, low, singleFits, shortLength, escapeLength
 use Rattle.rules.specs.Arrivals.{singleCame, begun, firstCame, piece, completed, awaitedCame, heardBy, byKind, frameCame}
 use Rattle.rules.specs.Turns.{due, handOver, beginsWith, sent as sentBerth}
 use Rattle.rules.specs.Events.{Call, frame, tick, send, turn, ticks, arrives, sends}
-use Rattle.rules.specs.Stores.{rightStore, areaOf, stored, inside, servedNode, setUpNode, distance, leastDistance, passedOver, reached, cameAt, handedAt}
+use Rattle.rules.specs.Stores.{rightStore, areaOf, stored, servedNode, setUpNode, distance, leastDistance, passedOver, reached, cameAt, handedAt}
 use Rattle.rules.specs.Answers.{refused}
 use Rattle.rules.specs.Cards.{rightCards, addedAt}
 use Rattle.rules.specs.Refusals.{needs, refusal, setUpRefusal}
@@ -97,7 +97,7 @@ refusing-here o number r = refusing-again (one-more [] (made tick o) 0 ticks r (
 pub fixed-here : (o q : Outcome) → AfterSetUp unset eight (setUpNode eight) (made (frame 0x640 (0x01 ∷ 7 ∷ [])) o ∷ [])
     → AfterSetUp unset eight (setUpNode eight) (made (frame 0x640 (0x02 ∷ 7 ∷ 8 ∷ [])) q ∷ []) → o .answer ≡ q .answer → ⊥
 unfolding
-    own ownDone leftBy refusal needs firstUnmet rightStore rightCards inside inOrder all each settingsAllowed berthInOrder setUpNode berthAt
+    own ownDone leftBy refusal needs firstUnmet rightStore rightCards inOrder all each settingsAllowed berthInOrder setUpNode berthAt
     cameAt frameCame byKind kind low heardBy singleCame singleFits partOf says
 fixed-here o q r x =
     fixed-again (one-more [] (made (frame 0x640 (0x01 ∷ 7 ∷ [])) o) 0 (arrives (0x01 ∷ 7 ∷ [])) r (lit< tt) refl)
@@ -107,7 +107,7 @@ fixed-here o q r x =
 pub fixed-bytes-here : (o q : Outcome) → AfterSetUp unset eight (setUpNode eight) (made (frame 0x640 (0x01 ∷ 7 ∷ [])) o ∷ [])
     → AfterSetUp unset eight (setUpNode eight) (made (frame 0x640 (0x01 ∷ 8 ∷ [])) q ∷ []) → partOf 0 (o .held) .incoming ≡ partOf 0 (q .held) .incoming → ⊥
 unfolding
-    own ownDone leftBy refusal needs firstUnmet rightStore rightCards inside inOrder all each settingsAllowed berthInOrder setUpNode berthAt
+    own ownDone leftBy refusal needs firstUnmet rightStore rightCards inOrder all each settingsAllowed berthInOrder setUpNode berthAt
     cameAt frameCame byKind kind low heardBy singleCame singleFits partOf stateAfter partAfter areaOf
 fixed-bytes-here o q r x =
     fixed-again-bytes (one-more [] (made (frame 0x640 (0x01 ∷ 7 ∷ [])) o) 0 (arrives (0x01 ∷ 7 ∷ [])) r (lit< tt) refl)
@@ -140,7 +140,7 @@ afterGo = madeOf (withNode unset (setUpNode eight)) (frame 0x640 (0x10 ∷ 8 ∷
 pub counting-here : (o : Outcome) → AfterSetUp unset eight (setUpNode eight) (afterGo ++ made (frame 0x640 (0x21 ∷ 7 ∷ 8 ∷ [])) o ∷ [])
     → partOf 0 (o .held) .incoming ≡ partOf 0 (leftBy (withNode unset (setUpNode eight)) afterGo) .incoming → ⊥
 unfolding
-    madeOf own ownDone leftBy refusal needs firstUnmet rightStore rightCards inside inOrder all each settingsAllowed berthInOrder takingInRange inBlock setUpNode berthAt
+    madeOf own ownDone leftBy refusal needs firstUnmet rightStore rightCards inOrder all each settingsAllowed berthInOrder takingInRange inBlock setUpNode berthAt
     outcome done afterFrame afterTurn addedAt stored withBerth cameAt frameCame byKind kind low heardBy firstCame firstFits announced shortLength escapeLength begun
     awaitedCame completed consecutiveFits piece share passedOver leastDistance distance due reached servedNode handedAt handOver partOf areaOf
 counting-here o r =

@@ -27,6 +27,7 @@ use Rattle.rules.proofs.Cases.{Tested, holds, fails, eqb-cases, pick-either}
 use Rattle.rules.proofs.Ranges.{in-order-range}
 use Rattle.rules.proofs.Areas.{area-length}
 use Rattle.rules.proofs.Answered.{frame-answered, send-answered}
+use Rattle.rules.proofs.Inside.{answered-inside}
 use Rattle.rules.proofs.Facts.{consecutive-came}
 use Rattle.node.proofs.PoorNodes.{still-idle, stood-before}
 use Rattle.laws.specs.Own.{over, ownDone, own, saysOf, freshPart}
@@ -179,9 +180,9 @@ module _ (k : ℕ) (g : Held) where
       let (e, done) = own-answered c its in
       let (id, mine, is) = own-frame c d done in
       let ok = frame-answered g id d (rw is at e) in
-      let fits = rw mine at (ok .fits) in
-      let least = in-order-range (g .node) (ok .heard .order) .settings .area-least in
-      let room = area-length (g .node .settings .area) k (g .incoming) small (ok .heard .store) in
+      let fits = rw mine at (answered-inside g id d (rw is at e)) in
+      let least = in-order-range (g .node) (ok .order) .settings .area-least in
+      let room = area-length (g .node .settings .area) k (g .incoming) small (ok .store) in
       rw room (came-within (g .node .settings .area) (omega arith) s (g .node .settings) (berthAt (g .node) k) d fits)
 
   -- and so does its message

@@ -1,5 +1,4 @@
--- A frame that there is a reason to ignore stores nothing, so refusal 11 does not hold, the side is put back as it was, and nothing is
--- counted.
+-- A frame that there is a reason to ignore stores nothing, the side is put back as it was, and nothing is counted.
 use Prim.Native.Nat.{ℕ}
 use mathlib.Core.Path.{_≡_, refl, ap, _∙_}
 use mathlib.Core.Bool.{false}
@@ -22,7 +21,7 @@ use Rattle.arrivals.specs.Reading.{isFlow, whyIgnored}
 use Rattle.arrivals.proofs.Touches.{came-heard, why-ignored}
 use Rattle.node.specs.Promises.{FramePromise}
 use Rattle.sides.specs.Parts.{Arriving}
-use Rattle.sides.proofs.Hearing.{own-inside, nothing as inside-none, put-back}
+use Rattle.sides.proofs.Hearing.{own-frame, put-back}
 
 pub ignores : {n : Node} {cards : List Card} {id at : ℕ} {rx : Rx} {incoming d : List ℕ} → Arriving n cards id at incoming d → rx ≡ berthAt n at .rx → isFlow d ≡ false
     → (whyIgnored rx d ≡ 0 → ⊥) → (a : FrameAnswer) → frameSays a ≡ heard at 0 (Ignored (whyIgnored rx d))
@@ -36,5 +35,5 @@ ignores {n} {cards} {id} {at} {rx} {incoming} {d} h side other some a says =
     let word = Ignored (whyIgnored (b .rx) d) in
     let none : frameAdds (isSingle d) 0 word ≡ nothing = uncounted (isSingle d) (FrameAnswer.Heard at 0 word) refl in
     let put : FramePromise n cards incoming id d a (withBerth n (senderOf id) b) (addedAt cards (senderOf id) (frameAdds (isSingle d) 0 word)) incoming =
-    own-inside n cards incoming id d (h .may) _ is (inside-none _) a (says ∙ rw (there, h .place)) in
+    own-frame n cards incoming id d (h .may) _ is a (says ∙ rw (there, h .place)) in
     rw (put-back n (senderOf id), none, added-at-nothing) at put

@@ -6,12 +6,11 @@ use mathlib.Core.Bool.{Bool, true, false}
 use mathlib.Core.List.{List}
 use lib.ListN.{length}
 use Rattle.rules.specs.Numbers.{berthCount}
-use Rattle.rules.specs.Tests.{firstUnmet}
 use Rattle.rules.specs.Nodes.{berthAt}
 use Rattle.rules.specs.Ranges.{inOrder}
 use Rattle.rules.specs.Stores.{passedOver, reached}
-use Rattle.rules.specs.Events.{send, turn, senderOf}
-use Rattle.rules.specs.Refusals.{toHear, refusal}
+use Rattle.rules.specs.Events.{frame, send, turn, senderOf}
+use Rattle.rules.specs.Refusals.{refusal}
 use Rattle.node.specs.Promises.{lent}
 use Rattle.arrivals.specs.Reading.{isFlow}
 use Rattle.rules.specs.declared.Settings.{Settings}
@@ -20,10 +19,10 @@ use Rattle.rules.specs.declared.Tx.{Tx}
 use Rattle.rules.specs.declared.Node.{Node}
 use Rattle.rules.specs.declared.Card.{Card}
 
--- ---- a frame on an identifier: no refusal before 11 holds it back, and the place is its sender's
+-- ---- a frame that is not refused, at its sender's place
 
 pub record Arriving (n : Node) (cards : List Card) (id at : ℕ) (incoming d : List ℕ) : Type 0 where
-  pub may : firstUnmet (toHear n incoming cards id d) ≡ 0
+  pub may : (outgoing : List ℕ) → refusal (lent n cards incoming outgoing) (frame id d) ≡ 0
   pub place : at ≡ senderOf id
 
 -- flow control, and the send side

@@ -42,7 +42,7 @@ pub struct HeardAt {
     pub answer: FrameAnswer,
 }
 
-// A frame that is no flow control. Refusal 11 is tested before anything is stored.
+// A frame that is no flow control. That its bytes end inside the area is a fact of the ranges, so it is not tested.
 pub fn heard(
     settings: Settings,
     at: usize,
@@ -55,32 +55,25 @@ pub fn heard(
     ensures { λ r. ⌜ ((n : Node) (cards : List Card) (id : ℕ) → Hearing n cards id settings at rx last (now (incoming .entry)) (now (payload .entry)) → FramePromise n cards (now (incoming .entry)) id (now (payload .entry)) (r .answer) (withBerth n at (withRx (berthAt n at) (r .rx) (r .last))) (answerAdded cards at (now (payload .entry)) (r .answer)) (now (incoming .exit))) ⌝ }
 {
     let came = arrivals::rx_came(settings, rx, last, payload);
-    if arrivals::areas::inside(settings.area, came.place, came.count) {
-        let lo = area_start(at, settings.area);
-        let hi = lo + settings.area as usize;
-        arrivals::areas::keep(
-            &mut incoming[lo..hi],
-            came.place,
-            payload,
-            came.from,
-            came.count,
-        );
-        let after = came.rx;
-        let word = came.word;
-        return HeardAt {
-            rx: after,
-            last: came.last,
-            answer: FrameAnswer::Heard {
-                berth: at as u8,
-                old: came.old,
-                word: word,
-            },
-        };
-    }
+    let lo = area_start(at, settings.area);
+    let hi = lo + settings.area as usize;
+    arrivals::areas::keep(
+        &mut incoming[lo..hi],
+        came.place,
+        payload,
+        came.from,
+        came.count,
+    );
+    let after = came.rx;
+    let word = came.word;
     HeardAt {
-        rx: rx,
-        last: last,
-        answer: FrameAnswer::Refused(rules::OUTSIDE_AREA),
+        rx: after,
+        last: came.last,
+        answer: FrameAnswer::Heard {
+            berth: at as u8,
+            old: came.old,
+            word: word,
+        },
     }
 }
 

@@ -1,15 +1,12 @@
--- The side is in order. Where refusal 11 does not hold, the bytes put down in the berth's area are bytes put down in the store
--- (`put-in-part`).
+-- The side is in order, so the bytes of the frame end inside the berth's area (`fits`), and put down there they are bytes put down in the
+-- store (`put-in-part`).
 use Prim.Native.Nat.{_+_, _-_, _*_, _≤_}
 use native.Mathlib.Omega.{arith}
-use mathlib.Core.Path.{_≡_, sym, _∙_}
+use mathlib.Core.Path.{_≡_}
 use lib.ListN.{take, drop, length-take, length-drop}
-use mir.Facts.{leb-yes}
 use denote.Ref.{now}
-use Rattle.rules.specs.Stores.{inside}
-use Rattle.rules.proofs.Cases.{yes-of}
 use Rattle.frames.proofs.Puts.{put-in-part}
-use Rattle.sides.proofs.Hearing.{Hearable, hearable, counted, outside, stores}
+use Rattle.sides.proofs.Hearing.{Hearable, hearable, counted, stores, fits as ends-inside}
 use borrow.Author.Needs.{needs}
 use Rattle.sides.proofs.heard.Statement.{statement}
 use Rattle.sides.proofs.heard.Tie as tie
@@ -17,18 +14,14 @@ use Rattle.sides.proofs.heard.Tie as tie
 met : (s : tie.Start) → let a = s .args in Hearable (a .settings) (a .at) (a .rx) (a .last) (now (a .incoming))
 met s = hearable (s .pre .1 .1 .1)
 
-abbrev start : tie.Then1 → tie.Start
-start c = c .before .before .before .before .before
+abbrev start : tie.After-rx-came → tie.Start
+start c = c .before .before .before
 
-fits : (c : tie.Then1) → let came = c .before .before .rx-came .result in came .place + came .count ≤ start c .args .settings .area
-unfolding inside
-fits c = leb-yes (yes-of (sym (c .before .inside .ensures) ∙ c .if1 .taken))
+fits : (c : tie.After-rx-came) → let came = c .rx-came .result in came .place + came .count ≤ start c .args .settings .area
+fits c = ends-inside (start c .pre .1 .1 .1) (c .rx-came .result) (c .rx-came .ensures)
 
 rx-came-requires : tie.Need-rx-came-requires
 rx-came-requires c κs = (c .before .before .pre .1 .1 .1 .some, met (c .before .before) .range)
-
-inside-requires : tie.Need-inside-requires
-inside-requires c κs = search needs
 
 area-start-requires : tie.Need-area-start-requires
 area-start-requires c κs = met (start c) .mine
@@ -50,10 +43,10 @@ part-keep-end c = omega (arith, c .before .area-start .ensures, met (start (c .b
 
 keep-requires : tie.Need-keep-requires
 keep-requires c κs = let t = c .before .before .before in
-    (simp (length-take, length-drop) (omega (arith, fits t, c .before .before .area-start .ensures, met (start t) .store)), t .before .before .rx-came .ensures .within)
+    (simp (length-take, length-drop) (omega (arith, fits t, c .before .before .area-start .ensures, met (start t) .store)), t .rx-came .ensures .within)
 
-cast-t18 : tie.Need-cast-t18
-cast-t18 c = omega (arith, met (start (c .before .before .before .before .before .before)) .mine)
+cast-t17 : tie.Need-cast-t17
+cast-t17 c = omega (arith, met (start (c .before .before .before .before .before .before)) .mine)
 
 same-length : tie.Need-same-length
 same-length c = search needs
@@ -62,23 +55,19 @@ returns : tie.Need-returns
 returns c = let known = c .before .before .before .before .before in
     let t = known .before in
     let a = start t .args in
-    let came = t .before .before .rx-came in
+    let came = t .rx-came in
     let d = now (a .payload) in
     let lo = a .at * a .settings .area in
     let part : lo + a .settings .area - lo ≡ a .settings .area = omega arith in
     let count = counted (came .result) d (came .ensures .within) in
     let put = put-in-part (now (a .incoming)) lo (a .settings .area) (take (came .result .count) (drop (came .result .from) d)) (omega (arith, known .area-start .ensures, met (start t) .store)) (came .result .place) (omega (arith, fits t)) in
-    λ n cards id h. stores h (came .result) (came .ensures) (sym (t .before .inside .ensures) ∙ t .if1 .taken) _ (rw (c .before .before .keep .ensures, known .area-start .ensures .0, part) put)
-
-returns-2 : tie.Need-returns-2
-returns-2 c = λ n cards id h. outside h (c .before .before .rx-came .result) (c .before .before .rx-came .ensures) (sym (c .before .inside .ensures) ∙ c .if1 .left)
+    λ n cards id h. stores h (came .result) (came .ensures) _ (rw (c .before .before .keep .ensures, known .area-start .ensures .0, part) put)
 
 pub heard-spec : {M : Type 1} → statement M
 heard-spec =
     tie.close
     (tie.spec
     rx-came-requires
-    inside-requires
     area-start-requires
     cast-hi
     add-hi
@@ -86,7 +75,6 @@ heard-spec =
     part-keep-start
     part-keep-end
     keep-requires
-    cast-t18
+    cast-t17
     same-length
-    returns
-    returns-2)
+    returns)
