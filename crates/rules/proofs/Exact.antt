@@ -256,3 +256,7 @@ never-unused h c e = go c (refuses-holds (conditions h c) unused (refused-exactl
     go (Call.turn buffer) x =
         ⊎-elim (λ q. omega arith) (⊎-elim (λ q. omega arith) (⊎-elim (λ q. omega arith) (⊎-elim (λ q. omega arith) (λ q. q)))) x
     go (Call.show k choice) x = x
+
+pub set-up-never-unused : (a bs stmin : ℕ) → setUpRefusal a bs stmin ≡ unused → ⊥
+set-up-never-unused a bs stmin e =
+    ⊎-elim (λ q. omega arith) (λ q. q) (refuses-holds (setUpConditions a bs stmin) unused (set-up-refused-exactly a bs stmin unused (omega arith) .0 e))
