@@ -135,16 +135,27 @@ static struct frame_answer wrong_sn(struct arrival *a, int missing)
     return answer(rule(0, 20e, N_UNEXP_PDU), FAILED, N_WRONG_SN);
 }
 
+/* For mutants only: how many of seven bytes the area has room for, and who still refuses with 11. */
+static int room_up_to_seven(const struct arrival *a)
+{
+    int room = a->node->area - a->rx->got;
+    return room < SINGLE_MAX ? room : SINGLE_MAX;
+}
+
+static bool refused_11(const struct arrival *a, int count)
+{
+    return (mistake(W11b1) && room_up_to_seven(a) < SINGLE_MAX)
+        || (mistake(W11b2) && a->rx->got + count == a->node->area);
+}
+
 /* Stores the next bytes of a consecutive frame that has passed every test. */
 static struct frame_answer take(struct arrival *a, int missing)
 {
     struct receive_side *rx = a->rx;
     int count = missing < rule(SINGLE_MAX, 15c, 0) ? missing : SINGLE_MAX;
-    int room = a->node->area - rx->got;
-    if ((mistake(W11b1) && room < SINGLE_MAX) || (mistake(W11b2) && room == count))
+    if (refused_11(a, count))
         return (struct frame_answer){ .refusal = 11 };
-    if (mistake(W11a1))
-        count = room < SINGLE_MAX ? room : SINGLE_MAX;
+    count = rule(count, W11a1, room_up_to_seven(a));
     for (int i = 0; i < count; i++)
         a->area[rx->got + i] = a->data[1 + i];
     bool full = fills_block(rx, a->node->block_size);
@@ -243,10 +254,12 @@ static bool cards_lent(struct cards cards, int identifier, int length)
         || (mistake(W1g8) && length > FRAME_BYTES) || (mistake(W1g14) && length == 0);
 }
 
-/* Whether what is missing at a berth would leave its area; no node in order is so. */
-static bool lands_outside(const struct node *node, int berth)
+/* For a mutant only: whether what is missing would leave the area, as in no node that is in order. */
+static bool lands_outside(const struct node *node, int identifier)
 {
-    const struct receive_side *rx = &node->rx[berth];
+    if (!known(identifier))
+        return false;
+    const struct receive_side *rx = &node->rx[identifier - FROM_BERTH_0];
     return rx->state == AWAITS && rx->total > node->area;
 }
 
@@ -257,7 +270,7 @@ static int frame_refusal(const struct node *node, struct bytes incoming, struct 
     if (mistake(W1g9) && !lent)
         return 12;
     if (!in_order(node) && !(mistake(02b) && !has_ten_areas(node, incoming)))
-        return mistake(W11d1) && known(identifier) && lands_outside(node, identifier - FROM_BERTH_0) ? 11 : 1;
+        return rule(1, W11d1, lands_outside(node, identifier) ? 11 : 1);
     if (mistake(W1g6) && !lent)
         return 12;
     if (!has_ten_areas(node, incoming))

@@ -121,6 +121,9 @@
  *
  * W2 by sentence: a n + 1, b F1 to F9, c reserved values, d 0 stays 0, e the range;
  * then what it leaves as it was: f the node's own STmin, g how a gap is kept and passes.
+ *
+ * W11 by sentence: a no stored byte outside the area, b the refusal is out, c the
+ * number unused, d no other answer changes.
  */
 #define REQUEST_MUTANTS(X)                                                            \
     X(W1a1, "an event goes to the card of the next berth")                            \

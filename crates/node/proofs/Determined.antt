@@ -1,4 +1,5 @@
--- A promise determines everything: what a call leaves is the outcome of the rules, so two that meet a promise are equal.
+-- A promise determines everything: what a call leaves is the outcome of the rules, so two that meet a promise are equal, and what holds of
+-- an outcome holds of the code.
 use Prim.Native.Nat.{ℕ, zero, suc}
 use mathlib.Core.Path.{_≡_, refl, sym, ap, _∙_}
 use mathlib.Core.List.{List, []}
@@ -62,7 +63,7 @@ pub show-is : (n : Node) (incoming outgoing : List ℕ) (k : ℕ) (choice : Choi
     → left (shown part) (lent n cards incoming outgoing) [] ≡ outcome (lent n cards incoming outgoing) (show k choice)
 show-is n incoming outgoing k choice part in-at out-at part-at p cards = same (p .agrees cards)
 
--- ---- so of the code too (paper 02, W11)
+-- ---- what holds of a frame's outcome holds of the code (paper 02, W11)
 
 -- A FRAME CHANGES NO BYTE OUTSIDE ITS BERTH'S AREA, whatever arrives, and the store keeps its length
 pub frame-outside-stays : (n : Node) (cards : List Card) (incoming : List ℕ) (id : ℕ) (d : List ℕ)

@@ -1,5 +1,5 @@
 -- What a call tests, over plain numbers: whether the node is in order, the area, lengths and numbers given. At a node these are the
--- refusals of paper 01 (proofs/Numbered), so that a call need not hand the node on.
+-- refusals of the papers (proofs/Numbered), so that a call need not hand the node on.
 use Prim.Native.Nat.{ℕ, _+_, _-_, _*_}
 use mathlib.Core.Bool.{Bool, not, _&&_}
 use mathlib.Core.List.{List, [], _∷_, _++_}

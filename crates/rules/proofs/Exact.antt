@@ -257,6 +257,7 @@ never-unused h c e = go c (refuses-holds (conditions h c) unused (refused-exactl
         ⊎-elim (λ q. omega arith) (⊎-elim (λ q. omega arith) (⊎-elim (λ q. omega arith) (⊎-elim (λ q. omega arith) (λ q. q)))) x
     go (Call.show k choice) x = x
 
+-- nor is a set-up
 pub set-up-never-unused : (a bs stmin : ℕ) → setUpRefusal a bs stmin ≡ unused → ⊥
 set-up-never-unused a bs stmin e =
     ⊎-elim (λ q. omega arith) (λ q. q) (refuses-holds (setUpConditions a bs stmin) unused (set-up-refused-exactly a bs stmin unused (omega arith) .0 e))

@@ -111,17 +111,17 @@ abbrev edgeFrame : List ℕ
 edgeFrame = 0x21 ∷ 7 ∷ 8 ∷ 0 ∷ 0 ∷ 0 ∷ 0 ∷ 0 ∷ []
 
 -- the node is in order; the bytes end where the area ends, and are all that the frame changes in the store
-pub edge-computed : (inOrder edgeNode ≡ true)
+pub filled-here : (inOrder edgeNode ≡ true)
     × (cameAt edgeHeld 3 edgeFrame .place + length (cameAt edgeHeld 3 edgeFrame .bytes) ≡ 8)
     × (outcome edgeHeld (frame 0x643 edgeFrame) .held .incoming ≡ replicate 30 0xEE ++ (7 ∷ 8 ∷ replicate 48 0xEE))
 unfolding
     inOrder all each settingsAllowed berthInOrder takingInRange inBlock berthAt cameAt frameCame byKind kind low heardBy awaitedCame consecutiveFits
     completed piece share outcome done afterFrame stored refusal needs firstUnmet rightStore rightCards
-edge-computed = (refl, refl, refl)
+filled-here = (refl, refl, refl)
 
 -- so it meets the premises, at the berth and for the first byte behind it
-pub edge-inside : cameAt edgeHeld 3 edgeFrame .place + length (cameAt edgeHeld 3 edgeFrame .bytes) ≤ 8
-edge-inside = frame-inside edgeHeld 3 edgeFrame (omega arith) (in-order-range edgeNode (yes-of (edge-computed .0)))
+pub inside-here : cameAt edgeHeld 3 edgeFrame .place + length (cameAt edgeHeld 3 edgeFrame .bytes) ≤ 8
+inside-here = frame-inside edgeHeld 3 edgeFrame (omega arith) (in-order-range edgeNode (yes-of (filled-here .0)))
 
-pub edge-stays : byteAt (outcome edgeHeld (frame 0x643 edgeFrame) .held .incoming) 32 ≡ 0xEE
-edge-stays = outside-stays edgeHeld 0x643 edgeFrame .0 32 (inr (omega arith))
+pub stays-here : byteAt (outcome edgeHeld (frame 0x643 edgeFrame) .held .incoming) 32 ≡ 0xEE
+stays-here = outside-stays edgeHeld 0x643 edgeFrame .0 32 (inr (omega arith))

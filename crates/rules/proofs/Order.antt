@@ -1,5 +1,5 @@
 -- Order is kept: what any rule makes of a side within its ranges is within its ranges, so every call and every run keeps a node in
--- order, and a set-up that is answered is in order. On the way: from the ranges alone no stored byte lands outside the berth's area.
+-- order, and a set-up that is answered is in order. With a frame's rule goes that the bytes it stores end inside the area (Inside).
 use mathlib.Core.Path.{_≡_, refl, sym, ap, _∙_}
 use mathlib.Core.Logic.{inl, inr, ⊎-elim}
 use Prim.Native.Nat.{ℕ, zero, suc, _+_, _-_, _≤_, _<_, max}

@@ -141,7 +141,7 @@ N-UNEXP-PDU = 7
 abbrev pub N-BUFFER-OVFLW : ℕ
 N-BUFFER-OVFLW = 9
 
--- ---- refusals 1 to 12 without 11: the most data bytes of a frame that comes in, the fewest bytes of a turn's buffer, and the numbers
+-- ---- refusals 1 to 12: the most data bytes of a frame that comes in, the fewest bytes of a turn's buffer, and the numbers
 
 abbrev pub mostData : ℕ
 mostData = 8
