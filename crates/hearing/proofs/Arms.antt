@@ -3,7 +3,7 @@ use Prim.Native.Nat.{ℕ, _<_}
 use native.Mathlib.Omega.{arith}
 use mathlib.Core.Path.{_≡_, refl, sym, ap, subst, _∙_}
 use mathlib.Core.Bool.{Bool, true, false, not, _||_}
-use mathlib.Core.List.{List, []}
+use mathlib.Core.List.{List}
 use lib.ListN.{length, getD, set}
 use lib.Dec.{T, eqb, eqb→eq}
 use Rattle.rules.specs.Numbers.{berthCount, noData, N-UNEXP-PDU}
@@ -18,12 +18,12 @@ use Rattle.rules.specs.Cards.{cardAt, added, addedAt, isSingle, frameAdds}
 use Rattle.cards.specs.Counting.{answerAdds, answerAdded, delivers, counts, wordCounts, oldOf}
 use Rattle.cards.proofs.Counted.{when-delivered, undelivered-cards, uncounted-cards}
 use Rattle.rules.proofs.Cases.{is-true, is-false}
-use Rattle.rules.proofs.Answered.{frame-answered}
 use Rattle.arrivals.specs.Reading.{isFlow, whyIgnored}
 use Rattle.arrivals.proofs.Touches.{no-data}
 use Rattle.looks.proofs.Bodies.{some, above-none}
-use Rattle.node.specs.Promises.{lent, FramePromise}
+use Rattle.node.specs.Promises.{FramePromise}
 use Rattle.sides.specs.Parts.{Arriving, Telling, Hearing}
+use Rattle.sides.proofs.Hearing.{may-count}
 use Rattle.sides.proofs.Ignoring.{ignores}
 
 -- ---- a frame, by the side that it touches
@@ -46,10 +46,10 @@ ignored-uncounted (FrameAnswer.Heard k old w) e = ap saysCounts e
 
 module _ {h : Node} {cards : List Card} {id j : ℕ} {incoming d : List ℕ} (a : Arriving h cards id j incoming d) where
   pub arrived-within : j < berthCount
-  arrived-within = rw (a .place) (frame-answered (lent h cards incoming []) id d (a .may []) .mine)
+  arrived-within = rw (a .place) (may-count a .mine)
 
   pub card-within : j < length cards
-  card-within = subst (λ (m : ℕ). j < m) (sym (frame-answered (lent h cards incoming []) id d (a .may []) .ten)) arrived-within
+  card-within = subst (λ (m : ℕ). j < m) (sym (may-count a .ten)) arrived-within
 
   pub telling : isFlow d ≡ true → Telling h cards id j (getD (h .berths) j fresh .tx) incoming d
   unfolding berthAt

@@ -6,8 +6,8 @@ use Prim.Native.Nat.{ℕ, _+_, _*_, _≤_, _<_}
 use native.Mathlib.Omega.{arith}
 use mathlib.Core.Bool.{Bool, true, false, not, _&&_}
 use mathlib.Core.List.{List, [], _∷_}
-use lib.ListN.{length}
-use lib.Dec.{T, ltb, leb}
+use lib.ListN.{length, drop}
+use lib.Dec.{T, ltb, leb, eqb}
 use mir.Facts.{leb-yes, leb-no, ltb-yes, ltb-no, eqb-yes, eqb-no, yes-leb, yes-ltb, yes-and}
 use Rattle.rules.specs.Tests.{Need, need, firstUnmet}
 use Rattle.rules.specs.Numbers.{berthCount, fromBerth, outOfOrder, badSetting, unused}
@@ -221,17 +221,23 @@ set-up-answered-exactly a bs stmin = (none-holds _ (setUpConditions a bs stmin) 
 
 -- ---- refusal 1 never comes where the node is in order, and 11 nowhere
 
+-- a number that no condition of a list has
+abbrev absent : ℕ → List Condition → Bool
+absent n [] = true
+absent n (c ∷ cs) = not (eqb n (c .number)) && absent n cs
+
+not-there : (n : ℕ) (cs : List Condition) → T (absent n cs) → Holds cs n → ⊥
+not-there n [] t x = x
+not-there n (c ∷ cs) t x =
+    ⊎-elim (λ q. eqb-no (and-left (not (eqb n (c .number))) (absent n cs) t) (q .0))
+    (not-there n cs (and-right (not (eqb n (c .number))) (absent n cs) t)) x
+
 -- condition 1 says that the node is out of order, whatever the call
 first-condition : (h : Held) (c : Call) → Holds (conditions h c) outOfOrder → InOrder (h .node) → ⊥
-first-condition h (Call.frame id d) x o =
-    ⊎-elim (λ q. q .1 o)
-    (⊎-elim (λ q. omega arith) (⊎-elim (λ q. omega arith) (⊎-elim (λ q. omega arith) (⊎-elim (λ q. omega arith) (λ q. q))))) x
-first-condition h Call.tick x o = ⊎-elim (λ q. q .1 o) (⊎-elim (λ q. omega arith) (λ q. q)) x
-first-condition h (Call.send k m) x o =
-    ⊎-elim (λ q. q .1 o)
-    (⊎-elim (λ q. omega arith) (⊎-elim (λ q. omega arith) (⊎-elim (λ q. omega arith) (⊎-elim (λ q. omega arith) (⊎-elim (λ q. omega arith) (λ q. q)))))) x
-first-condition h (Call.turn buffer) x o =
-    ⊎-elim (λ q. q .1 o) (⊎-elim (λ q. omega arith) (⊎-elim (λ q. omega arith) (⊎-elim (λ q. omega arith) (λ q. q)))) x
+first-condition h (Call.frame id d) x o = ⊎-elim (λ q. q .1 o) (not-there outOfOrder (drop 1 (conditions h (Call.frame id d))) tt) x
+first-condition h Call.tick x o = ⊎-elim (λ q. q .1 o) (not-there outOfOrder (drop 1 (conditions h Call.tick)) tt) x
+first-condition h (Call.send k m) x o = ⊎-elim (λ q. q .1 o) (not-there outOfOrder (drop 1 (conditions h (Call.send k m))) tt) x
+first-condition h (Call.turn buffer) x o = ⊎-elim (λ q. q .1 o) (not-there outOfOrder (drop 1 (conditions h (Call.turn buffer))) tt) x
 first-condition h (Call.show k choice) x o = x
 
 pub never-out-of-order : (h : Held) (c : Call) → InOrder (h .node) → refusal h c ≡ outOfOrder → ⊥
@@ -244,20 +250,17 @@ never-after-set-up h a bs stmin e cs c = never-out-of-order _ c (run-in-order _ 
 
 -- NO CALL IS REFUSED WITH 11: no list has it
 pub never-unused : (h : Held) (c : Call) → refusal h c ≡ unused → ⊥
-never-unused h c e = go c (refuses-holds (conditions h c) unused (refused-exactly h c unused (omega arith) .0 e))
+never-unused h c e = not-there unused (conditions h c) (go c) (refuses-holds (conditions h c) unused (refused-exactly h c unused (omega arith) .0 e))
   where
-    go : (c : Call) → Holds (conditions h c) unused → ⊥
-    go (Call.frame id d) x =
-        ⊎-elim (λ q. omega arith) (⊎-elim (λ q. omega arith) (⊎-elim (λ q. omega arith) (⊎-elim (λ q. omega arith) (⊎-elim (λ q. omega arith) (λ q. q))))) x
-    go Call.tick x = ⊎-elim (λ q. omega arith) (⊎-elim (λ q. omega arith) (λ q. q)) x
-    go (Call.send k m) x =
-        ⊎-elim (λ q. omega arith)
-        (⊎-elim (λ q. omega arith) (⊎-elim (λ q. omega arith) (⊎-elim (λ q. omega arith) (⊎-elim (λ q. omega arith) (⊎-elim (λ q. omega arith) (λ q. q)))))) x
-    go (Call.turn buffer) x =
-        ⊎-elim (λ q. omega arith) (⊎-elim (λ q. omega arith) (⊎-elim (λ q. omega arith) (⊎-elim (λ q. omega arith) (λ q. q)))) x
-    go (Call.show k choice) x = x
+    go : (c : Call) → T (absent unused (conditions h c))
+    go (Call.frame id d) = tt
+    go Call.tick = tt
+    go (Call.send k m) = tt
+    go (Call.turn buffer) = tt
+    go (Call.show k choice) = tt
 
 -- nor is a set-up
 pub set-up-never-unused : (a bs stmin : ℕ) → setUpRefusal a bs stmin ≡ unused → ⊥
 set-up-never-unused a bs stmin e =
-    ⊎-elim (λ q. omega arith) (λ q. q) (refuses-holds (setUpConditions a bs stmin) unused (set-up-refused-exactly a bs stmin unused (omega arith) .0 e))
+    let cs = setUpConditions a bs stmin in
+    not-there unused cs tt (refuses-holds cs unused (set-up-refused-exactly a bs stmin unused (omega arith) .0 e))

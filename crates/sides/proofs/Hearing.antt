@@ -52,7 +52,7 @@ module _ (n : Node) (cards : List Card) (incoming : List ℕ) (id : ℕ) (d : Li
   own-frame a says = λ outgoing. does (lent n cards incoming outgoing) (frame id d) refl (sym (may outgoing)) (rw (says, is))
 
 -- what may be counted on; a frame's refusal does not ask for the outgoing store, so any will do
-may-count : {n : Node} {cards : List Card} {id at : ℕ} {incoming d : List ℕ} → Arriving n cards id at incoming d → FrameAnswered (lent n cards incoming []) id d
+pub may-count : {n : Node} {cards : List Card} {id at : ℕ} {incoming d : List ℕ} → Arriving n cards id at incoming d → FrameAnswered (lent n cards incoming []) id d
 may-count {n} {cards} {id} {at} {incoming} {d} a = frame-answered (lent n cards incoming []) id d (a .may [])
 
 -- ---- flow control
