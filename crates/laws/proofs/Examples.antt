@@ -1,12 +1,13 @@
 -- Runs, computed, that meet the premises of the laws: so the laws are about something.
-use mathlib.Core.Path.{_≡_, refl}
+use mathlib.Core.Path.{_≡_, refl, ap₂, _∙_}
 use Prim.Native.Nat.{ℕ, _*_, _≤_, _<_}
+use native.Mathlib.Omega.{arith}
 use mathlib.Core.Bool.{true, false}
 use mathlib.Core.List.{List, [], _∷_, _++_}
 use lib.ListN.{length, take, set, replicate}
 use lib.Dec.{lit<, lit≤}
 use Rattle.rules.specs.Tests.{all, each, firstUnmet}
-use Rattle.rules.specs.Numbers.{berthCount}
+use Rattle.rules.specs.Numbers.{berthCount, N-TIMEOUT-A, N-TIMEOUT-Cr}
 use Rattle.rules.specs.Nodes.{fresh, withRx, withTx, berthAt, Held, withBerth}
 use Rattle.rules.specs.Ranges.{settingsAllowed, inBlock, takingInRange, sendingInRange, berthInOrder, inOrder}
 use Rattle.rules.specs.Frames.{kind, low, singleFits, shortLength, escapeLength, announced, firstFits, consecutiveFits, flowFits, padded, singleFrame, firstFrame, consecutiveFrame, goFrame, firstSn, nextSn, counted, fillsBlock, ticksMeant, gapOf, share}
@@ -14,14 +15,17 @@ use Rattle.rules.specs.Arrivals.{ignored, singleCame, begun, firstCame, piece, 
 use Rattle.rules.specs.Ticks.{ran, ticked, codesOf}
 use Rattle.rules.specs.Turns.{due, moved, afterConsecutive, handOver, beginsWith, sent as sentBerth}
 use Rattle.rules.specs.Stores.{rightStore, areaOf, stored, tickedNode, servedNode, setUpNode, distance, leastDistance, passedOver, reached, cameAt, handedAt}
-use Rattle.rules.specs.Answers.{refused, heard, codes, sent, handed, shown, receive, reported, failedSide, wordReports, codesReports, reports}
+use Rattle.rules.specs.Answers.{refused, heard, codes, sent, handed, shown, receive, send as sendSide, reported, failedSide, wordReports, codesReports, reports}
 use Rattle.rules.specs.Cards.{rightCards, addedAt, tickedCards, zeroCard, cardAt, frozen, added, isSingle, frameAdds, tickAdds, turnAdds, adds}
 use Rattle.rules.specs.Events.{Call, frame, tick, send, turn, show, Event, arrives, ticks, sends, turns}
 use Rattle.rules.specs.Refusals.{needs, refusal, setUpRefusal}
 use Rattle.rules.specs.Calls.{showable, shownLength, showing, afterFrame, afterTurn, done, reply, written, refusedOutcome, outcome, setUpOutcome, answers, final}
 use Rattle.rules.specs.Alone.{partOf, Part, withCard, Says, hears, expires, accepts, hands, stateAfter, partAfter, alone}
+use Rattle.rules.specs.Clocks.{timeLeft, mostTime, endCode}
 use Rattle.rules.specs.declared.Settings.{Settings}
 use Rattle.rules.specs.declared.Choice.{Choice}
+use Rattle.rules.specs.declared.Taking.{Taking}
+use Rattle.rules.specs.declared.Sending.{Sending}
 use Rattle.rules.specs.declared.Rx.{Rx}
 use Rattle.rules.specs.declared.Tx.{Tx}
 use Rattle.rules.specs.declared.Berth.{Berth}
@@ -34,12 +38,15 @@ use Rattle.laws.specs.Cards.{zeroCards, Tallies, TalliesAt, frozenAt}
 use Rattle.laws.specs.Gaps.{TwoFrames, Ticking, Spaced}
 use Rattle.laws.specs.Rounds.{served, turnOf, StaysDue, Fair}
 use Rattle.laws.specs.Sides.{frameSide, ofSide, handedSide, framesBy}
-use Rattle.laws.specs.Line.{there, back, deliveredIn, leftA, leftB, carriedA, carriedB, Deed, atA, atB, setUpB, carryA, carryB, acts, living, spares, AllApart, gapLeft, AtRest, begin, MayBegin, Arrived, blank}
-use Rattle.laws.proofs.SetUp.{each-alone, each-alone-after-set-up}
+use Rattle.laws.specs.Line.{there, back, deliveredIn, leftA, leftB, carriedA, carriedB, Deed, atA, atB, setUpB, carryA, carryB, acts, living, spares, AllApart, AtRest, begin, MayBegin, Arrived, blank}
+use Rattle.laws.specs.Free.{clockAt, cardAfter, ComesFree, AllComeFree}
+use Rattle.laws.proofs.Isolation.{owns-append}
+use Rattle.laws.proofs.SetUp.{each-alone, each-alone-after-set-up, sound-run}
 use Rattle.laws.proofs.Cards.{card-tallies, frozen-stays, tallies-after-set-up}
 use Rattle.laws.proofs.Gaps.{run-spaced}
 use Rattle.laws.proofs.Fairness.{fair}
 use Rattle.laws.proofs.World.{line-law}
+use Rattle.laws.proofs.Free.{ticks-owned, run-left-alone, run-comes-free, all-come-free}
 
 -- ---- each berth alone: berth 3 awaits and times out, berth 5 sends and receives
 
@@ -186,7 +193,7 @@ pub deeds-computed : AllApart 2 7 (begin 2 programme scheduler mast) deeds
     ∷ back (0x30 ∷ 2 ∷ 1 ∷ 0xCC ∷ 0xCC ∷ 0xCC ∷ 0xCC ∷ 0xCC ∷ [])
     ∷ there (0x25 ∷ 35 ∷ 36 ∷ 0xCC ∷ 0xCC ∷ 0xCC ∷ 0xCC ∷ 0xCC ∷ [])
     ∷ [])
-unfolding gapLeft AllApart spares frameSide living acts leftA leftB carriedA carriedB framesBy handedSide ofSide ofBerth only reports reported wordReports codesReports failedSide saysOf deliveredIn over answers final done reply written outcome refusedOutcome refusal needs firstUnmet rightStore rightCards addedAt tickedCards berthAt inOrder all each settingsAllowed berthInOrder takingInRange sendingInRange inBlock afterFrame afterTurn cameAt frameCame byKind kind low heardBy toldBy ignored singleCame singleFits withBerth stored tickedNode ticked ran codesOf sentBerth beginsWith passedOver leastDistance distance due reached servedNode handedAt handOver areaOf singleFrame padded showing showable shownLength setUpNode firstCame shortLength escapeLength announced firstFits begun awaitedCame consecutiveFits piece grown completed afterTook took wrongSn counted fillsBlock nextSn share flowFits byStatus granted ticksMeant gapOf goFrame firstFrame consecutiveFrame moved afterConsecutive setUpOutcome setUpRefusal
+unfolding AllApart spares frameSide living acts leftA leftB carriedA carriedB framesBy handedSide ofSide ofBerth only reports reported wordReports codesReports failedSide saysOf deliveredIn over answers final done reply written outcome refusedOutcome refusal needs firstUnmet rightStore rightCards addedAt tickedCards berthAt inOrder all each settingsAllowed berthInOrder takingInRange sendingInRange inBlock afterFrame afterTurn cameAt frameCame byKind kind low heardBy toldBy ignored singleCame singleFits withBerth stored tickedNode ticked ran codesOf sentBerth beginsWith passedOver leastDistance distance due reached servedNode handedAt handOver areaOf singleFrame padded showing showable shownLength setUpNode firstCame shortLength escapeLength announced firstFits begun awaitedCame consecutiveFits piece grown completed afterTook took wrongSn counted fillsBlock nextSn share flowFits byStatus granted ticksMeant gapOf goFrame firstFrame consecutiveFrame moved afterConsecutive setUpOutcome setUpRefusal
 deeds-computed = (
   (lit< tt, ((λ e. tt), ((λ e. tt), (tt, ((λ e. tt), ((λ e. tt), ((λ e. tt), ((λ e. tt), (tt, ((λ e. tt), ((λ e. tt), (tt, ((λ e. tt), ((λ e. tt), ((λ e. tt), ((λ e. tt), ((λ e. tt), (tt, ((λ e. tt), (tt, ((λ e. tt), (tt, ((λ e. tt), ((λ e. tt), ((λ e. tt), ((λ e. tt), ((λ e. tt), (tt, ((λ e. tt), (tt, ((λ e. tt), (tt, tt)))))))))))))))))))))))))))))))),
   record { none-there = refl; none-back = refl; none-due = refl; no-gap = refl; no-flow = refl },
@@ -367,3 +374,94 @@ edge-computed = (refl, refl, refl, refl)
 -- and so do any events
 pub edge-frozen : (es : List Event) → alone eight (partWith 4294967295 4294967294) es .card ≡ partWith 4294967295 4294967294 .card
 edge-frozen es = frozen-stays eight (partWith 4294967295 4294967294) es (edge-computed .2)
+
+-- ---- every berth comes free: a node of which each side that is not idle is in another state, A 8, BS 2, STmin 0
+
+abbrev taking : ℕ → Taking
+taking taken = record { total = 8; got = 6; sn = firstSn; taken = taken }
+
+abbrev sending : ℕ → Sending
+sending left = record { length = 8; position = 6; sn = firstSn; block = 0; sent = 0; gap = 128; left = left }
+
+abbrev berthOf : Rx → ℕ → Tx → Berth
+berthOf rx last tx = record { rx = rx; last = last; tx = tx }
+
+abbrev pub stuck : Held
+stuck =
+    record {
+      node = record {
+        settings = record { area = 8; block = 2; stmin = 0 };
+        served = 3;
+        berths =
+            berthOf (Rx.OwesOverflow 999) 5 Tx.Idle ∷ berthOf (Rx.OwesGo (taking 0) 0) 0 (Tx.SingleDue 3 999)
+            ∷ berthOf (Rx.Awaits (taking 1) 400) 0 (Tx.FirstDue 8 0) ∷ berthOf Rx.Idle 8 (Tx.AwaitsFlow (sending 0) 998) ∷ fresh
+            ∷ berthOf Rx.Idle 0 (Tx.Consecutive (sending 0) 500) ∷ berthOf (Rx.Awaits (taking 0) 0) 0 (Tx.Consecutive (sending 128) 0) ∷ fresh ∷ fresh
+            ∷ fresh ∷ [];
+      };
+      incoming = replicate 80 1;
+      outgoing = replicate 80 2;
+      cards = zeroCards;
+    }
+
+pub stuck-sound : Sound stuck
+unfolding inOrder all each settingsAllowed berthInOrder takingInRange sendingInRange inBlock
+stuck-sound = record { order = in-order-range (stuck .node) tt; incoming = refl; outgoing = refl; ten = refl }
+
+pub stuck-free : AllComeFree stuck (answers stuck (replicate mostTime tick)) (final stuck (replicate mostTime tick))
+stuck-free = all-come-free stuck (stuck-sound .order) (stuck-sound .ten) mostTime (lit≤ tt)
+
+-- berth 6 has reported 4 and 2, at ticks 1,000 and 1,128, and its card counts both
+pub stuck-six : (timeLeft (clockAt receive 6 stuck) ≡ 1000) × (endCode (clockAt receive 6 stuck) ≡ N-TIMEOUT-Cr)
+    × (timeLeft (clockAt sendSide 6 stuck) ≡ 1128) × (endCode (clockAt sendSide 6 stuck) ≡ N-TIMEOUT-A)
+    × (cardAfter mostTime (berthAt (stuck .node) 6) zeroCard
+    ≡ record { begun = 0; delivered = 0; failed2 = 0; failed4 = 1; failed5 = 0; failed7 = 0; toolong = 0; sent = 0; unsent = 1 })
+unfolding berthAt cardAfter added frozen tickAdds
+stuck-six = (refl, refl, refl, refl, refl)
+
+-- the others are live: berth 8 hears a single frame, a message is sent to berth 9, and berth 5 has a turn; of these calls the tick alone is
+-- berth 6's own
+abbrev pub live : List Call
+live = frame 0x648 (0x02 ∷ 0xAA ∷ 0xBB ∷ []) ∷ send 9 (1 ∷ 2 ∷ 3 ∷ []) ∷ tick ∷ turn blank ∷ []
+
+live-computed : (answers stuck live
+    ≡ heard 8 0 (Delivered 2) ∷ sent 9
+    ∷ codes (pairOf 2 0 ∷ pairOf 0 2 ∷ replicate 8 (pairOf 0 0))
+    ∷ handed 0x665 (0x21 ∷ 2 ∷ 2 ∷ 0xCC ∷ 0xCC ∷ 0xCC ∷ 0xCC ∷ 0xCC ∷ []) 1 1 ∷ [])
+    × (owns 6 stuck live ≡ ticks ∷ [])
+unfolding
+    owns own ownDone answers done reply outcome refusal needs firstUnmet rightStore rightCards addedAt tickedCards berthAt inOrder all each
+    settingsAllowed berthInOrder takingInRange sendingInRange inBlock afterFrame afterTurn cameAt frameCame byKind kind low heardBy singleCame
+    singleFits withBerth stored tickedNode ticked ran codesOf sentBerth beginsWith passedOver leastDistance distance due reached servedNode
+    handedAt handOver areaOf consecutiveFrame share padded
+live-computed = (refl, refl)
+
+pub live-owned : owns 6 stuck (live ++ replicate 1127 tick) ≡ replicate mostTime ticks
+live-owned =
+    let sound = sound-run stuck live stuck-sound in
+    owns-append 6 stuck live (replicate 1127 tick)
+    ∙ ap₂ (λ (x y : List Event). x ++ y) (live-computed .1) (ticks-owned 6 1127 (final stuck live) (sound .order) (sound .ten))
+
+pub live-free : ComesFree 6 stuck (answers stuck (live ++ replicate 1127 tick)) (final stuck (live ++ replicate 1127 tick))
+live-free = run-comes-free mostTime 6 stuck (live ++ replicate 1127 tick) (stuck-sound .order) (lit< tt) live-owned (lit≤ tt)
+
+-- ---- 1,127 ticks do not suffice: after a set-up a message to berth 6 is under way whose taker asks for 7F, and one consecutive frame of it was
+-- handed over
+
+abbrev pub dip : List Call
+dip = send 6 (take 20 programme) ∷ turn blank ∷ frame 0x646 (0x30 ∷ 0 ∷ 0x7F ∷ []) ∷ turn blank ∷ []
+
+pub dipped-time : timeLeft (clockAt sendSide 6 (final scheduler dip)) ≡ mostTime
+unfolding
+    final outcome done reply refusal needs firstUnmet rightStore rightCards addedAt tickedCards berthAt inOrder all each settingsAllowed
+    berthInOrder sendingInRange inBlock afterFrame afterTurn cameAt frameCame byKind kind low toldBy withBerth stored sentBerth beginsWith
+    passedOver leastDistance distance due reached servedNode handedAt handOver areaOf padded setUpNode flowFits byStatus granted
+    ticksMeant gapOf firstFrame consecutiveFrame counted fillsBlock nextSn share moved afterConsecutive
+dipped-time = refl
+
+pub sharp : (n : ℕ) → n < mostTime → berthAt (final (final scheduler dip) (replicate n tick) .node) 6 .tx ≡ Tx.Idle → ⊥
+sharp n few idle =
+    let dipped = final scheduler dip in
+    let sound = sound-run scheduler dip (may-begin .sound-a) in
+    let left = run-left-alone n 6 dipped (replicate n tick) (sound .order) (lit< tt) (ticks-owned 6 n dipped (sound .order) (sound .ten)) .left sendSide in
+    let none : timeLeft (clockAt sendSide 6 (final dipped (replicate n tick))) ≡ 0 = rw idle in
+    omega (arith, left, none, dipped-time)

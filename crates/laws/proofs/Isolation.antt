@@ -4,7 +4,7 @@ use mathlib.Core.Path.{_≡_, refl, sym, ap, ap₂, _∙_}
 use Prim.Native.Nat.{ℕ, zero, suc, _+_, _-_, _≤_, _<_}
 use native.Mathlib.Omega.{arith}
 use mathlib.Core.Bool.{false}
-use mathlib.Core.List.{List, [], _∷_, _++_, map}
+use mathlib.Core.List.{List, [], _∷_, _++_, map, append-assoc}
 use lib.ListN.{length, getD, set, List·getD-map}
 use lib.Seq.{getD-set-same, getD-set-other}
 use lib.Dec.{T, eqb, ltb, leb}
@@ -224,6 +224,18 @@ settings-step h c = go (refusal h c)
     go (suc n) = refl
 
 -- ---- runs
+
+pub settings-run : (h : Held) (cs : List Call) → final h cs .node .settings ≡ h .node .settings
+unfolding final
+settings-run h [] = refl
+settings-run h (c ∷ cs) = settings-run (outcome h c .held) cs ∙ settings-step h c
+
+pub owns-append : (k : ℕ) (h : Held) (cs ds : List Call) → owns k h (cs ++ ds) ≡ owns k h cs ++ owns k (final h cs) ds
+unfolding owns final
+owns-append k h [] ds = refl
+owns-append k h (c ∷ cs) ds =
+    ap (λ (es : List Event). own k h c ++ es) (owns-append k (outcome h c .held) cs ds)
+    ∙ sym (append-assoc (own k h c) (owns k (outcome h c .held) cs) (owns k (final (outcome h c .held) cs) ds))
 
 pub alone-append : (s : Settings) (p : Part) (es fs : List Event) → alone s p (es ++ fs) ≡ alone s (alone s p es) fs
 unfolding alone

@@ -16,5 +16,6 @@ pub mod Line
 pub mod World
 pub mod Onward
 pub mod Schedule
+pub mod Free
 pub mod Examples
 pub mod Table

@@ -19,6 +19,7 @@ use Rattle.rules.specs.Ticks.{ran, rxTicked, rxCode, closer, txTicked, txCode}
 use Rattle.rules.specs.Turns.{flowDue, messageDue, flowFrame, newBlock, afterFlow, toGo, messageFrame, messageCode, opened, moved, afterConsecutive, afterMessage, beginsWith}
 use Rattle.rules.specs.Answers.{receive, send, Report, reported, wordReports}
 use Rattle.rules.specs.Alone.{hears}
+use Rattle.rules.specs.Clocks.{txClock, gapLeft}
 use Rattle.rules.specs.declared.Settings.{Settings}
 use Rattle.rules.specs.declared.Sn.{Sn}
 use Rattle.rules.specs.declared.Taking.{Taking}
@@ -30,7 +31,7 @@ use Rattle.rules.specs.declared.Word.the-variants.{Delivered, Begun, Going}
 use Rattle.rules.proofs.Cases.{Tested, holds, fails, eqb-cases, ltb-cases, leb-cases, eqb-is, leb-is, leb-not, ltb-not}
 use Rattle.rules.proofs.Order.{fills-cases}
 use Rattle.rules.proofs.Gaps.{gap-small}
-use Rattle.laws.specs.Line.{Handed, there, back, deliveredIn, gapLeft, inBlocks, exchanged}
+use Rattle.laws.specs.Line.{Handed, there, back, deliveredIn, inBlocks, exchanged}
 use Rattle.laws.proofs.Frames.{extended, fills-no, fills-yes, counted-on, snAt, posAt, sn-next, partAt, frameAt, span, span-snoc, singleOf, firstOf, frame-length, frame-kind, frame-low, frame-data, grows, single-length, single-low, single-kind, single-data, single-fits, first-length, first-kind, first-data, first-announced, first-fits, frames-single, frames-long}
 
 -- the sender's side, the taker's side with its area, and the line between them
@@ -720,9 +721,9 @@ module _ (i j : ℕ) (set : Settings) (n : ℕ) (out : List ℕ) (E : List Hande
     pub tx : l .tx ≡ Tx.Idle
     pub rx : l .rx ≡ Rx.Idle
 
-  pub at-rest : (l : Line) (m : ℕ) → Phase l m → l .toR ≡ [] → l .toS ≡ [] → messageDue (l .tx) ≡ false → gapLeft (l .tx) ≡ 0
+  pub at-rest : (l : Line) (m : ℕ) → Phase l m → l .toR ≡ [] → l .toS ≡ [] → messageDue (l .tx) ≡ false → gapLeft (txClock (l .tx)) ≡ 0
       → flowDue (l .rx) ≡ false → Landed l
-  unfolding gapLeft span
+  unfolding span
   at-rest l m (single-ready t last ina a b e) r s due gap flow = let z : _≡_ {A = ℕ} 0 1 = cc in absurd (omega arith)
   at-rest l m (single-sent last ina g a b e) r s due gap flow = absurd (nil≢cons (sym r))
   at-rest l m (first-ready t last ina h a b c e) r s due gap flow = let z : _≡_ {A = ℕ} 0 1 = cc in absurd (omega arith)

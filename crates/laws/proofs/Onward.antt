@@ -1,9 +1,10 @@
 -- In every phase but the last there is something to do that leads nearer: a frame to carry, one to hand over, or, while a gap is left, a
--- tick; and the taker's timer never exceeds the longest gap if frames are carried at once.
-use mathlib.Core.Path.{_≡_, refl, sym, ap, _∙_}
+-- tick; and the taker, unless it is idle, has lost no more of its time than the longest gap if frames are carried at once.
+use mathlib.Core.Path.{_≡_, refl, sym, _∙_, subst}
 use Prim.Native.Nat.{ℕ, zero, suc, _+_, _*_, _≤_, _<_}
 use native.Mathlib.Omega.{arith}
 use mathlib.Core.Bool.{true, false}
+use mathlib.Core.Logic.{_⊎_, inl, inr, ⊎-elim}
 use mathlib.Core.List.{List, [], _∷_, _++_, nil≢cons, head-eq-of-cons-eq}
 use lib.ListN.{length}
 use lib.Dec.{T, eqb, ltb}
@@ -12,48 +13,47 @@ use Rattle.rules.specs.Frames.{fillsBlock}
 use Rattle.rules.specs.Arrivals.{frameCame}
 use Rattle.rules.specs.Ticks.{ran, rxCode, closer, txCode}
 use Rattle.rules.specs.Turns.{flowDue, messageDue, afterFlow}
+use Rattle.rules.specs.Clocks.{rxClock, txClock, timeLeft, gapLeft}
 use Rattle.rules.specs.declared.Settings.{Settings}
 use Rattle.rules.specs.declared.Taking.{Taking}
 use Rattle.rules.specs.declared.Sending.{Sending}
 use Rattle.rules.specs.declared.Rx.{Rx}
 use Rattle.rules.specs.declared.Tx.{Tx}
 use Rattle.rules.proofs.Cases.{Tested, holds, fails, eqb-cases, ltb-is, pick-either}
-use Rattle.laws.specs.Line.{Handed, gapLeft}
+use Rattle.laws.specs.Line.{Handed}
 use Rattle.laws.proofs.Frames.{posAt, span, frameAt}
 use Rattle.laws.proofs.Line.{Line, TakeAt, pace, Phase, single-ready, single-sent, first-ready, first-sent, go-owed, go-sent, in-block, block-full, last-sent, arrived, under-way, all-sent, Nearer, handS, handR, tickS, tickR, tookR, tookS, takerBerth, senderBerth, gap-falls, gap-closes, went, granted-go, took-more, took-last, heard-single, heard-first}
 
--- the timer of a side that awaits, and the gap left of one that sends
-unfoldable pub timer : Rx → ℕ
-timer Rx.Idle = 0
-timer (Rx.OwesOverflow t) = 0
-timer (Rx.OwesGo p t) = 0
-timer (Rx.Awaits p t) = t
+-- a side is idle or has all its time left
+abbrev Whole : Rx → Type 0
+Whole rx = (rx ≡ Rx.Idle) ⊎ (timeLeft (rxClock rx) ≡ timeout)
 
-unfoldable pub gapNow : Tx → ℕ
-gapNow Tx.Idle = 0
-gapNow (Tx.SingleDue n t) = 0
-gapNow (Tx.FirstDue n t) = 0
-gapNow (Tx.AwaitsFlow o t) = 0
-gapNow (Tx.Consecutive o t) = o .left
+-- it is idle or, with so much of a gap still to come, has lost no more of its time than the longest gap leaves
+abbrev Lasts : ℕ → Rx → Type 0
+Lasts gap rx = (rx ≡ Rx.Idle) ⊎ (timeout + gap ≤ timeLeft (rxClock rx) + longestGap)
 
--- with none on the way, the taker's timer has run no longer than the gap's first part
+whole-lasts : (gap : ℕ) (rx : Rx) → gap ≤ longestGap → Whole rx → Lasts gap rx
+whole-lasts gap rx few = ⊎-elim (λ e. inl e) (λ e. inr (omega arith))
+
+awaits-lasts : (gap : ℕ) (p : Taking) (u : ℕ) → Lasts gap (Rx.Awaits p u) → timeout + gap ≤ timeLeft (rxClock (Rx.Awaits p u)) + longestGap
+awaits-lasts gap p u = ⊎-elim (λ e. let z : _≡_ {A = ℕ} 0 1 = cc in absurd (omega arith)) (λ l. l)
+
+-- with none on the way, the taker lasts out the gap
 abbrev pub Young : Line → Type 0
-Young l = l .toR ≡ [] → timer (l .rx) + gapNow (l .tx) ≤ longestGap
+Young l = l .toR ≡ [] → Lasts (gapLeft (txClock (l .tx))) (l .rx)
 
 snoc-some : {X : Type 0} (xs : List X) (x : X) → xs ++ (x ∷ []) ≡ [] → ⊥
 snoc-some [] x e = nil≢cons (sym e)
 snoc-some (y ∷ xs) x e = nil≢cons (sym e)
 
-flow-timer : (rx : Rx) → T (flowDue rx) → timer (afterFlow rx) ≡ 0
-unfolding timer
-flow-timer Rx.Idle t = absurd t
-flow-timer (Rx.OwesOverflow u) t = refl
-flow-timer (Rx.OwesGo p u) t = refl
-flow-timer (Rx.Awaits p u) t = absurd t
+flow-whole : (rx : Rx) → T (flowDue rx) → Whole (afterFlow rx)
+flow-whole Rx.Idle t = absurd t
+flow-whole (Rx.OwesOverflow u) t = inl refl
+flow-whole (Rx.OwesGo p u) t = inr refl
+flow-whole (Rx.Awaits p u) t = absurd t
 
 module _ (i j : ℕ) (set : Settings) (n : ℕ) (out : List ℕ) (E : List Handed) where
-  gap-most : (l : Line) (m : ℕ) → Phase i j set n out E l m → gapNow (l .tx) ≤ longestGap
-  unfolding gapNow
+  gap-most : (l : Line) (m : ℕ) → Phase i j set n out E l m → gapLeft (txClock (l .tx)) ≤ longestGap
   gap-most l m (single-ready t last ina a b e) = omega arith
   gap-most l m (single-sent last ina g a b e) = omega arith
   gap-most l m (first-ready t last ina h a b c e) = omega arith
@@ -66,56 +66,55 @@ module _ (i j : ℕ) (set : Settings) (n : ℕ) (out : List ℕ) (E : List Hande
   gap-most l m (arrived ina g a e) = omega arith
 
   pub young-start : (l : Line) (m : ℕ) → Phase i j set n out E l m → l .rx ≡ Rx.Idle → Young l
-  unfolding timer
-  young-start l m ph e z = rw e (omega (arith, gap-most l m ph))
+  young-start l m ph e z = inl e
 
   pub young-handed : (l : Line) → Young (handS i j set n out E l)
   young-handed l z = absurd (snoc-some (l .toR) _ z)
 
   pub young-flow : (l : Line) (m : ℕ) → Phase i j set n out E l m → T (flowDue (l .rx)) → Young (handR i j set n out E l)
-  young-flow l m ph t z = rw (flow-timer (l .rx) t) (omega (arith, gap-most l m ph))
+  young-flow l m ph t z = whole-lasts (gapLeft (txClock (l .tx))) (afterFlow (l .rx)) (gap-most l m ph) (flow-whole (l .rx) t)
 
   module _ (fit : n ≤ length out) (some : 1 ≤ n) (in-area : n ≤ set .area) (small : set .area ≤ shortMost) where
-    -- a frame of the message that comes in sets the taker's timer to 0
-    timer-more : (l : Line) (q : List (List ℕ)) (p : Taking) (u k : ℕ) → l .rx ≡ Rx.Awaits p u → TakeAt n out p k (l .ina) → posAt (suc k) < n
-        → timer (tookR i j set n out E l q (frameCame set (takerBerth i j set n out E l) (frameAt n out k)) .rx) ≡ 0
-    timer-more l q p u k e r m =
-        ap (λ (x : Line). timer (x .rx)) (took-more i j set n out E fit l q p u k e r m)
-        ∙ pick-either (λ (x : Rx). timer x ≡ 0) (fillsBlock (set .block) (p .taken)) _ _ (λ t. unfold timer in refl) (λ t. unfold timer in refl)
+    -- a frame of the message that comes in gives the taker all its time
+    whole-more : (l : Line) (q : List (List ℕ)) (p : Taking) (u k : ℕ) → l .rx ≡ Rx.Awaits p u → TakeAt n out p k (l .ina) → posAt (suc k) < n
+        → Whole (tookR i j set n out E l q (frameCame set (takerBerth i j set n out E l) (frameAt n out k)) .rx)
+    whole-more l q p u k e r m =
+        subst (λ (x : Line). Whole (x .rx)) (sym (took-more i j set n out E fit l q p u k e r m))
+        (pick-either Whole (fillsBlock (set .block) (p .taken)) _ _ (λ t. inr refl) (λ t. inr refl))
 
-    timer-there : (l : Line) (m : ℕ) (d : List ℕ) (q : List (List ℕ)) → l .toR ≡ d ∷ q → Phase i j set n out E l m
-        → timer (tookR i j set n out E l q (frameCame set (takerBerth i j set n out E l) d) .rx) ≡ 0
+    whole-there : (l : Line) (m : ℕ) (d : List ℕ) (q : List (List ℕ)) → l .toR ≡ d ∷ q → Phase i j set n out E l m
+        → Whole (tookR i j set n out E l q (frameCame set (takerBerth i j set n out E l) d) .rx)
     unfolding span
-    timer-there l m d q z (single-ready t last ina a b e) = absurd (nil≢cons z)
-    timer-there l m d q z (single-sent last ina g a b e) =
-        rw (← (head-eq-of-cons-eq z), heard-single i j set n out E fit some in-area small a last) (unfold tookR timer in refl)
-    timer-there l m d q z (first-ready t last ina h a b c e) = absurd (nil≢cons z)
-    timer-there l m d q z (first-sent o t last ina h g a b c x e) =
-        rw (← (head-eq-of-cons-eq z), heard-first i j set n out E fit some in-area small a last) (unfold tookR timer in refl)
-    timer-there l m d q z (go-owed o t p u last ina f h g a b c e) = absurd (nil≢cons z)
-    timer-there l m d q z (go-sent o t p u last ina f h g a b c x e) = absurd (nil≢cons z)
-    timer-there l m d q z (in-block o t r p u last ina f zero h g s) = absurd (nil≢cons (sym (s .queued) ∙ z))
-    timer-there l m d q z (in-block o t r p u last ina f (suc c) h g s) =
+    whole-there l m d q z (single-ready t last ina a b e) = absurd (nil≢cons z)
+    whole-there l m d q z (single-sent last ina g a b e) =
+        rw (← (head-eq-of-cons-eq z), heard-single i j set n out E fit some in-area small a last) (unfold tookR in (inl refl))
+    whole-there l m d q z (first-ready t last ina h a b c e) = absurd (nil≢cons z)
+    whole-there l m d q z (first-sent o t last ina h g a b c x e) =
+        rw (← (head-eq-of-cons-eq z), heard-first i j set n out E fit some in-area small a last) (unfold tookR in (inr refl))
+    whole-there l m d q z (go-owed o t p u last ina f h g a b c e) = absurd (nil≢cons z)
+    whole-there l m d q z (go-sent o t p u last ina f h g a b c x e) = absurd (nil≢cons z)
+    whole-there l m d q z (in-block o t r p u last ina f zero h g s) = absurd (nil≢cons (sym (s .queued) ∙ z))
+    whole-there l m d q z (in-block o t r p u last ina f (suc c) h g s) =
         rw (← (head-eq-of-cons-eq (sym (s .queued) ∙ z)))
-        (timer-more (under-way i j set n out E (Tx.Consecutive o t) r [] g (Rx.Awaits p u) last ina) q p u f refl (s .taker) (unfold posAt in (omega (arith, s .sender .more))))
-    timer-there l m d q z (block-full o t r p u last ina f c h g s) =
+        (whole-more (under-way i j set n out E (Tx.Consecutive o t) r [] g (Rx.Awaits p u) last ina) q p u f refl (s .taker) (unfold posAt in (omega (arith, s .sender .more))))
+    whole-there l m d q z (block-full o t r p u last ina f c h g s) =
         rw (← (head-eq-of-cons-eq (sym (s .queued) ∙ z)))
-        (timer-more (under-way i j set n out E (Tx.AwaitsFlow o t) r [] g (Rx.Awaits p u) last ina) q p u f refl (s .taker) (unfold posAt in (omega (arith, s .sender .more))))
-    timer-there l m d q z (last-sent r p u last ina f zero g s) =
+        (whole-more (under-way i j set n out E (Tx.AwaitsFlow o t) r [] g (Rx.Awaits p u) last ina) q p u f refl (s .taker) (unfold posAt in (omega (arith, s .sender .more))))
+    whole-there l m d q z (last-sent r p u last ina f zero g s) =
         rw (← (head-eq-of-cons-eq (sym (s .queued) ∙ z)))
-        (ap (λ (x : Line). timer (x .rx)) (took-last i j set n out E fit (all-sent i j set n out E r g (Rx.Awaits p u) last ina) q p u f refl (s .taker) (unfold posAt in (omega (arith, s .ahead .last))))
-        ∙ unfold timer in refl)
-    timer-there l m d q z (last-sent r p u last ina f (suc c) g s) =
+        (subst (λ (x : Line). Whole (x .rx))
+        (sym (took-last i j set n out E fit (all-sent i j set n out E r g (Rx.Awaits p u) last ina) q p u f refl (s .taker) (unfold posAt in (omega (arith, s .ahead .last)))))
+        (inl refl))
+    whole-there l m d q z (last-sent r p u last ina f (suc c) g s) =
         rw (← (head-eq-of-cons-eq (sym (s .queued) ∙ z)))
-        (timer-more (all-sent i j set n out E r g (Rx.Awaits p u) last ina) q p u f refl (s .taker) (unfold posAt in (omega (arith, s .ahead .more))))
-    timer-there l m d q z (arrived ina g a e) = absurd (nil≢cons z)
+        (whole-more (all-sent i j set n out E r g (Rx.Awaits p u) last ina) q p u f refl (s .taker) (unfold posAt in (omega (arith, s .ahead .more))))
+    whole-there l m d q z (arrived ina g a e) = absurd (nil≢cons z)
 
     pub young-there : (l : Line) (m : ℕ) (d : List ℕ) (q : List (List ℕ)) → l .toR ≡ d ∷ q → Phase i j set n out E l m
         → Young (tookR i j set n out E l q (frameCame set (takerBerth i j set n out E l) d))
     young-there l m d q e ph z =
-        let t = timer-there l m d q e ph in
         let same : tookR i j set n out E l q (frameCame set (takerBerth i j set n out E l) d) .tx ≡ l .tx = unfold tookR in refl in
-        omega (arith, gap-most l m ph, ap gapNow same)
+        whole-lasts _ _ (rw same (gap-most l m ph)) (whole-there l m d q e ph)
 
     pub young-back : (setS : Settings) (l : Line) (m : ℕ) (d : List ℕ) (q : List (List ℕ)) → l .toS ≡ d ∷ q → Phase i j set n out E l m → Young l
         → Young (tookS i j set n out E l q (frameCame setS (senderBerth i j set n out E l) d))
@@ -127,7 +126,7 @@ module _ (i j : ℕ) (set : Settings) (n : ℕ) (out : List ℕ) (E : List Hande
     young-back setS l m d q z (go-sent o t p u last ina f h g a b c x e) y =
         let (r, s, v, left) = granted-go i j set n out E o in
         rw (← (head-eq-of-cons-eq z), went i j set n out E setS o t)
-        (unfold tookS timer gapNow in (λ w. let k : u + 0 ≤ longestGap = unfold timer gapNow in (y refl) in omega arith))
+        (unfold tookS in (λ w. inr (omega (arith, awaits-lasts 0 p u (y refl)))))
     young-back setS l m d q z (in-block o t r p u last ina f c h g s) y = absurd (nil≢cons z)
     young-back setS l m d q z (block-full o t r p u last ina f c h g s) y = absurd (nil≢cons z)
     young-back setS l m d q z (last-sent r p u last ina f c g s) y = absurd (nil≢cons z)
@@ -142,7 +141,7 @@ module _ (i j : ℕ) (set : Settings) (n : ℕ) (out : List ℕ) (E : List Hande
       hand-flow : T (flowDue (l .rx)) → Next l m
       wait : txCode (l .tx) ≡ 0 → rxCode (l .rx) ≡ 0 → Nearer i j set n out E m (tickR i j set n out E (tickS i j set n out E l))
           → Young (tickR i j set n out E (tickS i j set n out E l)) → Next l m
-      at-end : l .toR ≡ [] → l .toS ≡ [] → messageDue (l .tx) ≡ false → gapLeft (l .tx) ≡ 0 → flowDue (l .rx) ≡ false → Next l m
+      at-end : l .toR ≡ [] → l .toS ≡ [] → messageDue (l .tx) ≡ false → gapLeft (txClock (l .tx)) ≡ 0 → flowDue (l .rx) ≡ false → Next l m
 
     waits : (o : Sending) (t : ℕ) (q : List (List ℕ)) (p : Taking) (u last : ℕ) (ina : List ℕ) (k l m : ℕ) (g : List Handed) → q ≡ []
         → (o .left ≡ 0 → ⊥) → eqb (o .left) 0 ≡ false → Young (under-way i j set n out E (Tx.Consecutive o t) q [] g (Rx.Awaits p u) last ina)
@@ -151,12 +150,12 @@ module _ (i j : ℕ) (set : Settings) (n : ℕ) (out : List ℕ) (E : List Hande
         → Next (under-way i j set n out E (Tx.Consecutive o t) q [] g (Rx.Awaits p u) last ina) m′
     unfolding ran
     waits o t q p u last ina k l m g empty ne left young ph m′ less =
-        let y : u + o .left ≤ longestGap = unfold timer gapNow in (young empty) in
-        let short : ltb (u + 1) timeout ≡ true = ltb-is (u + 1) timeout (omega arith) in
-        wait (rw left) (rw short) (rw (left, short) (m, less, ph)) (rw (left, short) (λ z. unfold timer gapNow in (omega (arith, gap-falls i j set n out E o))))
+        let lasts = awaits-lasts (o .left) p u (young empty) in
+        let short : ltb (u + 1) timeout ≡ true = ltb-is (u + 1) timeout (omega (arith, lasts)) in
+        wait (rw left) (rw short) (rw (left, short) (m, less, ph)) (rw (left, short) (λ z. inr (omega (arith, lasts, gap-falls i j set n out E o))))
 
     pub next : (l : Line) (m : ℕ) → Phase i j set n out E l m → Young l → Next l m
-    unfolding span gapLeft
+    unfolding span
     next l m (single-ready t last ina a b e) y = hand-message tt
     next l m (single-sent last ina g a b e) y = bring-there _ _ refl
     next l m (first-ready t last ina h a b c e) y = hand-message tt

@@ -32,7 +32,7 @@ use Rattle.laws.specs.Line.{Handed, World, leftA, leftB, callA, callB, c
 use Rattle.laws.proofs.Isolation.{settings-step, part-step}
 use Rattle.laws.proofs.SetUp.{sound-step}
 use Rattle.laws.proofs.Round.{some-reached, nearer}
-use Rattle.laws.proofs.Touch.{SparedBy, TurnOf, whole-heard, own-is, held-is, own-k, turn-of-side, turn-of-other, other-berth, touch-tick, none-delivered, all-met}
+use Rattle.laws.proofs.Touch.{SparedBy, TurnOf, whole-heard, own-is, held-is, own-k, turn-of-side, turn-of-other, other-berth, touch-tick, none-delivered, all-met, tick-met}
 use Rattle.laws.proofs.Line.{Line, Phase, Nearer, tickS, tickR, hands-S, hands-R, there-whole, back-whole}
 use Rattle.laws.proofs.World.{lineIn, Alive, after-A, after-B, alive-carriedA, alive-carriedB, spared-A, tick-A, turn-A, spared-B, tick-B, turn-B, took-A, took-B, outA, setB, expected, fit-a, small-b, begun-alive, line-law}
 use Rattle.laws.proofs.Onward.{Young, young-start, young-handed, young-flow, young-there, young-back, Next, bring-there, bring-back, hand-message, hand-flow, wait, at-end, next}
@@ -42,10 +42,6 @@ use Rattle.laws.proofs.Onward.{Young, young-start, young-handed, young-
 turn-met : (h : Held) → Sound h → refusal h (turn blank) ≡ 0
 unfolding refusal needs rightStore rightCards
 turn-met h s = all-met (needs h (turn blank)) (range-in-order (h .node) (s .order), (yes-eqb (s .outgoing), (yes-eqb (s .ten), (tt, tt))))
-
-tick-met : (h : Held) → Sound h → refusal h tick ≡ 0
-unfolding refusal needs rightCards
-tick-met h s = all-met (needs h tick) (range-in-order (h .node) (s .order), (yes-eqb (s .ten), tt))
 
 -- ---- how long side s of berth k has to wait for its turn: the berths before it, and ten more if the other side goes first
 
@@ -264,9 +260,9 @@ module _ (i j : ℕ) (small-i : i < berthCount) (small-j : j < berthCount) (set 
   unfolding leftA leftB
   onto-tick w s za zb near young =
       let v : World = callA i w tick in
-      let (x, line-a, o) = tick-A i j small-i small-j set n out E w tick (s .kept) (touch-tick i (w .a) sendSide (tick-met (w .a) (s .sound-a)) (code-A w za)) in
+      let (x, line-a, o) = tick-A i j small-i small-j set n out E w tick (s .kept) (touch-tick i (w .a) sendSide (tick-met (w .a) (s .sound-a .order) (s .sound-a .ten)) (code-A w za)) in
       let none = none-delivered j (w .b) (s .sound-b) small-j tick (λ e. code-B w zb) in
-      let (y, line-b) = tick-B i j small-i small-j set n out E (callA i w tick) tick none (touch-tick j (w .b) receive (tick-met (w .b) (s .sound-b)) (code-B w zb)) in
+      let (y, line-b) = tick-B i j small-i small-j set n out E (callA i w tick) tick none (touch-tick j (w .b) receive (tick-met (w .b) (s .sound-b .order) (s .sound-b .ten)) (code-B w zb)) in
       let line : lineIn i j (ticked-both w) ≡ tickR i j set n out E (tickS i j set n out E (lineIn i j w)) = line-b ∙ ap (tickR i j set n out E) line-a in
       let (m, h, ph) = near in
       record {

@@ -40,7 +40,7 @@ lengths-done h (turn buffer) = pick-either (SameLengths h) (ltb (passedOver (h .
     (λ t. (refl, refl, added-at-length (h .cards) (reached (h .node)) _)) (λ t. (refl, refl, refl))
 lengths-done h (show k choice) = (refl, refl, refl)
 
-lengths-step : (h : Held) (c : Call) → SameLengths h (outcome h c .held)
+pub lengths-step : (h : Held) (c : Call) → SameLengths h (outcome h c .held)
 unfolding outcome refusedOutcome
 lengths-step h c = go (refusal h c)
   where
@@ -48,6 +48,11 @@ lengths-step h c = go (refusal h c)
         → SameLengths h (unless n (refusedOutcome h (bufferOf c)) (record { answer = reply h c; held = done h c; buffer = written h c }) .held)
     go zero = lengths-done h c
     go (suc n) = (refl, refl, refl)
+
+pub ten-run : (h : Held) (cs : List Call) → length (final h cs .cards) ≡ length (h .cards)
+unfolding final
+ten-run h [] = refl
+ten-run h (c ∷ cs) = ten-run (outcome h c .held) cs ∙ lengths-step h c .2
 
 pub sound-step : (h : Held) (c : Call) → Sound h → Sound (outcome h c .held)
 sound-step h c s =

@@ -19,6 +19,7 @@ use Rattle.rules.specs.Answers.{Side, receive, send, Report, reported, failedSi
 use Rattle.rules.specs.Cards.{zeroCard}
 use Rattle.rules.specs.Events.{Event, arrives, ticks, sends, turns}
 use Rattle.rules.specs.Alone.{Part, Says, hears, hands, stateAfter, partAfter, says, alone, saysAll}
+use Rattle.rules.specs.Clocks.{tickCode}
 use Rattle.rules.specs.declared.Settings.{Settings}
 use Rattle.rules.specs.declared.Rx.{Rx}
 use Rattle.rules.specs.declared.Tx.{Tx}
@@ -67,7 +68,7 @@ came-send set b (x ∷ d) e = rw (eqb-not (length (x ∷ d)) 0 (λ z. omega arit
 
 -- ---- the reports of a frame are those of the side it is for
 
-of-side-append : (s : Side) (rs qs : List Report) → ofSide s (rs ++ qs) ≡ ofSide s rs ++ ofSide s qs
+pub of-side-append : (s : Side) (rs qs : List Report) → ofSide s (rs ++ qs) ≡ ofSide s rs ++ ofSide s qs
 unfolding ofSide
 of-side-append s rs qs = only-append (λ r. sameSide s (r .side)) rs qs
 
@@ -100,6 +101,17 @@ module _ (k : ℕ) where
       go : (t : Bool) → pick t rs [] ++ pick t qs [] ≡ pick t (rs ++ qs) []
       go true = refl
       go false = refl
+
+  -- of a tick's reports each side has its own code
+  pub tick-reported : (b : Berth) (s : Side) → ofSide s (reported k receive (rxCode (b .rx)) ++ reported k send (txCode (b .tx))) ≡ reported k s (tickCode s b)
+  tick-reported b s =
+      of-side-append s (reported k receive (rxCode (b .rx))) (reported k send (txCode (b .tx)))
+      ∙ ap₂ (λ (x y : List Report). x ++ y) (reported-all receive (rxCode (b .rx)) s) (reported-all send (txCode (b .tx)) s)
+      ∙ go s
+    where
+      go : (s : Side) → pick (sameSide s receive) (reported k receive (rxCode (b .rx))) [] ++ pick (sameSide s send) (reported k send (txCode (b .tx))) [] ≡ reported k s (tickCode s b)
+      go receive = append-nil _
+      go send = refl
 
   abbrev HeardAll : Heard → Type 0
   HeardAll h = AllOf receive (wordReports k (h .word))
@@ -308,14 +320,8 @@ module _ (set : Settings) where
           ≡ over (saidReports k) (map (λ x. hears (frameCame set (p .berth) d .old) (frameCame set (p .berth) d .word)) (pick b (arrives d ∷ []) []))
       go true = sym (append-nil rs)
       go false = refl
-  side-reported k receive p ticks =
-      of-side-append receive (reported k receive (rxCode (p .berth .rx))) (reported k send (txCode (p .berth .tx)))
-      ∙ ap₂ (λ (x y : List Report). x ++ y) (reported-all k receive (rxCode (p .berth .rx)) receive) (reported-all k send (txCode (p .berth .tx)) receive)
-      ∙ unfold reported in (sym (append-nil _))
-  side-reported k send p ticks =
-      of-side-append send (reported k receive (rxCode (p .berth .rx))) (reported k send (txCode (p .berth .tx)))
-      ∙ ap₂ (λ (x y : List Report). x ++ y) (reported-all k receive (rxCode (p .berth .rx)) send) (reported-all k send (txCode (p .berth .tx)) send)
-      ∙ unfold reported in (sym (append-nil _))
+  side-reported k receive p ticks = tick-reported k (p .berth) receive ∙ unfold reported in (sym (append-nil _ ∙ append-nil _))
+  side-reported k send p ticks = tick-reported k (p .berth) send ∙ unfold reported in (sym (append-nil _))
   side-reported k receive p (sends m) = unfold ofSide only in refl
   side-reported k send p (sends m) = unfold ofSide only in refl
   side-reported k s p turns = unfold handOver turnSide in (go s (flowDue (p .berth .rx)) refl)

@@ -13,7 +13,7 @@ use mir.Facts.{eqb-yes, yes-eqb, yes-leb, yes-and}
 use Rattle.rules.specs.Tests.{pick, Need, firstUnmet}
 use Rattle.rules.specs.Numbers.{berthCount, fromBerth, frameSize, mostData, singleKind, firstKind, consecutiveKind, flowKind, shortMost}
 use Rattle.rules.specs.Nodes.{berthAt, Held}
-use Rattle.rules.specs.Ranges.{BerthRange}
+use Rattle.rules.specs.Ranges.{BerthRange, InOrder}
 use Rattle.rules.specs.Frames.{kind, singleFits, announced, firstFits}
 use Rattle.rules.specs.Arrivals.{Heard, Told, Came, ignored, singleCame, firstCame, aboveArea, turnedAway, begun, completed, took, wrongSn, consecutiveCame, flowIgnored, flowCame, heardBy, toldBy, byKind, frameCame}
 use Rattle.rules.specs.Turns.{flowDue, due, handOver}
@@ -24,6 +24,7 @@ use Rattle.rules.specs.Events.{Call, frame, tick, send, turn, show, senderOf, E
 use Rattle.rules.specs.Refusals.{needs, refusal}
 use Rattle.rules.specs.Calls.{done, reply, refusedOutcome, outcome}
 use Rattle.rules.specs.Alone.{Part, partOf, hears, stateAfter, partAfter, says, alone, saysAll}
+use Rattle.rules.specs.Clocks.{tickCode}
 use Rattle.rules.specs.declared.Settings.{Settings}
 use Rattle.rules.specs.declared.Rx.{Rx}
 use Rattle.rules.specs.declared.Tx.{Tx}
@@ -37,7 +38,7 @@ use Rattle.rules.proofs.Facts.{frame-either, told-either, ignored-leaves, conse
 use Rattle.rules.proofs.Handed.{dueKind, flow-kind, message-kind}
 use Rattle.laws.specs.Own.{over, only, ownDone, own, saysOf, saidReports, Sound}
 use Rattle.laws.specs.Sides.{sameSide, uncounted, sideOf, frameSide, turnSide, forSide, sideEvents, ofSide, handedIn, handedSide, framesBy}
-use Rattle.laws.specs.Line.{reportsBy, deliveredIn, isIgnored, tickCode, spares, Spares}
+use Rattle.laws.specs.Line.{reportsBy, deliveredIn, isIgnored, spares, Spares}
 use Rattle.laws.proofs.Isolation.{said-to, part-step, says-step}
 use Rattle.laws.proofs.Reports.{reports-of}
 use Rattle.laws.proofs.Sides.{cameWithTx, came-receive, came-send, side-uncounted, uncounted-side, uncounted-after, side-alone, side-reports}
@@ -167,6 +168,11 @@ pub all-met : (ns : List Need) → AllMet ns → firstUnmet ns ≡ 0
 unfolding firstUnmet
 all-met [] t = refl
 all-met (n ∷ ns) t = rw (is-true (n .met) (t .0)) (all-met ns (t .1))
+
+-- a tick is answered where the node is in order and the list is ten long, whatever the stores
+pub tick-met : (h : Held) → InOrder (h .node) → length (h .cards) ≡ berthCount → refusal h tick ≡ 0
+unfolding refusal needs rightCards
+tick-met h order ten = all-met (needs h tick) (range-in-order (h .node) order, (yes-eqb ten, tt))
 
 -- ---- the events of a side in one call
 

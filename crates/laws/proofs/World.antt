@@ -24,6 +24,7 @@ use Rattle.rules.specs.Events.{Call, frame, send, arrives, ticks, sends, turns}
 use Rattle.rules.specs.Refusals.{needs, refusal, setUpRefusal}
 use Rattle.rules.specs.Calls.{refusedOutcome, outcome}
 use Rattle.rules.specs.Alone.{Part, partOf, hears, stateAfter, partAfter, says, alone}
+use Rattle.rules.specs.Clocks.{tickCode}
 use Rattle.rules.specs.declared.Settings.{Settings}
 use Rattle.rules.specs.declared.Choice.{Choice}
 use Rattle.rules.specs.declared.Rx.{Rx}
@@ -35,7 +36,7 @@ use Rattle.rules.proofs.Ranges.{range-in-order}
 use Rattle.rules.proofs.Facts.{set-up-refusal-leaves}
 use Rattle.laws.specs.Own.{over, only, ofBerth, ownDone, own, saysOf, saidReports, partShown, Sound}
 use Rattle.laws.specs.Sides.{sideOf, frameSide, ofSide, handedIn, framesBy}
-use Rattle.laws.specs.Line.{Handed, there, back, World, endA, endB, reportsBy, deliveredIn, leftA, leftB, callA, callB, carriedA, carriedB, Deed, atA, atB, setUpA, setUpB, carryA, carryB, acts, living, tickCode, Spares, Apart, AllApart, AtRest, exchanged, thereOf, backOf, blocks, begin, MayBegin, Arrived}
+use Rattle.laws.specs.Line.{Handed, there, back, World, endA, endB, reportsBy, deliveredIn, leftA, leftB, callA, callB, carriedA, carriedB, Deed, atA, atB, setUpA, setUpB, carryA, carryB, acts, living, Spares, Apart, AllApart, AtRest, exchanged, thereOf, backOf, blocks, begin, MayBegin, Arrived}
 use Rattle.laws.proofs.Isolation.{settings-step, part-step}
 use Rattle.laws.proofs.Reports.{berth-shown}
 use Rattle.laws.proofs.SetUp.{sound-step}

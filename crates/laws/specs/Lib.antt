@@ -6,3 +6,4 @@ pub mod Gaps
 pub mod Rounds
 pub mod Sides
 pub mod Line
+pub mod Free

@@ -10,7 +10,6 @@ use Rattle.rules.specs.Tests.{pick}
 use Rattle.rules.specs.Numbers.{berthCount, fromBerth, frameSize, N-OK}
 use Rattle.rules.specs.Nodes.{berthAt, Held}
 use Rattle.rules.specs.Frames.{counted, fillsBlock, goFrame, roundedUp, framesOf}
-use Rattle.rules.specs.Ticks.{rxCode, txCode}
 use Rattle.rules.specs.Turns.{flowDue, messageDue}
 use Rattle.rules.specs.Stores.{areaOf, cameAt}
 use Rattle.rules.specs.Answers.{Answer, Side, receive, send as sendSide, Report, reports}
@@ -18,11 +17,11 @@ use Rattle.rules.specs.Events.{Call, frame, tick, send, turn, show, senderOf}
 use Rattle.rules.specs.Refusals.{refusal, setUpRefusal}
 use Rattle.rules.specs.Calls.{Outcome, outcome, setUpOutcome, showing}
 use Rattle.rules.specs.Alone.{Says, hears, expires, accepts, hands}
+use Rattle.rules.specs.Clocks.{txClock, gapLeft, tickCode}
 use Rattle.rules.specs.declared.Settings.{Settings}
 use Rattle.rules.specs.declared.Choice.{Choice}
 use Rattle.rules.specs.declared.Rx.{Rx}
 use Rattle.rules.specs.declared.Tx.{Tx}
-use Rattle.rules.specs.declared.Berth.{Berth}
 use Rattle.rules.specs.declared.Word.{Word}
 use Rattle.rules.specs.declared.Word.the-variants.{Delivered, Begun, Failed, Ignored, TooLong, Took, Going, Waiting}
 use Rattle.laws.specs.Own.{over, saysOf, ofBerth, Sound}
@@ -139,11 +138,6 @@ isIgnored Took = false
 isIgnored Going = false
 isIgnored Waiting = false
 
--- the code that a tick has for a side
-abbrev pub tickCode : Side → Berth → ℕ
-tickCode receive b = rxCode (b .rx)
-tickCode sendSide b = txCode (b .tx)
-
 -- an answered call spares side s of berth k: a frame is another berth's, or ignored, or for the other side; a send is to another
 -- berth or s is the receive side; a tick ends no timer of s. Turns and shows are free.
 unfoldable pub spares : Side → ℕ → Held → Call → Bool
@@ -172,18 +166,11 @@ AllApart i j w (d ∷ ds) = Apart i j w d × AllApart i j (acts i j w d) ds
 
 -- ---- none is on the way, and neither side has one due or a gap left
 
-unfoldable pub gapLeft : Tx → ℕ
-gapLeft Tx.Idle = 0
-gapLeft (Tx.SingleDue n t) = 0
-gapLeft (Tx.FirstDue n t) = 0
-gapLeft (Tx.AwaitsFlow o t) = o .left
-gapLeft (Tx.Consecutive o t) = o .left
-
 pub record AtRest (i j : ℕ) (w : World) : Type 0 where
   pub none-there : w .toB ≡ []
   pub none-back : w .toA ≡ []
   pub none-due : messageDue (berthAt (w .a .node) i .tx) ≡ false
-  pub no-gap : gapLeft (berthAt (w .a .node) i .tx) ≡ 0
+  pub no-gap : gapLeft (txClock (berthAt (w .a .node) i .tx)) ≡ 0
   pub no-flow : flowDue (berthAt (w .b .node) j .rx) ≡ false
 
 -- ---- what is handed over both ways: one go after the first frame, and one after each full block with frames still to come

@@ -14,5 +14,6 @@ pub mod Pace
 pub mod Answers
 pub mod Cards
 pub mod Even
+pub mod Clocks
 pub mod Needed
 pub mod Edges

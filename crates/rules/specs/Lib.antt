@@ -14,6 +14,7 @@ pub mod Cards
 pub mod Refusals
 pub mod Calls
 pub mod Alone
+pub mod Clocks
 pub mod Handing
 pub mod Table
 pub mod Edges

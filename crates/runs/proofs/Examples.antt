@@ -1,35 +1,37 @@
 -- Chains that meet the premises of the laws of the code's runs, and poor nodes that are no run, computed.
-use Prim.Native.Nat.{ℕ}
+use Prim.Native.Nat.{ℕ, _<_}
 use native.Mathlib.Omega.{arith}
-use mathlib.Core.Path.{_≡_, refl, sym, ap, subst}
+use mathlib.Core.Path.{_≡_, refl, sym, ap, _∙_, subst}
 use mathlib.Core.List.{List, [], _∷_, _++_}
 use lib.ListN.{getD, replicate}
-use lib.Dec.{lit<}
+use lib.Dec.{lit<, lit≤}
 use Rattle.rules.specs.Tests.{all, each, firstUnmet}
 use Rattle.rules.specs.Nodes.{berthAt, withBerth, Held, blankNode, withNode}
 use Rattle.rules.specs.Ranges.{settingsAllowed, inBlock, takingInRange, berthInOrder, inOrder}
 use Rattle.rules.specs.Frames.{kind, low, singleFits, shortLength, escapeLength, announced, firstFits, consecutiveFits, share}
 use Rattle.rules.specs.Arrivals.{singleCame, begun, firstCame, piece, completed, awaitedCame, heardBy, byKind, frameCame}
 use Rattle.rules.specs.Turns.{due, handOver, beginsWith, sent as sentBerth}
-use Rattle.rules.specs.Events.{Call, frame, tick, send, turn, ticks, arrives, sends}
+use Rattle.rules.specs.Events.{Call, frame, tick, send, turn, Event, ticks, arrives, sends}
 use Rattle.rules.specs.Stores.{rightStore, areaOf, stored, servedNode, setUpNode, distance, leastDistance, passedOver, reached, cameAt, handedAt}
 use Rattle.rules.specs.Answers.{refused}
 use Rattle.rules.specs.Cards.{rightCards, addedAt}
 use Rattle.rules.specs.Refusals.{needs, refusal, setUpRefusal}
 use Rattle.rules.specs.Calls.{Outcome, afterFrame, afterTurn, done, outcome, setUpOutcome, final}
 use Rattle.rules.specs.Alone.{partOf, stateAfter, partAfter, says, hears}
+use Rattle.rules.specs.Clocks.{mostTime}
 use Rattle.rules.specs.declared.Word.the-variants.{Delivered}
 use Rattle.rules.specs.declared.Settings.{Settings}
 use Rattle.rules.specs.declared.Tx.{Tx}
-use Rattle.laws.specs.Own.{ownDone, own, over, saysOf}
+use Rattle.laws.specs.Own.{ownDone, own, owns, over, saysOf}
 use Rattle.laws.specs.Histories.{Moment, moments, historyOf}
 use Rattle.laws.specs.Cards.{zeroCards, TalliesAt}
 use Rattle.laws.specs.Gaps.{TwoFrames, Spaced}
+use Rattle.laws.specs.Free.{ComesFree, AllComeFree}
 use Rattle.laws.specs.Rounds.{turnOf, StaysDue, Fair}
 use Rattle.laws.specs.Line.{blank}
-use Rattle.laws.proofs.Examples.{two, twoRun, afresh-computed, afresh-cards, crowd, crowdRun, crowd-computed, scheduler, toSix, sixFrames}
-use Rattle.runs.specs.Chains.{Made, AfterSetUp, madeOf, saidBy, leftBy, DueIn, historyIn, EachAlone}
-use Rattle.runs.proofs.Runs.{chain-fair, chain-alone-after-set-up, chain-tallies-after-set-up, chain-spaced}
+use Rattle.laws.proofs.Examples.{two, twoRun, afresh-computed, afresh-cards, crowd, crowdRun, crowd-computed, scheduler, toSix, sixFrames, stuck, stuck-sound, live, live-owned, dip, sharp}
+use Rattle.runs.specs.Chains.{Made, AfterSetUp, madeOf, callsOf, saidBy, leftBy, ownIn, DueIn, historyIn, EachAlone}
+use Rattle.runs.proofs.Runs.{chain-leaves, chain-fair, chain-alone-after-set-up, chain-tallies-after-set-up, chain-spaced, chain-comes-free, chain-all-come-free, chain-free-after-set-up}
 use Rattle.runs.proofs.Every.{every-chain, every-after-set-up}
 use Rattle.runs.proofs.PoorNodes.{one-more, refusing-again, idle-again-timers, idle-again-message, counting-again, fixed-again, fixed-again-bytes}
 
@@ -76,6 +78,49 @@ framesHere = subst TwoFrames (sym (told-made 6 scheduler toSix)) sixFrames
 
 pub spaced-here : Spaced framesHere
 spaced-here = chain-spaced 6 scheduler (madeOf scheduler toSix) (every-chain scheduler toSix) framesHere
+
+-- ---- every berth comes free: the node of which each side is in another state, and berth 6 of it while the others are live
+
+calls-made : (h : Held) (cs : List Call) → callsOf (madeOf h cs) ≡ cs
+unfolding madeOf
+calls-made h [] = refl
+calls-made h (c ∷ cs) = ap (λ (ds : List Call). c ∷ ds) (calls-made (outcome h c .held) cs)
+
+owned-made : (k : ℕ) (h : Held) (cs : List Call) → ownIn k h (madeOf h cs) ≡ owns k h cs
+unfolding ownIn owns madeOf
+owned-made k h [] = refl
+owned-made k h (c ∷ cs) = ap (λ (es : List Event). own k h c ++ es) (owned-made k (outcome h c .held) cs)
+
+abbrev ticking : Held → List Made
+ticking h = madeOf h (replicate mostTime tick)
+
+pub free-here : AllComeFree stuck (saidBy (ticking stuck)) (leftBy stuck (ticking stuck))
+free-here =
+    chain-all-come-free stuck (ticking stuck) (every-chain stuck (replicate mostTime tick)) (stuck-sound .order) (stuck-sound .ten) mostTime (lit≤ tt)
+    (calls-made stuck (replicate mostTime tick))
+
+pub left-alone-here : ComesFree 6 stuck (saidBy (madeOf stuck (live ++ replicate 1127 tick))) (leftBy stuck (madeOf stuck (live ++ replicate 1127 tick)))
+left-alone-here =
+    chain-comes-free mostTime 6 stuck (madeOf stuck (live ++ replicate 1127 tick)) (every-chain stuck (live ++ replicate 1127 tick)) (stuck-sound .order) (lit< tt)
+    (owned-made 6 stuck (live ++ replicate 1127 tick) ∙ live-owned) (lit≤ tt)
+
+-- after the run of eight calls after a set-up
+abbrev afterTwo : Held
+afterTwo = leftBy start (madeOf start twoRun)
+
+pub free-after-set-up-here : AllComeFree afterTwo (saidBy (ticking afterTwo)) (leftBy afterTwo (ticking afterTwo))
+free-after-set-up-here =
+    chain-free-after-set-up two (two .node .settings) (setUpNode (two .node .settings)) (madeOf start twoRun)
+    (every-after-set-up two (two .node .settings) twoRun (afresh-computed .0)) refl (ticking afterTwo) (every-chain afterTwo (replicate mostTime tick))
+    (calls-made afterTwo (replicate mostTime tick))
+
+-- and ticks that do not suffice
+pub not-free-here : (n : ℕ) → n < mostTime
+    → berthAt (leftBy (final scheduler dip) (madeOf (final scheduler dip) (replicate n tick)) .node) 6 .tx ≡ Tx.Idle → ⊥
+not-free-here n few idle =
+    let dipped = final scheduler dip in
+    let same = chain-leaves dipped (madeOf dipped (replicate n tick)) (every-chain dipped (replicate n tick)) ∙ ap (final dipped) (calls-made dipped (replicate n tick)) in
+    sharp n few (ap (λ (g : Held). berthAt (g .node) 6 .tx) (sym same) ∙ idle)
 
 -- ---- poor nodes after a set-up with A 8, BS 0, STmin 0, of a node that no set-up had filled, with stores and cards of zeros
 

@@ -1,33 +1,40 @@
 -- A chain of the code's calls is a run of the rules: each call's promise says that it left the rule's outcome, so by induction the chain
 -- says `answers` and leaves `final`, and what the laws say of these holds of the chain.
-use Prim.Native.Nat.{ℕ, zero, suc, _<_}
+use Prim.Native.Nat.{ℕ, zero, suc, _≤_, _<_}
 use mathlib.Core.Path.{_≡_, refl, sym, ap, ap₂, _∙_, subst}
 use mathlib.Core.Bool.{true, false}
 use mathlib.Core.List.{List, [], _∷_, _++_, map}
+use lib.ListN.{length, replicate}
+use lib.Dec.{lit≤}
 use Rattle.rules.specs.Tests.{unless}
 use Rattle.rules.specs.Numbers.{berthCount}
 use Rattle.rules.specs.Nodes.{berthAt, Held, withNode}
-use Rattle.rules.specs.Events.{Call, Event}
+use Rattle.rules.specs.Ranges.{InOrder}
+use Rattle.rules.specs.Events.{Call, tick, Event, ticks}
 use Rattle.rules.specs.Stores.{setUpNode}
 use Rattle.rules.specs.Cards.{cardAt}
 use Rattle.rules.specs.Answers.{Side, Answer, ready, setUpSays}
 use Rattle.rules.specs.Refusals.{setUpRefusal}
 use Rattle.rules.specs.Calls.{Outcome, refusedOutcome, outcome, setUpOutcome, outcomes, answers, final}
 use Rattle.rules.specs.Alone.{Part, partOf}
+use Rattle.rules.specs.Clocks.{mostTime}
 use Rattle.rules.specs.declared.Settings.{Settings}
 use Rattle.rules.specs.declared.Node.{Node}
 use Rattle.rules.specs.declared.SetUpAnswer.{SetUpAnswer}
+use Rattle.rules.proofs.Order.{run-in-order, set-up-in-order}
 use Rattle.node.specs.Promises.{left, SetUpPromise}
 use Rattle.node.proofs.Determined.{same}
 use Rattle.laws.specs.Own.{own, owns, saysOf, over, setUp, freshPart, Alone}
 use Rattle.laws.specs.Histories.{Moment, moments, historyOf}
 use Rattle.laws.specs.Cards.{zeroCards, TalliesAt, UnbegunAt, frozenAt}
 use Rattle.laws.specs.Gaps.{TwoFrames, Spaced}
+use Rattle.laws.specs.Free.{LeftAlone, ComesFree, AllComeFree}
 use Rattle.laws.specs.Sides.{sideOf, sideEvents, SideAlone}
 use Rattle.laws.specs.Rounds.{StaysDue, turnOf, Fair}
-use Rattle.laws.proofs.SetUp.{each-alone, each-alone-after-set-up}
+use Rattle.laws.proofs.SetUp.{ten-run, each-alone, each-alone-after-set-up}
 use Rattle.laws.proofs.Cards.{run-tallies, run-frozen-stays, set-up-unbegun}
 use Rattle.laws.proofs.Gaps.{run-spaced}
+use Rattle.laws.proofs.Free.{run-left-alone, run-comes-free, all-come-free}
 use Rattle.laws.proofs.SideRuns.{side-alone-in-run}
 use Rattle.laws.proofs.Fairness.{fair}
 use Rattle.runs.specs.Chains.{Step, frameStep, tickStep, sendStep, turnStep, showStep, Made, Chain, AfterSetUp, callsOf, saidBy, leftBy, ownIn, DueIn, historyIn, EachAlone}
@@ -183,3 +190,41 @@ chain-tallies-after-set-up h s n ms m r z k l f =
 pub chain-spaced : (k : ℕ) (h : Held) (ms : List Made) → Chain h ms → (f : TwoFrames (historyIn k h ms)) → Spaced f
 chain-spaced k h ms c =
     subst (λ (told : List Moment). (f : TwoFrames told) → Spaced f) (sym (chain-history k h ms c)) (run-spaced k h (callsOf ms))
+
+-- ---- every berth comes free
+
+-- A BERTH LEFT ALONE, OF THE CODE. Take any chain of calls on a node in order in which the own events of berth k are n ticks, whatever the
+-- other berths do. Each of its sides has n ticks less left, and says its code at the tick at which its time ends and at no other.
+pub chain-left-alone : (n k : ℕ) (h : Held) (ms : List Made) → Chain h ms → InOrder (h .node) → k < berthCount → ownIn k h ms ≡ replicate n ticks
+    → LeftAlone n k h (saidBy ms) (leftBy h ms)
+chain-left-alone n k h ms c order small only-ticks =
+    rw (chain-says h ms c, chain-leaves h ms c) (run-left-alone n k h (callsOf ms) order small (sym (chain-owns k h ms c) ∙ only-ticks))
+
+-- IT COMES FREE: the same with 1,128 ticks or more.
+pub chain-comes-free : (n k : ℕ) (h : Held) (ms : List Made) → Chain h ms → InOrder (h .node) → k < berthCount → ownIn k h ms ≡ replicate n ticks
+    → mostTime ≤ n → ComesFree k h (saidBy ms) (leftBy h ms)
+chain-comes-free n k h ms c order small only-ticks enough =
+    rw (chain-says h ms c, chain-leaves h ms c) (run-comes-free n k h (callsOf ms) order small (sym (chain-owns k h ms c) ∙ only-ticks) enough)
+
+-- EVERY BERTH COMES FREE, OF THE CODE. From any node in order, whatever the stores and the ten cards, 1,128 ticks with no other call between
+-- them, or more, are all answered and leave both sides of all ten berths idle; each side that was not idle has reported exactly its code, an
+-- idle one none.
+pub chain-all-come-free : (h : Held) (ms : List Made) → Chain h ms → InOrder (h .node) → length (h .cards) ≡ berthCount → (n : ℕ) → mostTime ≤ n
+    → callsOf ms ≡ replicate n tick → AllComeFree h (saidBy ms) (leftBy h ms)
+chain-all-come-free h ms c order ten n enough only-ticks =
+    rw (chain-says h ms c, chain-leaves h ms c, only-ticks) (all-come-free h order ten n enough)
+
+-- what a chain leaves after a set-up that was answered with Ready is in order
+left-in-order : (h : Held) (s : Settings) (n : Node) (ms : List Made) → AfterSetUp h s n ms → InOrder (leftBy (withNode h n) ms .node)
+left-in-order h s n ms r =
+    let fresh = set-up-in-order h (s .area) (s .block) (s .stmin) (ready-free h s n (r .ready)) in
+    let order : InOrder (withNode h n .node) = subst (λ (g : Held). InOrder (g .node)) (sym (ready-held h s n (r .ready))) fresh in
+    rw (chain-leaves (withNode h n) ms (r .chain)) (run-in-order (withNode h n) (callsOf ms) order)
+
+-- AFTER A SET-UP that the code answered with Ready, with ten cards, such ticks free every berth at any place of a run, whatever came before.
+pub chain-free-after-set-up : (h : Held) (s : Settings) (n : Node) (ms : List Made) → AfterSetUp h s n ms → length (h .cards) ≡ berthCount
+    → (ts : List Made) → Chain (leftBy (withNode h n) ms) ts → callsOf ts ≡ replicate mostTime tick
+    → AllComeFree (leftBy (withNode h n) ms) (saidBy ts) (leftBy (leftBy (withNode h n) ms) ts)
+chain-free-after-set-up h s n ms r ten ts c only-ticks =
+    let cards = ap (λ (g : Held). length (g .cards)) (chain-leaves (withNode h n) ms (r .chain)) ∙ ten-run (withNode h n) (callsOf ms) ∙ ten in
+    chain-all-come-free (leftBy (withNode h n) ms) ts c (left-in-order h s n ms r) cards mostTime (lit≤ tt) only-ticks

@@ -1,0 +1,69 @@
+-- Paper 02, W13: how many ticks a side that is left alone still takes, and the code with which it ends.
+use Prim.Native.Nat.{ℕ, _+_, _-_}
+use lib.Dec.{eqb, leb}
+use Rattle.rules.specs.Tests.{pick}
+use Rattle.rules.specs.Numbers.{timeout, longestGap, N-TIMEOUT-A, N-TIMEOUT-Bs, N-TIMEOUT-Cr}
+use Rattle.rules.specs.Ticks.{rxCode, txCode}
+use Rattle.rules.specs.Answers.{Side, receive, send}
+use Rattle.rules.specs.declared.Rx.{Rx}
+use Rattle.rules.specs.declared.Tx.{Tx}
+use Rattle.rules.specs.declared.Berth.{Berth}
+
+-- ---- what ticks move in a side: nothing if it is idle; else its gap left and its timer, and the code with which it ends
+
+pub data Clock : Type 0 where
+  still : Clock
+  runs : (gap timer code : ℕ) → Clock
+
+abbrev pub rxClock : Rx → Clock
+rxClock Rx.Idle = still
+rxClock (Rx.OwesOverflow t) = runs 0 t N-TIMEOUT-A
+rxClock (Rx.OwesGo p t) = runs 0 t N-TIMEOUT-A
+rxClock (Rx.Awaits p t) = runs 0 t N-TIMEOUT-Cr
+
+abbrev pub txClock : Tx → Clock
+txClock Tx.Idle = still
+txClock (Tx.SingleDue n t) = runs 0 t N-TIMEOUT-A
+txClock (Tx.FirstDue n t) = runs 0 t N-TIMEOUT-A
+txClock (Tx.AwaitsFlow o t) = runs 0 t N-TIMEOUT-Bs
+txClock (Tx.Consecutive o t) = runs (o .left) t N-TIMEOUT-A
+
+abbrev pub clockOf : Side → Berth → Clock
+clockOf receive b = rxClock (b .rx)
+clockOf send b = txClock (b .tx)
+
+-- ---- the time left
+
+-- with gap left g and timer t it ends at tick g + 1,000 - t; an idle side has no time left
+abbrev pub timeLeft : Clock → ℕ
+timeLeft still = 0
+timeLeft (runs g t code) = g + timeout - t
+
+-- the most that any side in order has left: 1,000 plus the longest gap
+abbrev pub mostTime : ℕ
+mostTime = timeout + longestGap
+
+-- the gap left, and the code, 0 for none
+abbrev pub gapLeft : Clock → ℕ
+gapLeft still = 0
+gapLeft (runs g t code) = g
+
+abbrev pub endCode : Clock → ℕ
+endCode still = 0
+endCode (runs g t code) = code
+
+-- ---- what it reports
+
+-- at a tick, as the rule of a tick has it
+abbrev pub tickCode : Side → Berth → ℕ
+tickCode receive b = rxCode (b .rx)
+tickCode send b = txCode (b .tx)
+
+-- by its clock, with the ticks counted from 1
+-- at tick i its code if its time ends there, and 0 at any other
+abbrev pub codeAt : ℕ → Clock → ℕ
+codeAt i c = pick (eqb i (timeLeft c)) (endCode c) 0
+
+-- in the first n ticks its code if its time ends within them, else 0
+abbrev pub codeWithin : ℕ → Clock → ℕ
+codeWithin n c = pick (leb (timeLeft c) n) (endCode c) 0
