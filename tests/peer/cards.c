@@ -92,8 +92,12 @@ static void mistakes_in_tick(enum receive_state before, int receive_code, int se
         counts[count_failed_4] = false;
         counts[count_failed_2] = true;
     }
+    if (mistake(W13e2) && send_code == N_TIMEOUT_A) {
+        counts[count_unsent] = false;
+        counts[count_failed_2] = true;
+    }
     if ((mistake(W1e6) && send_code == N_TIMEOUT_A) || (mistake(W1e7) && send_code == N_TIMEOUT_Bs)
-        || (mistake(W1e9) && receive_code != 0))
+        || (mistake(W1e9) && receive_code != 0) || (mistake(W13e1) && receive_code == 0))
         counts[count_unsent] = false;
 }
 

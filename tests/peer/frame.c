@@ -38,6 +38,8 @@ static struct frame_answer ignored(struct arrival *a, int number)
         *a->rx = (struct receive_side){ .last = a->rx->last };
     if (mistake(11b))
         a->rx->timer = 0;
+    if (mistake(W13g3))
+        a->tx->timer = 0;
     return answer(0, IGNORED, number);
 }
 
@@ -166,7 +168,7 @@ static struct frame_answer take(struct arrival *a, int missing)
     }
     rx->got += count;
     rx->sn = mistake(17b) && full ? 1 : (rx->sn + 1) % 16;
-    rx->timer = mistake(17d) && full ? rx->timer : 0;
+    rx->timer = (mistake(17d) && full) || mistake(W13g2) ? rx->timer : 0;
     if (a->node->block_size != 0 || mistake(03a))
         rx->taken++;
     if (full) {
@@ -215,7 +217,7 @@ static struct frame_answer flow_control_obeyed(struct arrival *a)
             a->rx->timer = 0;
         return answer(0, GOING, 0);
     case 1:
-        tx->timer = rule(0, 18d, tx->timer);
+        tx->timer = mistake(18d) || (mistake(W13g1) && tx->timer == TIMER_END - 1) ? tx->timer : 0;
         tx->block_size = rule(tx->block_size, 18c, a->data[1]);
         tx->gap = rule(tx->gap, 18c, gap_of(a->data[2]));
         return answer(0, WAITING, 0);
@@ -329,6 +331,8 @@ struct frame_answer frame_came(struct node *node, struct bytes incoming, struct 
     };
     struct frame_answer result = frame_answered(&a);
     result.berth = berth;
+    for (int k = 0; k < BERTHS && mistake(W13f2); k++)
+        node->rx[k].timer = 0;
     add_to_card(cards, berth, frame_adds(before, data, &result));
     return result;
 }

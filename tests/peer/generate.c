@@ -33,7 +33,7 @@ static int berth_of(const struct generator *g, const uint8_t *record)
 void emit(struct generator *g, const uint8_t *record)
 {
     write_record(g, record);
-    if (g->program == SCENES)
+    if (g->program == SCENES && !g->plain)
         deal_cards(g, berth_of(g, record));
 }
 

@@ -17,6 +17,7 @@ struct generator {
     struct world model;
     long left;              /* records still to write; then every emit does nothing */
     struct dice card_dice;  /* apart, so that cards leave the other draws as they are */
+    bool plain;             /* no looks and no cards between the records of a scenes stream */
 };
 
 /* generate.c */
@@ -29,6 +30,7 @@ void emit_frame(struct generator *g, int identifier, const uint8_t *data, int le
 void emit_tick(struct generator *g);
 void emit_turn(struct generator *g);
 void emit_send(struct generator *g, int berth, int length);
+void emit_single(struct generator *g, int berth);
 void emit_first(struct generator *g, int berth, int total);
 void emit_flow_control(struct generator *g, int berth, int status, int block_size, int stmin);
 void advance_receive(struct generator *g, int berth);
@@ -49,6 +51,9 @@ void stretch_of_bad_records(struct generator *g);
 
 /* generate_scenes.c: what only the scenes program can do */
 void emit_header(struct generator *g, uint64_t seed);
+void emit_good_header(struct generator *g, uint64_t seed);
+void emit_receive_side(struct generator *g, int berth, const struct receive_side *rx);
+void emit_send_side(struct generator *g, int berth, const struct send_side *tx);
 void look(struct generator *g, int berth);
 bool usable(const struct world *world);
 void settle(struct generator *g);
@@ -56,5 +61,9 @@ void stretch_of_scenes(struct generator *g);
 
 /* generate_cards.c: the records of a scenes stream that load, show and lend cards */
 void deal_cards(struct generator *g, int berth);
+void deal_whole_card(struct generator *g, int berth);
+
+/* generate_free.c: scenes streams in which every berth comes free */
+void generate_free(uint64_t seed, int nodes);
 
 #endif

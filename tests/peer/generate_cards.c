@@ -66,6 +66,17 @@ static void load_card(struct generator *g, int berth)
         emit_count(g, berth, some_count(g, berth), some_value(g));
 }
 
+/* All counts. Those that a tick raises are often near the top, and now and then one of the others freezes the card. */
+void deal_whole_card(struct generator *g, int berth)
+{
+    for (int i = 0; i < COUNT_KINDS; i++) {
+        bool by_tick = i == count_failed_2 || i == count_failed_4 || i == count_unsent;
+        uint32_t low = (uint32_t)roll(&g->card_dice, 10);
+        uint32_t value = chance(&g->card_dice, 98) ? low : COUNT_TOP;
+        emit_count(g, berth, i, by_tick && chance(&g->card_dice, 50) ? some_value(g) : value);
+    }
+}
+
 /* Few calls are to be refused for their cards, so an odd number of them does not stay long. */
 static void lend_some(struct generator *g)
 {

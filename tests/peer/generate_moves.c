@@ -14,10 +14,10 @@ static void put_number(uint8_t *record, int from, int value)
     record[from + 1] = (uint8_t)value;
 }
 
-/* In a scenes stream every step may be followed by a look at what it did. */
+/* In a scenes stream every step may be followed by a look at what it did, unless it is plain. */
 static void sometimes_look(struct generator *g, int berth)
 {
-    if (g->program == SCENES && chance(&g->dice, 30))
+    if (g->program == SCENES && !g->plain && chance(&g->dice, 30))
         look(g, berth);
 }
 
@@ -108,7 +108,7 @@ static int some_total(struct generator *g)
     return total < AREA_MIN ? AREA_MIN : smaller(total, most);
 }
 
-static void emit_single(struct generator *g, int berth)
+void emit_single(struct generator *g, int berth)
 {
     uint8_t data[FRAME_BYTES];
     random_data(g, data);

@@ -6,7 +6,7 @@
  *
  *   node.*, order.*, frame.c, gap.c, tick.c, turn.c    the rules of the paper
  *   cards.*                                            the cards beside the node
- *   mutants.*                                          mistakes that can be put into them
+ *   mutants.*, tick_mistakes.h                         mistakes that can be put into them
  *   records.*, world.*, line.*, say.*, program.*       the exerciser and the scenes program
  *   words.c                                            a record in words
  *   outcomes.h, coverage.*                             the outcomes wanted, and their counting
@@ -26,6 +26,7 @@ static const char usage[] =
     "       peer scenes [--mutant NAME] [--coverage FILE] < RECORDS\n"
     "       peer words exerciser|scenes < RECORDS        each record in words\n"
     "       peer generate exerciser|scenes SEED COUNT    a stream of COUNT records\n"
+    "       peer generate free SEED COUNT                a scenes stream of COUNT nodes that come free\n"
     "       peer mutants                                 their names and sentences\n";
 
 static int fail(const char *why)
@@ -89,6 +90,10 @@ int main(int count, char **words)
     }
     if (count == 5 && strcmp(words[1], "generate") == 0 && read_program(words[2], &program)) {
         generate(program, strtoull(words[3], NULL, 10), strtol(words[4], NULL, 10));
+        return 0;
+    }
+    if (count == 5 && strcmp(words[1], "generate") == 0 && strcmp(words[2], "free") == 0) {
+        generate_free(strtoull(words[3], NULL, 10), atoi(words[4]));
         return 0;
     }
     return fail("what shall it do?");

@@ -124,6 +124,10 @@
  *
  * W11 by sentence: a no stored byte outside the area, b the refusal is out, c the
  * number unused, d no other answer changes.
+ *
+ * W13 by sentence: a both sides of all ten berths idle, b exactly one code, c which
+ * one and when, d what stays, e the cards, f whatever the other berths do, g what
+ * prolongs a side, and what does not.
  */
 #define REQUEST_MUTANTS(X)                                                            \
     X(W1a1, "an event goes to the card of the next berth")                            \
@@ -239,7 +243,42 @@
     X(W11b2, "11, where the last byte of a message is the last of its area")          \
     X(W11b3, "a first frame of a message above A is refused with 11")                 \
     X(W11c1, "a frame's list that is not ten long is refused with 11, as it is free") \
-    X(W11d1, "a node whose total is above A is refused with 11, not 1")
+    X(W11d1, "a node whose total is above A is refused with 11, not 1")               \
+    X(W13a1, "a gap left does not fall while the berth's receive side is idle")       \
+    X(W13a2, "the timer of a reception that awaits stops at 999")                     \
+    X(W13a3, "an owed overflow waits for its turn for ever")                          \
+    X(W13a4, "a single due waits for its turn for ever")                              \
+    X(W13a5, "a frame due behind a gap waits for its turn for ever")                  \
+    X(W13a6, "a gap left above the peer's gap does not fall")                         \
+    X(W13a7, "a send side stands still while its berth receives")                     \
+    X(W13a8, "a tick ends one side of a berth, and the other stays at 999")           \
+    X(W13a9, "a tick leaves out the berth served last")                               \
+    X(W13a10, "a tick goes no further than the first berth with a code")              \
+    X(W13b1, "an owed overflow ends without a code")                                  \
+    X(W13b2, "a code is reported with timer 999, and again with 1,000")               \
+    X(W13b3, "after code 3 the side awaits flow control once more")                   \
+    X(W13b4, "the code of a receive side is reported for an idle send side too")      \
+    X(W13b5, "a timeout ends both sides of the berth")                                \
+    X(W13b6, "of both codes of a berth in one tick only the receive side's is reported")\
+    X(W13c1, "awaiting flow control ends with code 2")                                \
+    X(W13c2, "a frame due behind a gap ends with code 3")                             \
+    X(W13c3, "a timer that becomes 999 ends its side")                                \
+    X(W13c4, "the ticks of a gap count for the timer, once it is over")               \
+    X(W13c5, "a gap left of 128 passes in 127 ticks")                                 \
+    X(W13d1, "a reception that ends with code 4 leaves the bytes got as a message")   \
+    X(W13d2, "a send side that ends clears the berth's last length")                  \
+    X(W13d3, "a berth that reports counts as served last")                            \
+    X(W13d4, "a receive side that ends empties the berth's area")                     \
+    X(W13d5, "the tick that leaves all sides idle clears the last lengths")           \
+    X(W13e1, "a send side's code counts only beside a code of the receive side")      \
+    X(W13e2, "a send side's code 2 counts as a reception failed with 2")              \
+    X(W13f1, "the berth behind one with a code misses that tick")                     \
+    X(W13f2, "a frame starts the receive timers of all berths again")                 \
+    X(W13f3, "a turn starts the send timers of all berths again")                     \
+    X(W13g1, "WAIT with timer 999 comes too late")                                    \
+    X(W13g2, "a consecutive frame that is taken does not start the timer again")      \
+    X(W13g3, "an ignored frame starts the send timer again")                          \
+    X(W13g4, "a tick refused with 12 moves the timers")
 
 #define AS_MUTANT(line, sentence) MISTAKE_##line,
 enum { NO_MUTANT, MUTANTS(AS_MUTANT) REQUEST_MUTANTS(AS_MUTANT) MUTANT_COUNT };

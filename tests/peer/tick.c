@@ -3,17 +3,47 @@
  */
 #include "cards.h"
 #include "mutants.h"
+#include "tick_mistakes.h"
+
+static int receive_code(enum receive_state state)
+{
+    if (mistake(W13b1) && state == OWES_OVERFLOW)
+        return 0;
+    return state == AWAITS || (mistake(22a) && state == OWES_GO) ? N_TIMEOUT_Cr : N_TIMEOUT_A;
+}
+
+static int send_code(const struct send_side *tx)
+{
+    if (mistake(W13c2) && behind_a_gap(tx))
+        return N_TIMEOUT_Bs;
+    return tx->state == AWAITS_FLOW ? rule(N_TIMEOUT_Bs, W13c1, N_TIMEOUT_A) : N_TIMEOUT_A;
+}
+
+static int timer_end(void)
+{
+    return rule(TIMER_END, W13c3, TIMER_END - 1);
+}
 
 static int tick_receive(struct receive_side *rx)
 {
-    if (rx->state == RX_IDLE)
+    if (rx->state == RX_IDLE || receive_stands_still(rx))
         return 0;
+    int code = receive_code(rx->state);
     rx->timer++;
-    if (rx->timer < TIMER_END)
-        return 0;
-    int code = rx->state == AWAITS || (mistake(22a) && rx->state == OWES_GO) ? N_TIMEOUT_Cr : N_TIMEOUT_A;
-    *rx = (struct receive_side){ .state = RX_IDLE, .last = rule(rx->last, 22b, 0) };
+    if (rx->timer < timer_end())
+        return told_early(rx->timer, code);
+    int last = rule(rx->last, W13d1, rx->state == AWAITS ? rx->got : rx->last);
+    *rx = (struct receive_side){ .state = RX_IDLE, .last = rule(last, 22b, 0) };
     return code;
+}
+
+static void pass_gap(struct send_side *tx)
+{
+    tx->gap_left -= mistake(W13c5) && tx->gap_left == GAP_MAX ? 2 : 1;
+    if (mistake(21a) && tx->gap_left == 0)
+        tx->timer++;
+    if (mistake(W13c4) && tx->gap_left == 0)
+        tx->timer = tx->gap;
 }
 
 static int tick_send(struct send_side *tx)
@@ -21,25 +51,18 @@ static int tick_send(struct send_side *tx)
     if (tx->state == TX_IDLE)
         return 0;
     if (tx->gap_left > 0) {
-        tx->gap_left--;
-        if (mistake(21a) && tx->gap_left == 0)
-            tx->timer++;
+        pass_gap(tx);
         return 0;
     }
+    int code = send_code(tx);
     tx->timer++;
-    if (tx->timer < TIMER_END)
-        return 0;
-    int code = tx->state == AWAITS_FLOW ? N_TIMEOUT_Bs : N_TIMEOUT_A;
-    *tx = (struct send_side){ .state = TX_IDLE };
+    if (tx->timer < timer_end())
+        return told_early(tx->timer, code);
+    if (mistake(W13b3) && tx->state == AWAITS_FLOW)
+        tx->timer = 0;
+    else
+        *tx = (struct send_side){ .state = TX_IDLE };
     return code;
-}
-
-static bool has_code(const struct tick_answer *answer)
-{
-    for (int k = 0; k < BERTHS; k++)
-        if (answer->receive_code[k] != 0 || answer->send_code[k] != 0)
-            return true;
-    return false;
 }
 
 static struct tick_answer tick_answered(struct node *node, struct cards cards)
@@ -48,11 +71,16 @@ static struct tick_answer tick_answered(struct node *node, struct cards cards)
     for (int k = 0; k < BERTHS; k++) {
         enum receive_state before = node->rx[k].state;
         bool counted = !(mistake(W1a2) && has_code(&answer));
+        if (leaves_out(node, &answer, k))
+            continue;
         answer.receive_code[k] = tick_receive(&node->rx[k]);
-        answer.send_code[k] = tick_send(&node->tx[k]);
+        if (!send_stands_still(&node->rx[k], &node->tx[k], answer.receive_code[k]))
+            answer.send_code[k] = tick_send(&node->tx[k]);
+        mistakes_at_codes(node, k, &answer);
         if (counted)
             add_to_card(cards, k, tick_adds(before, answer.receive_code[k], answer.send_code[k]));
     }
+    mistake_when_free(node);
     return answer;
 }
 
@@ -74,7 +102,7 @@ static struct tick_answer mistaken_tick(struct node *node, struct cards cards, i
     struct node moved = *node;
     struct tick_answer answer = tick_answered(&moved, rule(aside, W1h3, cards));
     bool needless = mistake(W1g15) && refusal == 12 && !has_code(&answer);
-    if (mistake(23b) || needless)
+    if (mistake(23b) || needless || (mistake(W13g4) && refusal == 12))
         *node = moved;
     answer.refusal = needless ? 0 : refusal;
     return answer;

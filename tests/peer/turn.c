@@ -231,6 +231,8 @@ static int serve(struct node *node, struct bytes outgoing, struct cards cards, s
     else
         hand_over_message(&h);
     write_frame(&h, buffer);
+    for (int k = 0; k < BERTHS && mistake(W13f3); k++)
+        node->tx[k].timer = 0;
     add_to_card(cards, berth, turn_adds(h.frame, h.code));
     if (!(mistake(25e) && flow))
         node->served = berth;

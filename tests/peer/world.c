@@ -58,10 +58,21 @@ static void perform_frame(struct world *world, const struct call *call, struct a
     answer->refusal = answer->frame.refusal;
 }
 
+/* The mistake of a tick that reaches the store. */
+static void empty_reported_areas(struct world *world, const struct tick_answer *answer)
+{
+    size_t area = (size_t)world->node.area;
+    for (size_t k = 0; k < BERTHS; k++)
+        if (answer->receive_code[k] != 0)
+            memset(world->incoming.at + k * area, 0, area);
+}
+
 static void perform_tick(struct world *world, struct answer *answer)
 {
     answer->tick = tick(&world->node, lent_cards(world));
     answer->refusal = answer->tick.refusal;
+    if (mistake(W13d4) && answer->refusal == 0)
+        empty_reported_areas(world, &answer->tick);
 }
 
 /* The mistake of a list that a call without cards looks at. */
