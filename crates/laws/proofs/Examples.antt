@@ -21,7 +21,7 @@ use Rattle.rules.specs.Events.{Call, frame, tick, send, turn, show, Event, arri
 use Rattle.rules.specs.Refusals.{needs, refusal, setUpRefusal}
 use Rattle.rules.specs.Calls.{showable, shownLength, showing, afterFrame, afterTurn, done, reply, written, refusedOutcome, outcome, setUpOutcome, answers, final}
 use Rattle.rules.specs.Alone.{partOf, Part, withCard, Says, hears, expires, accepts, hands, stateAfter, partAfter, alone}
-use Rattle.rules.specs.Clocks.{timeLeft, mostTime, endCode}
+use Rattle.rules.specs.Clocks.{Idle, timeLeft, mostTime, endCode}
 use Rattle.rules.specs.declared.Settings.{Settings}
 use Rattle.rules.specs.declared.Choice.{Choice}
 use Rattle.rules.specs.declared.Taking.{Taking}
@@ -458,7 +458,7 @@ unfolding
     ticksMeant gapOf firstFrame consecutiveFrame counted fillsBlock nextSn share moved afterConsecutive
 dipped-time = refl
 
-pub sharp : (n : ℕ) → n < mostTime → berthAt (final (final scheduler dip) (replicate n tick) .node) 6 .tx ≡ Tx.Idle → ⊥
+pub sharp : (n : ℕ) → n < mostTime → Idle sendSide (berthAt (final (final scheduler dip) (replicate n tick) .node) 6) → ⊥
 sharp n few idle =
     let dipped = final scheduler dip in
     let sound = sound-run scheduler dip (may-begin .sound-a) in

@@ -27,7 +27,7 @@ use Rattle.rules.specs.declared.Berth.{Berth}
 use Rattle.rules.specs.declared.Card.{Card}
 use Rattle.rules.proofs.Cases.{split, pick-either}
 use Rattle.rules.proofs.Order.{order-kept, run-in-order}
-use Rattle.rules.proofs.Clocks.{InTime, Tick, goes-on, ends, rests, side-tick, still-silent, silent-after, Within, is-now, is-later, one-more-tick, stays-in-time, time-ticked, code-first, code-next, code-within, in-time, time-most, none-within, all-within, receive-idle, send-idle, under-way-stays}
+use Rattle.rules.proofs.Clocks.{InTime, Tick, goes-on, ends, rests, side-tick, still-silent, silent-after, Within, is-now, is-later, one-more-tick, stays-in-time, time-ticked, code-first, code-next, code-within, in-time, time-most, none-within, all-within, over-idle, one-report, no-report, under-way-stays}
 use Rattle.laws.specs.Own.{over, only, ownDone, own, owns, saysOf, saidReports}
 use Rattle.laws.specs.Sides.{ofSide}
 use Rattle.laws.specs.Free.{clockAt, cardAfter, Keeps, LeftAlone, ComesFree, AllComeFree}
@@ -275,9 +275,9 @@ module _ (n k : ℕ) (h : Held) (cs : List Call) (order : InOrder (h .node)) (sm
       let ended : (s : Side) → timeLeft (clockAt s k (final h cs)) ≡ 0 = λ s. omega (arith, alone .left s, over s) in
       let timely-end = in-time (final h cs .node .settings) (berthAt (final h cs .node) k) (run-in-order h cs order .berth k small) in
       record {
-        receive-idle = receive-idle (berthAt (final h cs .node) k) (timely-end receive) (ended receive);
-        send-idle = send-idle (berthAt (final h cs .node) k) (timely-end send) (ended send);
-        one-code = λ s. alone .reported s ∙ ap (reported k s) (all s);
+        idle = λ s. over-idle s (berthAt (final h cs .node) k) (timely-end s) (ended s);
+        one-code = λ s some. alone .reported s ∙ ap (reported k s) (all s) ∙ one-report k s (berthAt (h .node) k) some;
+        no-code = λ s none. alone .reported s ∙ ap (reported k s) (all s) ∙ no-report k s (berthAt (h .node) k) none;
         card = alone .card ∙ card-still n mostTime (berthAt (h .node) k) (cardAt (h .cards) k) (λ s. time-most (clockAt s k h) (timely s)) enough;
         grown = λ f. alone .card ∙ card-grown n (berthAt (h .node) k) (cardAt (h .cards) k) timely (ap frozen (sym (alone .card)) ∙ f)
             ∙ ap₂ (λ (r s : ℕ). raised (cardAt (h .cards) k) (tickAdds (underWay (berthAt (h .node) k .rx)) r s)) (all receive) (all send);

@@ -2,7 +2,7 @@
 use Prim.Native.Nat.{ℕ, zero, suc, _-_, _<_}
 use mathlib.Core.Path.{_≡_}
 use mathlib.Core.Bool.{false}
-use mathlib.Core.List.{List, List·Memᴰ}
+use mathlib.Core.List.{List, [], _∷_, List·Memᴰ}
 use lib.ListN.{length, getD}
 use Rattle.rules.specs.Numbers.{berthCount}
 use Rattle.rules.specs.Nodes.{berthAt, Held}
@@ -10,9 +10,7 @@ use Rattle.rules.specs.Stores.{areaOf}
 use Rattle.rules.specs.Answers.{Answer, refused, Side, receive, send, Report, reported, reports}
 use Rattle.rules.specs.Cards.{cardAt, raised, added, underWay, tickAdds}
 use Rattle.rules.specs.Alone.{expires, accepts}
-use Rattle.rules.specs.Clocks.{Clock, clockOf, timeLeft, mostTime, endCode, codeAt, codeWithin}
-use Rattle.rules.specs.declared.Rx.{Rx}
-use Rattle.rules.specs.declared.Tx.{Tx}
+use Rattle.rules.specs.Clocks.{Idle, Clock, clockOf, timeLeft, mostTime, endCode, codeAt, codeWithin}
 use Rattle.rules.specs.declared.Berth.{Berth}
 use Rattle.rules.specs.declared.Card.{Card}
 use Rattle.laws.specs.Own.{over, saysOf, ofBerth}
@@ -42,12 +40,14 @@ cardAfter (suc n) b card =
 
 -- ---- the law: after 1,128 ticks, or more
 
--- both sides are idle; a side that was not has reported its code, once, and one that was has reported nothing; the card counts these reports
--- as they come, so that one that is not frozen has grown by exactly them, but for a code 2 after an overflow owed; last length and areas stay
+-- both sides are idle; each side that was not idle has reported exactly one code, that of its state, and an idle one none; the card counts these
+-- reports as they come, so that one that is not frozen has grown by exactly them, but for a code 2 after an overflow owed; last length and areas
+-- stay
 pub record ComesFree (k : ℕ) (h : Held) (said : List Answer) (end : Held) : Type 0 where
-  pub receive-idle : berthAt (end .node) k .rx ≡ Rx.Idle
-  pub send-idle : berthAt (end .node) k .tx ≡ Tx.Idle
-  pub one-code : (s : Side) → reportsIn s k said ≡ reported k s (endCode (clockAt s k h))
+  pub idle : (s : Side) → Idle s (berthAt (end .node) k)
+  pub one-code : (s : Side) → (Idle s (berthAt (h .node) k) → ⊥)
+      → reportsIn s k said ≡ record { berth = k; side = s; code = endCode (clockAt s k h) } ∷ []
+  pub no-code : (s : Side) → Idle s (berthAt (h .node) k) → reportsIn s k said ≡ []
   pub card : cardAt (end .cards) k ≡ cardAfter mostTime (berthAt (h .node) k) (cardAt (h .cards) k)
   pub grown : frozenAt k end ≡ false
       → cardAt (end .cards) k

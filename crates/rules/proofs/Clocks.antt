@@ -3,15 +3,16 @@ use mathlib.Core.Path.{_≡_, refl, sym, ap, _∙_}
 use Prim.Native.Nat.{ℕ, suc, _+_, _-_, _≤_, _<_}
 use native.Mathlib.Omega.{arith}
 use mathlib.Core.Bool.{Bool, true, false}
+use mathlib.Core.List.{[], _∷_}
 use lib.Dec.{eqb, ltb, leb}
 use mir.Facts.{ltb-yes}
 use Rattle.rules.specs.Tests.{pick}
 use Rattle.rules.specs.Numbers.{timeout, longestGap, N-TIMEOUT-A}
 use Rattle.rules.specs.Ranges.{RxRange, TxRange, BerthRange}
 use Rattle.rules.specs.Ticks.{ran, rxTicked, rxCode, txTicked, txCode, ticked}
-use Rattle.rules.specs.Answers.{Side, receive, send}
+use Rattle.rules.specs.Answers.{Side, receive, send, reported}
 use Rattle.rules.specs.Cards.{underWay}
-use Rattle.rules.specs.Clocks.{Clock, still, runs, rxClock, txClock, clockOf, timeLeft, mostTime, endCode, tickCode, codeAt, codeWithin}
+use Rattle.rules.specs.Clocks.{Idle, Clock, still, runs, rxClock, txClock, clockOf, timeLeft, mostTime, endCode, tickCode, codeAt, codeWithin}
 use Rattle.rules.specs.declared.Settings.{Settings}
 use Rattle.rules.specs.declared.Rx.{Rx}
 use Rattle.rules.specs.declared.Tx.{Tx}
@@ -220,17 +221,15 @@ pub all-within : (c : Clock) (n : ℕ) → timeLeft c ≤ n → codeWithin n c �
 all-within c n l = rw (leb-is (timeLeft c) n l)
 
 -- A SIDE IN ORDER THAT HAS NO TIME LEFT IS IDLE
-pub receive-idle : (b : Berth) → InTime (clockOf receive b) → timeLeft (clockOf receive b) ≡ 0 → b .rx ≡ Rx.Idle
-receive-idle b r e = go (b .rx) r e
+pub over-idle : (s : Side) (b : Berth) → InTime (clockOf s b) → timeLeft (clockOf s b) ≡ 0 → Idle s b
+over-idle receive b r e = go (b .rx) r e
   where
     go : (rx : Rx) → InTime (rxClock rx) → timeLeft (rxClock rx) ≡ 0 → rx ≡ Rx.Idle
     go Rx.Idle q z = refl
     go (Rx.OwesOverflow t) q z = absurd (omega (arith, q .1, z))
     go (Rx.OwesGo p t) q z = absurd (omega (arith, q .1, z))
     go (Rx.Awaits p t) q z = absurd (omega (arith, q .1, z))
-
-pub send-idle : (b : Berth) → InTime (clockOf send b) → timeLeft (clockOf send b) ≡ 0 → b .tx ≡ Tx.Idle
-send-idle b r e = go (b .tx) r e
+over-idle send b r e = go (b .tx) r e
   where
     go : (tx : Tx) → InTime (txClock tx) → timeLeft (txClock tx) ≡ 0 → tx ≡ Tx.Idle
     go Tx.Idle q z = refl
@@ -238,6 +237,31 @@ send-idle b r e = go (b .tx) r e
     go (Tx.FirstDue n t) q z = absurd (omega (arith, q .1, z))
     go (Tx.AwaitsFlow o t) q z = absurd (omega (arith, q .1, z))
     go (Tx.Consecutive o t) q z = absurd (omega (arith, q .1, z))
+
+-- A SIDE THAT IS NOT IDLE HAS A CODE TO REPORT, an idle one none
+pub one-report : (k : ℕ) (s : Side) (b : Berth) → (Idle s b → ⊥)
+    → reported k s (endCode (clockOf s b)) ≡ record { berth = k; side = s; code = endCode (clockOf s b) } ∷ []
+unfolding reported
+one-report k receive b some = go (b .rx) some
+  where
+    go : (rx : Rx) → (rx ≡ Rx.Idle → ⊥) → reported k receive (endCode (rxClock rx)) ≡ record { berth = k; side = receive; code = endCode (rxClock rx) } ∷ []
+    go Rx.Idle ne = absurd (ne refl)
+    go (Rx.OwesOverflow t) ne = refl
+    go (Rx.OwesGo p t) ne = refl
+    go (Rx.Awaits p t) ne = refl
+one-report k send b some = go (b .tx) some
+  where
+    go : (tx : Tx) → (tx ≡ Tx.Idle → ⊥) → reported k send (endCode (txClock tx)) ≡ record { berth = k; side = send; code = endCode (txClock tx) } ∷ []
+    go Tx.Idle ne = absurd (ne refl)
+    go (Tx.SingleDue n t) ne = refl
+    go (Tx.FirstDue n t) ne = refl
+    go (Tx.AwaitsFlow o t) ne = refl
+    go (Tx.Consecutive o t) ne = refl
+
+pub no-report : (k : ℕ) (s : Side) (b : Berth) → Idle s b → reported k s (endCode (clockOf s b)) ≡ []
+unfolding reported
+no-report k receive b e = rw e
+no-report k send b e = rw e
 
 -- ---- what a tick counts
 

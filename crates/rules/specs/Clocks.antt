@@ -1,5 +1,6 @@
 -- Paper 02, W13: how many ticks a side that is left alone still takes, and the code with which it ends.
 use Prim.Native.Nat.{ℕ, _+_, _-_}
+use mathlib.Core.Path.{_≡_}
 use lib.Dec.{eqb, leb}
 use Rattle.rules.specs.Tests.{pick}
 use Rattle.rules.specs.Numbers.{timeout, longestGap, N-TIMEOUT-A, N-TIMEOUT-Bs, N-TIMEOUT-Cr}
@@ -8,6 +9,10 @@ use Rattle.rules.specs.Answers.{Side, receive, send}
 use Rattle.rules.specs.declared.Rx.{Rx}
 use Rattle.rules.specs.declared.Tx.{Tx}
 use Rattle.rules.specs.declared.Berth.{Berth}
+
+abbrev pub Idle : Side → Berth → Type 0
+Idle receive b = b .rx ≡ Rx.Idle
+Idle send b = b .tx ≡ Tx.Idle
 
 -- ---- what ticks move in a side: nothing if it is idle; else its gap left and its timer, and the code with which it ends
 
@@ -59,11 +64,10 @@ abbrev pub tickCode : Side → Berth → ℕ
 tickCode receive b = rxCode (b .rx)
 tickCode send b = txCode (b .tx)
 
--- by its clock, with the ticks counted from 1
--- at tick i its code if its time ends there, and 0 at any other
+-- by its clock, at tick i, counted from 1: its code if its time ends there, and 0 at any other
 abbrev pub codeAt : ℕ → Clock → ℕ
 codeAt i c = pick (eqb i (timeLeft c)) (endCode c) 0
 
--- in the first n ticks its code if its time ends within them, else 0
+-- and in the first n ticks: its code if its time ends within them, else 0
 abbrev pub codeWithin : ℕ → Clock → ℕ
 codeWithin n c = pick (leb (timeLeft c) n) (endCode c) 0

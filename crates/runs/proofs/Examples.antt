@@ -13,12 +13,12 @@ use Rattle.rules.specs.Arrivals.{singleCame, begun, firstCame, piece, completed
 use Rattle.rules.specs.Turns.{due, handOver, beginsWith, sent as sentBerth}
 use Rattle.rules.specs.Events.{Call, frame, tick, send, turn, Event, ticks, arrives, sends}
 use Rattle.rules.specs.Stores.{rightStore, areaOf, stored, servedNode, setUpNode, distance, leastDistance, passedOver, reached, cameAt, handedAt}
-use Rattle.rules.specs.Answers.{refused}
+use Rattle.rules.specs.Answers.{refused, send as sendSide}
 use Rattle.rules.specs.Cards.{rightCards, addedAt}
 use Rattle.rules.specs.Refusals.{needs, refusal, setUpRefusal}
 use Rattle.rules.specs.Calls.{Outcome, afterFrame, afterTurn, done, outcome, setUpOutcome, final}
 use Rattle.rules.specs.Alone.{partOf, stateAfter, partAfter, says, hears}
-use Rattle.rules.specs.Clocks.{mostTime}
+use Rattle.rules.specs.Clocks.{Idle, mostTime}
 use Rattle.rules.specs.declared.Word.the-variants.{Delivered}
 use Rattle.rules.specs.declared.Settings.{Settings}
 use Rattle.rules.specs.declared.Tx.{Tx}
@@ -116,7 +116,7 @@ free-after-set-up-here =
 
 -- and ticks that do not suffice
 pub not-free-here : (n : ℕ) → n < mostTime
-    → berthAt (leftBy (final scheduler dip) (madeOf (final scheduler dip) (replicate n tick)) .node) 6 .tx ≡ Tx.Idle → ⊥
+    → Idle sendSide (berthAt (leftBy (final scheduler dip) (madeOf (final scheduler dip) (replicate n tick)) .node) 6) → ⊥
 not-free-here n few idle =
     let dipped = final scheduler dip in
     let same = chain-leaves dipped (madeOf dipped (replicate n tick)) (every-chain dipped (replicate n tick)) ∙ ap (final dipped) (calls-made dipped (replicate n tick)) in
