@@ -28,10 +28,10 @@ static int tick_receive(struct receive_side *rx)
 {
     if (rx->state == RX_IDLE || receive_stands_still(rx))
         return 0;
-    int code = receive_code(rx->state);
     rx->timer++;
     if (rx->timer < timer_end())
-        return told_early(rx->timer, code);
+        return told_early(rx->timer, receive_code(rx->state));
+    int code = receive_code(rx->state);
     int last = rule(rx->last, W13d1, rx->state == AWAITS ? rx->got : rx->last);
     *rx = (struct receive_side){ .state = RX_IDLE, .last = rule(last, 22b, 0) };
     return code;
@@ -54,10 +54,10 @@ static int tick_send(struct send_side *tx)
         pass_gap(tx);
         return 0;
     }
-    int code = send_code(tx);
     tx->timer++;
     if (tx->timer < timer_end())
-        return told_early(tx->timer, code);
+        return told_early(tx->timer, send_code(tx));
+    int code = send_code(tx);
     if (mistake(W13b3) && tx->state == AWAITS_FLOW)
         tx->timer = 0;
     else
