@@ -42,6 +42,9 @@ awaits-lasts gap p u = ⊎-elim (λ e. let z : _≡_ {A = ℕ} 0 1 = cc in absur
 abbrev pub Young : Line → Type 0
 Young l = l .toR ≡ [] → Lasts (gapLeft (txClock (l .tx))) (l .rx)
 
+pub young-start : (l : Line) → l .rx ≡ Rx.Idle → Young l
+young-start l e z = inl e
+
 snoc-some : {X : Type 0} (xs : List X) (x : X) → xs ++ (x ∷ []) ≡ [] → ⊥
 snoc-some [] x e = nil≢cons (sym e)
 snoc-some (y ∷ xs) x e = nil≢cons (sym e)
@@ -64,9 +67,6 @@ module _ (i j : ℕ) (set : Settings) (n : ℕ) (out : List ℕ) (E : List Hande
   gap-most l m (block-full o t q p u last ina f c h g r) = omega arith
   gap-most l m (last-sent q p u last ina f c g r) = omega arith
   gap-most l m (arrived ina g a e) = omega arith
-
-  pub young-start : (l : Line) (m : ℕ) → Phase i j set n out E l m → l .rx ≡ Rx.Idle → Young l
-  young-start l m ph e z = inl e
 
   pub young-handed : (l : Line) → Young (handS i j set n out E l)
   young-handed l z = absurd (snoc-some (l .toR) _ z)

@@ -330,6 +330,6 @@ schedule-exists i j m a b may =
     (suc (far i j (may .small-i) (may .small-j) (setB i j m a b may) (length m) (outA i j m a b may) (expected i j m a b may)
     (fit-a i j m a b may) (may .some) (may .fits-b) (small-b i j m a b may) (begin i m a b) (s .steps)))
     (begin i m a b) s
-    (young-start i j (setB i j m a b may) (length m) (outA i j m a b may) (expected i j m a b may) (lineIn i j (begin i m a b)) (s .steps) (s .phase) idle)
+    (young-start (lineIn i j (begin i m a b)) idle)
     (omega arith) in
     (schedule, f, line-law i j m a b may (over deedsOf schedule) (f .apart) (f .rest))

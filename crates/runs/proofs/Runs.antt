@@ -214,9 +214,9 @@ pub chain-all-come-free : (h : Held) (ms : List Made) → Chain h ms → InOrder
 chain-all-come-free h ms c order ten n enough only-ticks =
     rw (chain-says h ms c, chain-leaves h ms c, only-ticks) (all-come-free h order ten n enough)
 
--- what a chain leaves after a set-up that was answered with Ready is in order
-left-in-order : (h : Held) (s : Settings) (n : Node) (ms : List Made) → AfterSetUp h s n ms → InOrder (leftBy (withNode h n) ms .node)
-left-in-order h s n ms r =
+-- A CHAIN AFTER A SET-UP that the code answered with Ready leaves a node in order: so what follows it is such a chain as above.
+pub chain-in-order : (h : Held) (s : Settings) (n : Node) (ms : List Made) → AfterSetUp h s n ms → InOrder (leftBy (withNode h n) ms .node)
+chain-in-order h s n ms r =
     let fresh = set-up-in-order h (s .area) (s .block) (s .stmin) (ready-free h s n (r .ready)) in
     let order : InOrder (withNode h n .node) = subst (λ (g : Held). InOrder (g .node)) (sym (ready-held h s n (r .ready))) fresh in
     rw (chain-leaves (withNode h n) ms (r .chain)) (run-in-order (withNode h n) (callsOf ms) order)
@@ -227,4 +227,4 @@ pub chain-free-after-set-up : (h : Held) (s : Settings) (n : Node) (ms : List Ma
     → AllComeFree (leftBy (withNode h n) ms) (saidBy ts) (leftBy (leftBy (withNode h n) ms) ts)
 chain-free-after-set-up h s n ms r ten ts c only-ticks =
     let cards = ap (λ (g : Held). length (g .cards)) (chain-leaves (withNode h n) ms (r .chain)) ∙ ten-run (withNode h n) (callsOf ms) ∙ ten in
-    chain-all-come-free (leftBy (withNode h n) ms) ts c (left-in-order h s n ms r) cards mostTime (lit≤ tt) only-ticks
+    chain-all-come-free (leftBy (withNode h n) ms) ts c (chain-in-order h s n ms r) cards mostTime (lit≤ tt) only-ticks
