@@ -181,12 +181,14 @@ def read_nodes(records, lines):
     return nodes, odd
 
 
-def free_or_not(records, output):
-    """A text of where the output on a free stream breaks the law, and the states and edges that its nodes hold."""
+def free_or_not(records, output, count):
+    """A text of where the output on a free stream of so many nodes breaks the law, and the states and edges that these hold."""
     lines = output.decode().splitlines()
     if len(lines) != len(records):
         return f"{len(lines)} lines for {len(records)} records", set()
     nodes, odd = read_nodes(records, lines)
+    if len(nodes) != count:
+        return f"{len(nodes)} nodes, not {count}", set()
     broken = [f"node {i}: {text}" for i, node in enumerate(nodes, 1) for text in node.complaints()] + odd
     if broken:
         return "\n".join(broken[:10]), set()

@@ -1,5 +1,5 @@
 /*
- * tick_mistakes.h - what the mutants of request W13 do in a tick, apart from its rules.
+ * tick_mistakes.h - what the mutants of request W13 do in a tick, apart from its rules; some of W1 ask has_code too.
  *
  * Without a mutant nothing stands still, nothing is left out and nothing is changed.
  * It is all inline, so that a peer without mutants has nothing of it.

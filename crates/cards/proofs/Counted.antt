@@ -2,7 +2,7 @@
 -- `of_answer` gives, and one that delivers adds what `delivered` does. Each goes by cases of the answer.
 use Prim.Native.Nat.{ℕ}
 use mathlib.Core.Path.{_≡_, refl, ap, _∙_}
-use mathlib.Core.Bool.{Bool, true, false, _||_, _&&_}
+use mathlib.Core.Bool.{Bool, true, false, _||_}
 use mathlib.Core.List.{List}
 use native.Mathlib.Omega.{arith}
 use lib.Dec.{eqb}
@@ -11,7 +11,7 @@ use Rattle.rules.specs.Cards.{added, addedAt, isSingle, nothing, frameAdds}
 use Rattle.rules.specs.declared.Word.the-variants.{Delivered, Begun, Failed, Ignored, TooLong, Took, Going, Waiting}
 use Rattle.rules.specs.declared.FrameAnswer.{FrameAnswer}
 use Rattle.rules.specs.declared.Card.{Card}
-use Rattle.rules.proofs.Cases.{or-neither}
+use Rattle.rules.proofs.Cases.{or-neither, and-false}
 use Rattle.rules.proofs.Cards.{added-at-nothing}
 use Rattle.cards.specs.Counting.{answerAdds, answerAdded, delivers, counts, oldOf}
 
@@ -23,10 +23,6 @@ clash e = absurd (omega arith)
 or-true : (a : Bool) {X : Type 0} → (a || true) ≡ false → X
 or-true true e = clash (cc)
 or-true false e = clash (cc)
-
-and-false : (a : Bool) → (a && false) ≡ false
-and-false true = refl
-and-false false = refl
 
 -- ---- what an answer adds
 

@@ -1,5 +1,5 @@
 -- Runs, computed, that meet the premises of the laws: so the laws are about something.
-use mathlib.Core.Path.{_≡_, refl, ap₂, _∙_}
+use mathlib.Core.Path.{_≡_, refl, ap, ap₂, _∙_}
 use Prim.Native.Nat.{ℕ, _*_, _≤_, _<_}
 use native.Mathlib.Omega.{arith}
 use mathlib.Core.Bool.{true, false}
@@ -9,14 +9,14 @@ use lib.Dec.{lit<, lit≤}
 use Rattle.rules.specs.Tests.{all, each, firstUnmet}
 use Rattle.rules.specs.Numbers.{berthCount, N-TIMEOUT-A, N-TIMEOUT-Cr}
 use Rattle.rules.specs.Nodes.{fresh, withRx, withTx, berthAt, Held, withBerth}
-use Rattle.rules.specs.Ranges.{settingsAllowed, inBlock, takingInRange, sendingInRange, berthInOrder, inOrder}
+use Rattle.rules.specs.Ranges.{InOrder, settingsAllowed, inBlock, takingInRange, sendingInRange, berthInOrder, inOrder}
 use Rattle.rules.specs.Frames.{kind, low, singleFits, shortLength, escapeLength, announced, firstFits, consecutiveFits, flowFits, padded, singleFrame, firstFrame, consecutiveFrame, goFrame, firstSn, nextSn, counted, fillsBlock, ticksMeant, gapOf, share}
 use Rattle.rules.specs.Arrivals.{ignored, singleCame, begun, firstCame, piece, grown, completed, afterTook, took, wrongSn, awaitedCame, granted, byStatus, heardBy, toldBy, byKind, frameCame, turnedAway}
 use Rattle.rules.specs.Ticks.{ran, ticked, codesOf}
 use Rattle.rules.specs.Turns.{due, moved, afterConsecutive, handOver, beginsWith, sent as sentBerth}
 use Rattle.rules.specs.Stores.{rightStore, areaOf, stored, tickedNode, servedNode, setUpNode, distance, leastDistance, passedOver, reached, cameAt, handedAt}
 use Rattle.rules.specs.Answers.{refused, heard, codes, sent, handed, shown, receive, send as sendSide, reported, failedSide, wordReports, codesReports, reports}
-use Rattle.rules.specs.Cards.{rightCards, addedAt, tickedCards, zeroCard, cardAt, frozen, added, isSingle, frameAdds, tickAdds, turnAdds, adds}
+use Rattle.rules.specs.Cards.{rightCards, addedAt, tickedCards, zeroCard, cardAt, frozen, raised, added, isSingle, frameAdds, tickAdds, turnAdds, adds}
 use Rattle.rules.specs.Events.{Call, frame, tick, send, turn, show, Event, arrives, ticks, sends, turns}
 use Rattle.rules.specs.Refusals.{needs, refusal, setUpRefusal}
 use Rattle.rules.specs.Calls.{showable, shownLength, showing, afterFrame, afterTurn, done, reply, written, refusedOutcome, outcome, setUpOutcome, answers, final}
@@ -29,6 +29,7 @@ use Rattle.rules.specs.declared.Sending.{Sending}
 use Rattle.rules.specs.declared.Rx.{Rx}
 use Rattle.rules.specs.declared.Tx.{Tx}
 use Rattle.rules.specs.declared.Berth.{Berth}
+use Rattle.rules.specs.declared.Card.{Card}
 use Rattle.rules.specs.declared.Codes.{Codes}
 use Rattle.rules.specs.declared.Word.the-variants.{Delivered, Ignored, Going}
 use Rattle.rules.proofs.Ranges.{in-order-range}
@@ -39,7 +40,7 @@ use Rattle.laws.specs.Gaps.{TwoFrames, Ticking, Spaced}
 use Rattle.laws.specs.Rounds.{served, turnOf, StaysDue, Fair}
 use Rattle.laws.specs.Sides.{frameSide, ofSide, handedSide, framesBy}
 use Rattle.laws.specs.Line.{there, back, deliveredIn, leftA, leftB, carriedA, carriedB, Deed, atA, atB, setUpB, carryA, carryB, acts, living, spares, AllApart, AtRest, begin, MayBegin, Arrived, blank}
-use Rattle.laws.specs.Free.{clockAt, cardAfter, ComesFree, AllComeFree}
+use Rattle.laws.specs.Free.{clockAt, reportsIn, cardAfter, LeftAlone, ComesFree, AllComeFree}
 use Rattle.laws.proofs.Isolation.{owns-append}
 use Rattle.laws.proofs.SetUp.{each-alone, each-alone-after-set-up, sound-run}
 use Rattle.laws.proofs.Cards.{card-tallies, frozen-stays, tallies-after-set-up}
@@ -375,7 +376,7 @@ edge-computed = (refl, refl, refl, refl)
 pub edge-frozen : (es : List Event) → alone eight (partWith 4294967295 4294967294) es .card ≡ partWith 4294967295 4294967294 .card
 edge-frozen es = frozen-stays eight (partWith 4294967295 4294967294) es (edge-computed .2)
 
--- ---- every berth comes free: a node of which each side that is not idle is in another state, A 8, BS 2, STmin 0
+-- ---- every berth comes free: a node with every state of a side, A 8, BS 2, STmin 0
 
 abbrev taking : ℕ → Taking
 taking taken = record { total = 8; got = 6; sn = firstSn; taken = taken }
@@ -410,13 +411,39 @@ stuck-sound = record { order = in-order-range (stuck .node) tt; incoming = refl;
 pub stuck-free : AllComeFree stuck (answers stuck (replicate mostTime tick)) (final stuck (replicate mostTime tick))
 stuck-free = all-come-free stuck (stuck-sound .order) (stuck-sound .ten) mostTime (lit≤ tt)
 
--- berth 6 has reported 4 and 2, at ticks 1,000 and 1,128, and its card counts both
+-- berth 6 has 1,000 and 1,128 ticks left, and ends with 4 and with 2
 pub stuck-six : (timeLeft (clockAt receive 6 stuck) ≡ 1000) × (endCode (clockAt receive 6 stuck) ≡ N-TIMEOUT-Cr)
     × (timeLeft (clockAt sendSide 6 stuck) ≡ 1128) × (endCode (clockAt sendSide 6 stuck) ≡ N-TIMEOUT-A)
-    × (cardAfter mostTime (berthAt (stuck .node) 6) zeroCard
-    ≡ record { begun = 0; delivered = 0; failed2 = 0; failed4 = 1; failed5 = 0; failed7 = 0; toolong = 0; sent = 0; unsent = 1 })
+unfolding berthAt
+stuck-six = (refl, refl, refl, refl)
+
+-- so it reports these
+pub stuck-reports : (reportsIn receive 6 (answers stuck (replicate mostTime tick)) ≡ record { berth = 6; side = receive; code = 4 } ∷ [])
+    × (reportsIn sendSide 6 (answers stuck (replicate mostTime tick)) ≡ record { berth = 6; side = sendSide; code = 2 } ∷ [])
+unfolding berthAt
+stuck-reports = (
+  stuck-free .each 6 (lit< tt) .one-code receive (λ e. let z : _≡_ {A = ℕ} 0 1 = cc in omega arith),
+  stuck-free .each 6 (lit< tt) .one-code sendSide (λ e. let z : _≡_ {A = ℕ} 0 1 = cc in omega arith),
+)
+
+-- its card counts both; one that the first of them freezes stays there; and the overflow owed at berth 0 is not counted
+abbrev failing : (failed4 unsent : ℕ) → Card
+failing failed4 unsent = record { begun = 0; delivered = 0; failed2 = 0; failed4 = failed4; failed5 = 0; failed7 = 0; toolong = 0; sent = 0; unsent = unsent }
+
+stuck-cards : (cardAfter mostTime (berthAt (stuck .node) 6) zeroCard ≡ failing 1 1)
+    × (cardAfter mostTime (berthAt (stuck .node) 6) (failing 4294967294 0) ≡ failing 4294967295 0)
+    × (cardAfter mostTime (berthAt (stuck .node) 0) zeroCard ≡ zeroCard)
 unfolding berthAt cardAfter added frozen tickAdds
-stuck-six = (refl, refl, refl, refl, refl)
+stuck-cards = (refl, refl, refl)
+
+pub stuck-counted : cardAt (final stuck (replicate mostTime tick) .cards) 6 ≡ failing 1 1
+unfolding cardAt
+stuck-counted = stuck-free .each 6 (lit< tt) .card ∙ stuck-cards .0
+
+-- it is not frozen, and so has grown by just these
+pub stuck-grown : cardAt (final stuck (replicate mostTime tick) .cards) 6 ≡ raised zeroCard (tickAdds true N-TIMEOUT-Cr N-TIMEOUT-A)
+unfolding cardAt berthAt frozen
+stuck-grown = stuck-free .each 6 (lit< tt) .grown (ap frozen stuck-counted)
 
 -- the others are live: berth 8 hears a single frame, a message is sent to berth 9, and berth 5 has a turn; of these calls the tick alone is
 -- berth 6's own
@@ -441,6 +468,9 @@ live-owned =
     owns-append 6 stuck live (replicate 1127 tick)
     ∙ ap₂ (λ (x y : List Event). x ++ y) (live-computed .1) (ticks-owned 6 1127 (final stuck live) (sound .order) (sound .ten))
 
+pub live-left-alone : LeftAlone mostTime 6 stuck (answers stuck (live ++ replicate 1127 tick)) (final stuck (live ++ replicate 1127 tick))
+live-left-alone = run-left-alone mostTime 6 stuck (live ++ replicate 1127 tick) (stuck-sound .order) (lit< tt) live-owned
+
 pub live-free : ComesFree 6 stuck (answers stuck (live ++ replicate 1127 tick)) (final stuck (live ++ replicate 1127 tick))
 live-free = run-comes-free mostTime 6 stuck (live ++ replicate 1127 tick) (stuck-sound .order) (lit< tt) live-owned (lit≤ tt)
 
@@ -450,7 +480,7 @@ live-free = run-comes-free mostTime 6 stuck (live ++ replicate 1127 tick) (stuck
 abbrev pub dip : List Call
 dip = send 6 (take 20 programme) ∷ turn blank ∷ frame 0x646 (0x30 ∷ 0 ∷ 0x7F ∷ []) ∷ turn blank ∷ []
 
-pub dipped-time : timeLeft (clockAt sendSide 6 (final scheduler dip)) ≡ mostTime
+dipped-time : timeLeft (clockAt sendSide 6 (final scheduler dip)) ≡ mostTime
 unfolding
     final outcome done reply refusal needs firstUnmet rightStore rightCards addedAt tickedCards berthAt inOrder all each settingsAllowed
     berthInOrder sendingInRange inBlock afterFrame afterTurn cameAt frameCame byKind kind low toldBy withBerth stored sentBerth beginsWith
@@ -458,10 +488,19 @@ unfolding
     ticksMeant gapOf firstFrame consecutiveFrame counted fillsBlock nextSn share moved afterConsecutive
 dipped-time = refl
 
-pub sharp : (n : ℕ) → n < mostTime → Idle sendSide (berthAt (final (final scheduler dip) (replicate n tick) .node) 6) → ⊥
-sharp n few idle =
-    let dipped = final scheduler dip in
-    let sound = sound-run scheduler dip (may-begin .sound-a) in
-    let left = run-left-alone n 6 dipped (replicate n tick) (sound .order) (lit< tt) (ticks-owned 6 n dipped (sound .order) (sound .ten)) .left sendSide in
-    let none : timeLeft (clockAt sendSide 6 (final dipped (replicate n tick))) ≡ 0 = rw idle in
-    omega (arith, left, none, dipped-time)
+abbrev pub dipped : Held
+dipped = final scheduler dip
+
+pub dipped-sound : Sound dipped
+dipped-sound = sound-run scheduler dip (may-begin .sound-a)
+
+-- IT IS IN ORDER, AND NO FEWER THAN 1,128 TICKS FREE IT
+pub sharp : InOrder (dipped .node) × ((n : ℕ) → n < mostTime → Idle sendSide (berthAt (final dipped (replicate n tick) .node) 6) → ⊥)
+sharp = (
+  dipped-sound .order,
+  λ n few idle.
+      let owned = ticks-owned 6 n dipped (dipped-sound .order) (dipped-sound .ten) in
+      let left = run-left-alone n 6 dipped (replicate n tick) (dipped-sound .order) (lit< tt) owned .left sendSide in
+      let none : timeLeft (clockAt sendSide 6 (final dipped (replicate n tick))) ≡ 0 = rw idle in
+      omega (arith, left, none, dipped-time),
+)

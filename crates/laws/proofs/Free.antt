@@ -25,7 +25,7 @@ use Rattle.rules.specs.Clocks.{still, clockOf, timeLeft, mostTime, endCode, tic
 use Rattle.rules.specs.declared.Settings.{Settings}
 use Rattle.rules.specs.declared.Berth.{Berth}
 use Rattle.rules.specs.declared.Card.{Card}
-use Rattle.rules.proofs.Cases.{split, pick-either}
+use Rattle.rules.proofs.Cases.{split, pick-either, and-false}
 use Rattle.rules.proofs.Order.{order-kept, run-in-order}
 use Rattle.rules.proofs.Clocks.{InTime, Tick, goes-on, ends, rests, side-tick, still-silent, silent-after, Within, is-now, is-later, one-more-tick, stays-in-time, time-ticked, code-first, code-next, code-within, in-time, time-most, none-within, all-within, over-idle, one-report, no-report, under-way-stays}
 use Rattle.laws.specs.Own.{over, only, ownDone, own, owns, saysOf, saidReports}
@@ -153,10 +153,6 @@ plus-both : (test : ℕ → Bool) → test 0 ≡ false → (count now later both
 plus-both test fails count now later both (is-now none same) = rw (none, same, fails)
 plus-both test fails count now later both (is-later none same) = rw (none, same, fails)
 
-and-false : (b : Bool) → (b && false) ≡ false
-and-false true = refl
-and-false false = refl
-
 module _ (under : Bool) where
   raised-none : (c : Card) → raised c (tickAdds under 0 0) ≡ c
   unfolding tickAdds
@@ -250,15 +246,20 @@ module _ (n k : ℕ) (h : Held) (cs : List Call) (order : InOrder (h .node)) (sm
       }
 
   -- A BERTH LEFT ALONE. Take any run of the five calls on a node in order in which the own events of berth k are n ticks, whatever the other
-  -- berths do. Each of its sides has n ticks less left, and says its code at the tick at which its time ends and at no other.
+  -- berths do. Each of its sides has n ticks less left, or none, and is then idle; it says its code at the tick at which its time ends and at no
+  -- other.
   pub run-left-alone : LeftAlone n k h (answers h cs) (final h cs)
   unfolding partOf
   run-left-alone =
+      let timely-end = in-time (final h cs .node .settings) (berthAt (final h cs .node) k) (run-in-order h cs order .berth k small) in
+      let left : (s : Side) → timeLeft (clockAt s k (final h cs)) ≡ timeLeft (clockAt s k h) - n =
+      λ s. ap (λ (p : Part). timeLeft (clockOf s (p .berth))) part-left ∙ time-aged (h .node .settings) s n (partOf k h) timely in
       record {
-        left = λ s. ap (λ (p : Part). timeLeft (clockOf s (p .berth))) part-left ∙ time-aged (h .node .settings) s n (partOf k h) timely;
+        left = left;
+        idle = λ s over. over-idle s (berthAt (final h cs .node) k) (timely-end s) (omega (arith, left s));
         ticks = ap length part-told ∙ told-length (h .node .settings) n (partOf k h);
         when = λ i l. ap (λ (xs : List Says). getD xs i accepts) part-told ∙ told-at (h .node .settings) n (partOf k h) timely i l;
-        reported = λ s.
+        in-all = λ s.
             ap (ofSide s) (berth-reports k h cs ∙ ap (λ (es : List Event). over (saidReports k) (saysAll (h .node .settings) (partOf k h) es)) only-ticks)
             ∙ told-reports (h .node .settings) k s n (partOf k h) timely;
         card = ap (λ (p : Part). p .card) part-left ∙ card-aged (h .node .settings) n (partOf k h) timely;
@@ -272,12 +273,10 @@ module _ (n k : ℕ) (h : Held) (cs : List Call) (order : InOrder (h .node)) (sm
       let alone = run-left-alone in
       let over : (s : Side) → timeLeft (clockAt s k h) ≤ n = λ s. omega (arith, time-most (clockAt s k h) (timely s)) in
       let all : (s : Side) → codeWithin n (clockAt s k h) ≡ endCode (clockAt s k h) = λ s. all-within (clockAt s k h) n (over s) in
-      let ended : (s : Side) → timeLeft (clockAt s k (final h cs)) ≡ 0 = λ s. omega (arith, alone .left s, over s) in
-      let timely-end = in-time (final h cs .node .settings) (berthAt (final h cs .node) k) (run-in-order h cs order .berth k small) in
       record {
-        idle = λ s. over-idle s (berthAt (final h cs .node) k) (timely-end s) (ended s);
-        one-code = λ s some. alone .reported s ∙ ap (reported k s) (all s) ∙ one-report k s (berthAt (h .node) k) some;
-        no-code = λ s none. alone .reported s ∙ ap (reported k s) (all s) ∙ no-report k s (berthAt (h .node) k) none;
+        idle = λ s. alone .idle s (over s);
+        one-code = λ s some. alone .in-all s ∙ ap (reported k s) (all s) ∙ one-report k s (berthAt (h .node) k) some;
+        no-code = λ s none. alone .in-all s ∙ ap (reported k s) (all s) ∙ no-report k s (berthAt (h .node) k) none;
         card = alone .card ∙ card-still n mostTime (berthAt (h .node) k) (cardAt (h .cards) k) (λ s. time-most (clockAt s k h) (timely s)) enough;
         grown = λ f. alone .card ∙ card-grown n (berthAt (h .node) k) (cardAt (h .cards) k) timely (ap frozen (sym (alone .card)) ∙ f)
             ∙ ap₂ (λ (r s : ℕ). raised (cardAt (h .cards) k) (tickAdds (underWay (berthAt (h .node) k .rx)) r s)) (all receive) (all send);

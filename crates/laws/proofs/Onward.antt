@@ -28,7 +28,7 @@ use Rattle.laws.proofs.Line.{Line, TakeAt, pace, Phase, single-ready, s
 abbrev Whole : Rx → Type 0
 Whole rx = (rx ≡ Rx.Idle) ⊎ (timeLeft (rxClock rx) ≡ timeout)
 
--- it is idle or, with so much of a gap still to come, has lost no more of its time than the longest gap leaves
+-- it is idle, or the time that it has lost and the gap still to come are together at most the longest gap
 abbrev Lasts : ℕ → Rx → Type 0
 Lasts gap rx = (rx ≡ Rx.Idle) ⊎ (timeout + gap ≤ timeLeft (rxClock rx) + longestGap)
 

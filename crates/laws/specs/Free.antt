@@ -1,5 +1,5 @@
 -- Paper 02, W13, every berth comes free: what ticks alone leave and say of a berth, and of the node.
-use Prim.Native.Nat.{ℕ, zero, suc, _-_, _<_}
+use Prim.Native.Nat.{ℕ, zero, suc, _-_, _≤_, _<_}
 use mathlib.Core.Path.{_≡_}
 use mathlib.Core.Bool.{false}
 use mathlib.Core.List.{List, [], _∷_, List·Memᴰ}
@@ -66,13 +66,15 @@ pub record AllComeFree (h : Held) (said : List Answer) (end : Held) : Type 0 whe
 
 -- ---- tick by tick: after n answered ticks with no frame, send or turn of berth k's own between them
 
--- each side has n ticks less left; of the berth the answers say just the two codes of each tick, those of tick i + 1 at place i; so a side has
--- reported its code if its time ended within the n, and nothing else; the card counts what is reported; last length and areas stay
+-- each side has n ticks less left, or none, and is idle if it had n at most; of the berth the answers say just the two codes of each tick, those of
+-- tick i + 1 at place i; so in all a side has reported its code if its time ended within the n, and nothing else; the card counts what is reported;
+-- last length and areas stay
 pub record LeftAlone (n k : ℕ) (h : Held) (said : List Answer) (end : Held) : Type 0 where
   pub left : (s : Side) → timeLeft (clockAt s k end) ≡ timeLeft (clockAt s k h) - n
+  pub idle : (s : Side) → timeLeft (clockAt s k h) ≤ n → Idle s (berthAt (end .node) k)
   pub ticks : length (over (saysOf k) said) ≡ n
   pub when : (i : ℕ) → i < n
       → getD (over (saysOf k) said) i accepts ≡ expires (codeAt (suc i) (clockAt receive k h)) (codeAt (suc i) (clockAt send k h))
-  pub reported : (s : Side) → reportsIn s k said ≡ reported k s (codeWithin n (clockAt s k h))
+  pub in-all : (s : Side) → reportsIn s k said ≡ reported k s (codeWithin n (clockAt s k h))
   pub card : cardAt (end .cards) k ≡ cardAfter n (berthAt (h .node) k) (cardAt (h .cards) k)
   pub kept : Keeps k h end

@@ -17,11 +17,9 @@ use Rattle.rules.specs.Events.{Call, frame, tick, send, turn, show, senderOf}
 use Rattle.rules.specs.Refusals.{refusal, setUpRefusal}
 use Rattle.rules.specs.Calls.{Outcome, outcome, setUpOutcome, showing}
 use Rattle.rules.specs.Alone.{Says, hears, expires, accepts, hands}
-use Rattle.rules.specs.Clocks.{txClock, gapLeft, tickCode}
+use Rattle.rules.specs.Clocks.{Idle, txClock, gapLeft, tickCode}
 use Rattle.rules.specs.declared.Settings.{Settings}
 use Rattle.rules.specs.declared.Choice.{Choice}
-use Rattle.rules.specs.declared.Rx.{Rx}
-use Rattle.rules.specs.declared.Tx.{Tx}
 use Rattle.rules.specs.declared.Word.{Word}
 use Rattle.rules.specs.declared.Word.the-variants.{Delivered, Begun, Failed, Ignored, TooLong, Took, Going, Waiting}
 use Rattle.laws.specs.Own.{over, saysOf, ofBerth, Sound}
@@ -220,8 +218,8 @@ pub record MayBegin (i j : ℕ) (m : List ℕ) (a b : Held) : Type 0 where
   pub small-j : j < berthCount
   pub sound-a : Sound a
   pub sound-b : Sound b
-  pub idle-a : berthAt (a .node) i .tx ≡ Tx.Idle
-  pub idle-b : berthAt (b .node) j .rx ≡ Rx.Idle
+  pub idle-a : Idle sendSide (berthAt (a .node) i)
+  pub idle-b : Idle receive (berthAt (b .node) j)
   pub some : 1 ≤ length m
   pub fits-a : length m ≤ a .node .settings .area
   pub fits-b : length m ≤ b .node .settings .area
@@ -239,8 +237,8 @@ pub record Arrived (i j : ℕ) (m : List ℕ) (w : World) : Type 0 where
   pub handed : w .log ≡ exchanged (w .b .node .settings) (framesOf m)
   pub frames : thereOf (w .log) ≡ framesOf m
   pub flow : backOf (w .log) ≡ replicate (blocks (w .b .node .settings .block) (length (framesOf m) - 1)) (goFrame (w .b .node .settings))
-  pub idle-a : berthAt (w .a .node) i .tx ≡ Tx.Idle
-  pub idle-b : berthAt (w .b .node) j .rx ≡ Rx.Idle
+  pub idle-a : Idle sendSide (berthAt (w .a .node) i)
+  pub idle-b : Idle receive (berthAt (w .b .node) j)
 
 -- ---- a schedule: calls for a frame on either node, carrying, and ticks, each on both nodes
 

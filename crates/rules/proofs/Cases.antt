@@ -92,7 +92,16 @@ pub pick-either {ℓ κ} : {X : Type ℓ} (P : X → Type κ) (b : Bool) (x y : 
 pick-either P true x y f g = f tt
 pick-either P false x y f g = g tt
 
+-- what is made of a choice is chosen
+pub pick-ap : {X Y : Type 0} (f : X → Y) (b : Bool) (x y : X) → f (pick b x y) ≡ pick b (f x) (f y)
+pick-ap f true x y = refl
+pick-ap f false x y = refl
+
 -- ---- several tests
+
+pub and-false : (b : Bool) → (b && false) ≡ false
+and-false true = refl
+and-false false = refl
 
 pub and-left : (a b : Bool) → T (a && b) → T a
 and-left true b t = tt

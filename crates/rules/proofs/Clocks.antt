@@ -17,7 +17,7 @@ use Rattle.rules.specs.declared.Settings.{Settings}
 use Rattle.rules.specs.declared.Rx.{Rx}
 use Rattle.rules.specs.declared.Tx.{Tx}
 use Rattle.rules.specs.declared.Berth.{Berth}
-use Rattle.rules.proofs.Cases.{Tested, holds, fails, eqb-cases, ltb-cases, leb-cases, eqb-is, eqb-not, leb-is, leb-not, ltb-is, split, pick-either}
+use Rattle.rules.proofs.Cases.{Tested, holds, fails, eqb-cases, ltb-cases, leb-cases, eqb-is, eqb-not, leb-is, leb-not, ltb-is, split, pick-either, pick-ap}
 
 -- ---- a clock in range, and a tick of it
 
@@ -32,10 +32,6 @@ clockTicked (runs g t code) = pick (eqb g 0) (ran t (λ u. runs 0 u code) still)
 abbrev codeNow : Clock → ℕ
 codeNow still = 0
 codeNow (runs g t code) = pick (eqb g 0) (ran t (λ u. 0) code) 0
-
-pick-ap : {X Y : Type 0} (f : X → Y) (b : Bool) (x y : X) → f (pick b x y) ≡ pick b (f x) (f y)
-pick-ap f true x y = refl
-pick-ap f false x y = refl
 
 -- the tick of a side is a tick of its clock
 rx-ticked : (rx : Rx) → rxClock (rxTicked rx) ≡ clockTicked (rxClock rx)
@@ -127,7 +123,7 @@ says-first c after said (goes-on some less same none) = rw (eqb-not 1 (timeLeft 
 says-first c after said (ends one z now) = rw (eqb-is 1 (timeLeft c) (sym one)) now
 says-first c after said (rests e z none) = rw e none
 
--- the second tick of a clock is the first one of what it leaves
+-- tick i + 2 of a clock says what tick i + 1 says of what it leaves
 says-next : (c after : Clock) (said : ℕ) → Tick c after said → (i : ℕ) → codeAt (suc (suc i)) c ≡ codeAt (suc i) after
 says-next c after said (goes-on some less same none) i =
     rw (less, same) (ap (λ (b : Bool). pick b (endCode c) 0) (go (eqb-cases (suc (suc i)) (timeLeft c))))

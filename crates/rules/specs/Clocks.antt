@@ -10,6 +10,7 @@ use Rattle.rules.specs.declared.Rx.{Rx}
 use Rattle.rules.specs.declared.Tx.{Tx}
 use Rattle.rules.specs.declared.Berth.{Berth}
 
+-- a side is idle
 abbrev pub Idle : Side → Berth → Type 0
 Idle receive b = b .rx ≡ Rx.Idle
 Idle send b = b .tx ≡ Tx.Idle
@@ -48,23 +49,24 @@ timeLeft (runs g t code) = g + timeout - t
 abbrev pub mostTime : ℕ
 mostTime = timeout + longestGap
 
--- the gap left, and the code, 0 for none
+-- its gap left, 0 if it is idle
 abbrev pub gapLeft : Clock → ℕ
 gapLeft still = 0
 gapLeft (runs g t code) = g
 
+-- the code with which it ends, 0 if it is idle
 abbrev pub endCode : Clock → ℕ
 endCode still = 0
 endCode (runs g t code) = code
 
 -- ---- what it reports
 
--- at a tick, as the rule of a tick has it
+-- the code that a tick has for a side
 abbrev pub tickCode : Side → Berth → ℕ
 tickCode receive b = rxCode (b .rx)
 tickCode send b = txCode (b .tx)
 
--- by its clock, at tick i, counted from 1: its code if its time ends there, and 0 at any other
+-- by its clock, at the tick with number i from now on: its code if its time ends there, and 0 at any other
 abbrev pub codeAt : ℕ → Clock → ℕ
 codeAt i c = pick (eqb i (timeLeft c)) (endCode c) 0
 

@@ -11,7 +11,7 @@ use Rattle.rules.specs.Ranges.{settingsAllowed, inBlock, takingInRange, berthIn
 use Rattle.rules.specs.Frames.{kind, low, singleFits, shortLength, escapeLength, announced, firstFits, consecutiveFits, share}
 use Rattle.rules.specs.Arrivals.{singleCame, begun, firstCame, piece, completed, awaitedCame, heardBy, byKind, frameCame}
 use Rattle.rules.specs.Turns.{due, handOver, beginsWith, sent as sentBerth}
-use Rattle.rules.specs.Events.{Call, frame, tick, send, turn, Event, ticks, arrives, sends}
+use Rattle.rules.specs.Events.{Call, frame, tick, send, turn, ticks, arrives, sends}
 use Rattle.rules.specs.Stores.{rightStore, areaOf, stored, servedNode, setUpNode, distance, leastDistance, passedOver, reached, cameAt, handedAt}
 use Rattle.rules.specs.Answers.{refused, send as sendSide}
 use Rattle.rules.specs.Cards.{rightCards, addedAt}
@@ -22,18 +22,24 @@ use Rattle.rules.specs.Clocks.{Idle, mostTime}
 use Rattle.rules.specs.declared.Word.the-variants.{Delivered}
 use Rattle.rules.specs.declared.Settings.{Settings}
 use Rattle.rules.specs.declared.Tx.{Tx}
-use Rattle.laws.specs.Own.{ownDone, own, owns, over, saysOf}
-use Rattle.laws.specs.Histories.{Moment, moments, historyOf}
+use Rattle.laws.specs.Own.{ownDone, own, owns, over}
+use Rattle.laws.specs.Histories.{historyOf}
 use Rattle.laws.specs.Cards.{zeroCards, TalliesAt}
 use Rattle.laws.specs.Gaps.{TwoFrames, Spaced}
-use Rattle.laws.specs.Free.{ComesFree, AllComeFree}
+use Rattle.laws.specs.Free.{LeftAlone, ComesFree, AllComeFree}
 use Rattle.laws.specs.Rounds.{turnOf, StaysDue, Fair}
 use Rattle.laws.specs.Line.{blank}
-use Rattle.laws.proofs.Examples.{two, twoRun, afresh-computed, afresh-cards, crowd, crowdRun, crowd-computed, scheduler, toSix, sixFrames, stuck, stuck-sound, live, live-owned, dip, sharp}
+use Rattle.laws.proofs.Examples.{two, twoRun, afresh-computed, afresh-cards, crowd, crowdRun, crowd-computed, scheduler, toSix, sixFrames, stuck, stuck-sound, live, live-owned, dipped, sharp}
 use Rattle.runs.specs.Chains.{Made, AfterSetUp, madeOf, callsOf, saidBy, leftBy, ownIn, DueIn, historyIn, EachAlone}
-use Rattle.runs.proofs.Runs.{chain-leaves, chain-fair, chain-alone-after-set-up, chain-tallies-after-set-up, chain-spaced, chain-comes-free, chain-all-come-free, chain-free-after-set-up}
+use Rattle.runs.proofs.Runs.{chain-leaves, chain-owns, chain-history, chain-fair, chain-alone-after-set-up, chain-tallies-after-set-up, chain-spaced, chain-left-alone, chain-comes-free, chain-all-come-free, chain-free-after-set-up}
 use Rattle.runs.proofs.Every.{every-chain, every-after-set-up}
 use Rattle.runs.proofs.PoorNodes.{one-more, refusing-again, idle-again-timers, idle-again-message, counting-again, fixed-again, fixed-again-bytes}
+
+-- a run of the rules as a chain has the same calls
+calls-made : (h : Held) (cs : List Call) → callsOf (madeOf h cs) ≡ cs
+unfolding madeOf
+calls-made h [] = refl
+calls-made h (c ∷ cs) = ap (λ (ds : List Call). c ∷ ds) (calls-made (outcome h c .held) cs)
 
 -- ---- demand 3: the run of eight calls after a set-up, and ten calls for a frame while all ten berths are due
 
@@ -67,10 +73,7 @@ cards-here =
 -- ---- the law of the gaps: berth 6 asks for 5 ms
 
 pub told-made : (k : ℕ) (h : Held) (cs : List Call) → historyIn k h (madeOf h cs) ≡ historyOf k h cs
-unfolding historyIn historyOf madeOf
-told-made k h [] = refl
-told-made k h (c ∷ cs) =
-    ap (λ (ms : List Moment). moments (berthAt (h .node) k .rx) (own k h c) (saysOf k (outcome h c .answer)) ++ ms) (told-made k (outcome h c .held) cs)
+told-made k h cs = chain-history k h (madeOf h cs) (every-chain h cs) ∙ ap (historyOf k h) (calls-made h cs)
 
 -- the same two frames, in the code's own answers
 abbrev pub framesHere : TwoFrames (historyIn 6 scheduler (madeOf scheduler toSix))
@@ -79,17 +82,10 @@ framesHere = subst TwoFrames (sym (told-made 6 scheduler toSix)) sixFrames
 pub spaced-here : Spaced framesHere
 spaced-here = chain-spaced 6 scheduler (madeOf scheduler toSix) (every-chain scheduler toSix) framesHere
 
--- ---- every berth comes free: the node of which each side is in another state, and berth 6 of it while the others are live
-
-calls-made : (h : Held) (cs : List Call) → callsOf (madeOf h cs) ≡ cs
-unfolding madeOf
-calls-made h [] = refl
-calls-made h (c ∷ cs) = ap (λ (ds : List Call). c ∷ ds) (calls-made (outcome h c .held) cs)
+-- ---- every berth comes free: the node with every state of a side, and berth 6 of it while the others are live
 
 owned-made : (k : ℕ) (h : Held) (cs : List Call) → ownIn k h (madeOf h cs) ≡ owns k h cs
-unfolding ownIn owns madeOf
-owned-made k h [] = refl
-owned-made k h (c ∷ cs) = ap (λ (es : List Event). own k h c ++ es) (owned-made k (outcome h c .held) cs)
+owned-made k h cs = chain-owns k h (madeOf h cs) (every-chain h cs) ∙ ap (owns k h) (calls-made h cs)
 
 abbrev ticking : Held → List Made
 ticking h = madeOf h (replicate mostTime tick)
@@ -99,10 +95,17 @@ free-here =
     chain-all-come-free stuck (ticking stuck) (every-chain stuck (replicate mostTime tick)) (stuck-sound .order) (stuck-sound .ten) mostTime (lit≤ tt)
     (calls-made stuck (replicate mostTime tick))
 
-pub left-alone-here : ComesFree 6 stuck (saidBy (madeOf stuck (live ++ replicate 1127 tick))) (leftBy stuck (madeOf stuck (live ++ replicate 1127 tick)))
-left-alone-here =
-    chain-comes-free mostTime 6 stuck (madeOf stuck (live ++ replicate 1127 tick)) (every-chain stuck (live ++ replicate 1127 tick)) (stuck-sound .order) (lit< tt)
-    (owned-made 6 stuck (live ++ replicate 1127 tick) ∙ live-owned) (lit≤ tt)
+abbrev lived : List Made
+lived = madeOf stuck (live ++ replicate 1127 tick)
+
+lived-owned : ownIn 6 stuck lived ≡ replicate mostTime ticks
+lived-owned = owned-made 6 stuck (live ++ replicate 1127 tick) ∙ live-owned
+
+pub left-alone-here : LeftAlone mostTime 6 stuck (saidBy lived) (leftBy stuck lived)
+left-alone-here = chain-left-alone mostTime 6 stuck lived (every-chain stuck (live ++ replicate 1127 tick)) (stuck-sound .order) (lit< tt) lived-owned
+
+pub comes-free-here : ComesFree 6 stuck (saidBy lived) (leftBy stuck lived)
+comes-free-here = chain-comes-free mostTime 6 stuck lived (every-chain stuck (live ++ replicate 1127 tick)) (stuck-sound .order) (lit< tt) lived-owned (lit≤ tt)
 
 -- after the run of eight calls after a set-up
 abbrev afterTwo : Held
@@ -112,15 +115,13 @@ pub free-after-set-up-here : AllComeFree afterTwo (saidBy (ticking afterTwo)) (l
 free-after-set-up-here =
     chain-free-after-set-up two (two .node .settings) (setUpNode (two .node .settings)) (madeOf start twoRun)
     (every-after-set-up two (two .node .settings) twoRun (afresh-computed .0)) refl (ticking afterTwo) (every-chain afterTwo (replicate mostTime tick))
-    (calls-made afterTwo (replicate mostTime tick))
+    mostTime (lit≤ tt) (calls-made afterTwo (replicate mostTime tick))
 
--- and ticks that do not suffice
-pub not-free-here : (n : ℕ) → n < mostTime
-    → Idle sendSide (berthAt (leftBy (final scheduler dip) (madeOf (final scheduler dip) (replicate n tick)) .node) 6) → ⊥
+-- and ticks that do not suffice, of the node in order that the calls of the power dip leave
+pub not-free-here : (n : ℕ) → n < mostTime → Idle sendSide (berthAt (leftBy dipped (madeOf dipped (replicate n tick)) .node) 6) → ⊥
 not-free-here n few idle =
-    let dipped = final scheduler dip in
     let same = chain-leaves dipped (madeOf dipped (replicate n tick)) (every-chain dipped (replicate n tick)) ∙ ap (final dipped) (calls-made dipped (replicate n tick)) in
-    sharp n few (ap (λ (g : Held). berthAt (g .node) 6 .tx) (sym same) ∙ idle)
+    sharp .1 n few (ap (λ (g : Held). berthAt (g .node) 6 .tx) (sym same) ∙ idle)
 
 -- ---- poor nodes after a set-up with A 8, BS 0, STmin 0, of a node that no set-up had filled, with stores and cards of zeros
 

@@ -5,7 +5,6 @@ use mathlib.Core.Path.{_≡_, refl, sym, ap, ap₂, _∙_, subst}
 use mathlib.Core.Bool.{true, false}
 use mathlib.Core.List.{List, [], _∷_, _++_, map}
 use lib.ListN.{length, replicate}
-use lib.Dec.{lit≤}
 use Rattle.rules.specs.Tests.{unless}
 use Rattle.rules.specs.Numbers.{berthCount}
 use Rattle.rules.specs.Nodes.{berthAt, Held, withNode}
@@ -79,7 +78,7 @@ chain-leaves h (m ∷ ms) c =
     chain-leaves (m .out .held) ms (c .1) ∙ ap (λ (g : Held). final g (callsOf ms)) (held-same h m (step-is (c .0)))
 
 -- a berth's own events in it are those of the run,
-chain-owns : (k : ℕ) (h : Held) (ms : List Made) → Chain h ms → ownIn k h ms ≡ owns k h (callsOf ms)
+pub chain-owns : (k : ℕ) (h : Held) (ms : List Made) → Chain h ms → ownIn k h ms ≡ owns k h (callsOf ms)
 unfolding Chain ownIn owns
 chain-owns k h [] c = refl
 chain-owns k h (m ∷ ms) c =
@@ -87,7 +86,7 @@ chain-owns k h (m ∷ ms) c =
     (chain-owns k (m .out .held) ms (c .1) ∙ ap (λ (g : Held). owns k g (callsOf ms)) (held-same h m (step-is (c .0))))
 
 -- its history too,
-chain-history : (k : ℕ) (h : Held) (ms : List Made) → Chain h ms → historyIn k h ms ≡ historyOf k h (callsOf ms)
+pub chain-history : (k : ℕ) (h : Held) (ms : List Made) → Chain h ms → historyIn k h ms ≡ historyOf k h (callsOf ms)
 unfolding Chain historyIn historyOf
 chain-history k h [] c = refl
 chain-history k h (m ∷ ms) c =
@@ -194,7 +193,8 @@ chain-spaced k h ms c =
 -- ---- every berth comes free
 
 -- A BERTH LEFT ALONE, OF THE CODE. Take any chain of calls on a node in order in which the own events of berth k are n ticks, whatever the
--- other berths do. Each of its sides has n ticks less left, and says its code at the tick at which its time ends and at no other.
+-- other berths do. Each of its sides has n ticks less left, or none, and is then idle; it says its code at the tick at which its time ends and
+-- at no other.
 pub chain-left-alone : (n k : ℕ) (h : Held) (ms : List Made) → Chain h ms → InOrder (h .node) → k < berthCount → ownIn k h ms ≡ replicate n ticks
     → LeftAlone n k h (saidBy ms) (leftBy h ms)
 chain-left-alone n k h ms c order small only-ticks =
@@ -221,10 +221,11 @@ chain-in-order h s n ms r =
     let order : InOrder (withNode h n .node) = subst (λ (g : Held). InOrder (g .node)) (sym (ready-held h s n (r .ready))) fresh in
     rw (chain-leaves (withNode h n) ms (r .chain)) (run-in-order (withNode h n) (callsOf ms) order)
 
--- AFTER A SET-UP that the code answered with Ready, with ten cards, such ticks free every berth at any place of a run, whatever came before.
+-- AFTER A SET-UP that the code answered with Ready, with ten cards, 1,128 ticks or more free every berth at any place of a run, whatever came
+-- before.
 pub chain-free-after-set-up : (h : Held) (s : Settings) (n : Node) (ms : List Made) → AfterSetUp h s n ms → length (h .cards) ≡ berthCount
-    → (ts : List Made) → Chain (leftBy (withNode h n) ms) ts → callsOf ts ≡ replicate mostTime tick
+    → (ts : List Made) → Chain (leftBy (withNode h n) ms) ts → (t : ℕ) → mostTime ≤ t → callsOf ts ≡ replicate t tick
     → AllComeFree (leftBy (withNode h n) ms) (saidBy ts) (leftBy (leftBy (withNode h n) ms) ts)
-chain-free-after-set-up h s n ms r ten ts c only-ticks =
+chain-free-after-set-up h s n ms r ten ts c t enough only-ticks =
     let cards = ap (λ (g : Held). length (g .cards)) (chain-leaves (withNode h n) ms (r .chain)) ∙ ten-run (withNode h n) (callsOf ms) ∙ ten in
-    chain-all-come-free (leftBy (withNode h n) ms) ts c (chain-in-order h s n ms r) cards mostTime (lit≤ tt) only-ticks
+    chain-all-come-free (leftBy (withNode h n) ms) ts c (chain-in-order h s n ms r) cards t enough only-ticks

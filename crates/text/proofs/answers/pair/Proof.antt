@@ -1,19 +1,16 @@
 -- Nothing is put where both codes are 0; else the three numbers with their marks.
-use mathlib.Core.Path.{_≡_, refl, sym}
-use mathlib.Core.Bool.{Bool, true, false, _&&_}
+use mathlib.Core.Path.{_≡_, sym}
+use mathlib.Core.Bool.{false, _&&_}
 use mathlib.Core.Logic.{⊎-elim}
 use lib.Dec.{eqb}
 use mathlib.Core.List.{append-nil, append-assoc}
 use borrow.Author.Tests.{eq-eqb, ne-eqb}
+use Rattle.rules.proofs.Cases.{and-false}
 use Rattle.text.specs.Answers.{codeText}
 use Rattle.text.proofs.Clip.{text-holds, clip-more}
 use borrow.Author.Needs.{needs}
 use Rattle.text.proofs.answers.pair.Statement.{statement}
 use Rattle.text.proofs.answers.pair.Tie as tie
-
-and-false : (t : Bool) → (t && false) ≡ false
-and-false true = refl
-and-false false = refl
 
 returns : tie.Need-returns
 unfolding codeText
