@@ -63,7 +63,7 @@ DELIVERED, PUT_CARD = cards.callee('delivered'), cards.callee('card')
 ARRIVED = Callee('hearing', 'arrived', 'mut', ['&mut [Card]:cards', 'usize', '&mut [u8]:incoming', '&[u8]:payload'], 'FrameAnswer',
                  lambda r, z, zs, h, vs: f'(d· : ℕ) → Arriving {h} (cards .now) d· {vs[1]} (incoming .now) (payload .now) → FramePromise {h} (cards .now) (incoming .now) d· (payload .now) {r} {z} {zs["cards"]} {zs["incoming"]}',
                  asks=lambda ps: f'((d· : ℕ) × Arriving h (cards .now) d· {ps[1]} (incoming .now) (payload .now))')
-PASSED_OVER = Callee('looks', 'passed_over', 'shr', [], 'u8', lambda r, z, zs, h, vs: f'{r} ≡ passedOver {h}', asks=lambda ps: 'h .served < berthCount')
+PASSED_OVER = Callee('looks', 'passed_over', 'shr', ['usize'], 'u8', lambda r, z, zs, h, vs: f'{r} ≡ passedOver {h}', asks=lambda ps: f'(inOrder h ≡ true) × ({ps[0]} ≡ orderOf h)')
 FLOW_HANDED = Callee('sides', 'flow_handed', None, ['Settings', 'usize', 'Rx', 'u8', '&mut [u8]:buffer'], 'FlowHanded',
                      lambda r, z, zs, h, vs: f'(n· : Node) (c· : List Card) (u· : List ℕ) → {vs[2]} ≡ berthAt n· {vs[1]} .rx → Turning n· c· {vs[0]} {vs[1]} {vs[3]} u· (buffer .now) → TurnPromise n· c· u· (buffer .now) '
                                              f'({r} .answer) (servedNode n· {vs[1]} (withRx (berthAt n· {vs[1]}) ({r} .rx) (berthAt n· {vs[1]} .last))) c· {zs["buffer"]}',
@@ -127,13 +127,15 @@ use Rattle.sides.specs.Parts.{Turning}
 use Rattle.looks.proofs.Bodies.{none as is-no}
 use Rattle.handing.proofs.Arms.{turned-within, card-at-turn, flow-is, no-flow, own-rx, own-tx}
 '''
-TURN_USES = '''use Rattle.rules.specs.Stores.{passedOver}
+TURN_USES = '''use mathlib.Core.Bool.{true}
+use Rattle.rules.specs.Ranges.{inOrder}
+use Rattle.rules.specs.Stores.{passedOver}
 use Rattle.looks.specs.Order.{orderOf}
 use Rattle.node.specs.Promises.{TurnPromise}
 use Rattle.node.specs.Numbered.{turnRefusal}
 use Rattle.looks.specs.Probes.{probeAt}
 use Rattle.sides.specs.Parts.{Turning}
-use Rattle.carumpek.proofs.Arms.{turn-refused, served-within, turn-idle, turn-none, turning}
+use Rattle.carumpek.proofs.Arms.{turn-refused, found-order, turn-none, turning}
 '''
 TICK_USES = '''use mathlib.Core.List.{map}
 use Rattle.rules.specs.Nodes.{withBerths}
@@ -275,8 +277,7 @@ def turn():
     known = 'h eo (cards .now) (outgoing .now) (buffer .now) en'
     return (begins('let settings = node.settings;')
             + refuses('let number = node::refusals::turn( ordered, settings.area, outgoing.len(), cards.len(), buffer.len(), );', 4, TURN_REFUSAL, 'TurnAnswer', f'turn-refused {known} found')
-            + [('source', 'if order == looks::ALL_IDLE {', 2), ('if', ('is-ten', 'is-less'), [('source', 'return TurnAnswer::None(rules::BERTH_COUNT);', 2), ('make', 'TurnAnswer', 'None'), ('return', f'turn-idle {known} fine is-ten')], None),
-               ('source', 'let passed = looks::passed_over(&*node);', 2), ('call', PASSED_OVER, 'p·', 'ep', 'p-is', f'(served-within {known} fine)', None),
+            + [('source', 'let passed = looks::passed_over(&*node, order);', 2), ('call', PASSED_OVER, 'p·', 'ep', 'p-is', f'(found-order {known} fine)', None),
                ('source', 'if rules::BERTH_COUNT <= passed {', 2), ('if', ('is-all', 'is-few'), [('source', 'return TurnAnswer::None(passed);', 2), ('make', 'TurnAnswer', 'None'), ('return', f'turn-none {known} fine ep is-all')], None),
                ('source', 'let at = looks::probe(node.served, passed);', 2), ('call', PROBE, 'j·', 'ej', 'j-is', None, None),
                ('source', 'handing::hand_over( &mut *node, &mut *cards, settings, at, passed, outgoing, buffer, )', 7), ('call', HAND_OVER, 'r·', 'er', 'r-is', f'(turning {known} fine ep is-few (ej .0))', None),

@@ -12,7 +12,9 @@ HERE = pathlib.Path(__file__).resolve().parent
 sys.dont_write_bytecode = True
 sys.path.insert(0, str(HERE))
 import inwalk
+import layout
 from inwalk import Callee, LOOP_USES, Walk, at_of, fork, joined, locals_ctx, places, sub
+from kinds import TYPES
 
 OWN = 'Rattle.looks.proofs.'
 inwalk.K['Rx'] = ('FR', 'Rx', 'R.the-row')
@@ -153,20 +155,108 @@ def order_at():
         goes_on=True, after='t-12', tx_locals=(13, 14, 15, 6))
 
 
+# ---- one side, where it lies
+
+def side_at(fn, kind, j, rule, nlocals, at, answer, arms, after):
+    """The walk of `fn(node: &Node, k: usize) -> bool`, a `match` on side j of berth k behind the `&`, of which only the tag is read. `at`
+    are the locals of the index, the array and the berth, `answer` the one that the arms fill, `after` the body after the match. An arm is
+    a source line, and what it does with a copy of the walk: it gives the answer's value. Where the tag is known, so is the side."""
+    side = kind.lower()
+    w = at_berth(fn, nlocals, [], f'r ≡ {rule} (berthAt h k .{side})', f'''use lib.Dec.{{eqb}}
+use types.Match.{{vrt, look-tag, in-variant, by-variants}}
+use denote.Enum.Laws as EL
+use Rattle.rules.specs.Turns.{{{rule}}}
+use Rattle.rules.proofs.Sending as D
+use Rattle.rules.proofs.Sending.Laws as D′
+use Rattle.rules.proofs.Rx.Laws as R′
+use Rattle.rules.proofs.Tx.Laws as X′
+use Rattle.looks.proofs.Variants.{{see-{side}, {side}-seen, {side}-as, {', '.join(f'as-{side}-{name}' for name, _ in TYPES[kind].variants)}}}
+''', 'The tag of one side of one berth is read behind the `&`, and of a sending the gap left.' if kind == 'Tx' else 'The tag of one side of one berth is read behind the `&`.')
+    w.source(f'match node.berths[k].{side} {{')
+    w.elem_ptr('_2', *(f'_{i}' for i in at), 'k', 'within', at[2])
+    lies = layout.field(TYPES, 'Berth', j)
+    part = f"(sub ! {j}{lies} refl {w.item('h', 'was', 'k', 'within', f'see-{side} {BERTH}')})"
+    tag = f"(from ! (hop ! (look ! {w.p(f'_{at[2]}')} refl) (fld !{lies} refl (vrt ! refl (fld ! {{τ = tyInt w8}} {{d = 0}} refl (stop !))))))"
+    w.e(f"first ! $ by-variants ! {w.p('cell')} {part} (load ! {tag} (look-tag ! {w.p('cell')} {part})) tt")
+    for (name, fields), (line, does) in zip(TYPES[kind].variants, arms):
+        same = f'(as-{side}-{name} ({BERTH} .{side}) tag' + ')' + ' .1' * len(fields)
+        arm = fork(w)
+        arm.e('((λ tag.')
+        arm.depth += 1
+        arm.source(line)
+        value = does(arm, f'(as-{side}-{name} ({BERTH} .{side}) tag)')
+        arm.e(f'exec ! C Λ _ body.{after} (atRet _ Post) $')
+        arm.copy(answer, '_0', 'bool', value, 'refl')
+        arm.close('h', 'was')
+        arm.finish(f'exits {value} (sym (ap {rule} ({same})) ∙ ap (λ (y : Berth). {rule} (y .{side})) (sym (at-is h k))) refl')
+        arm.lines[-1] += ')' * arm.depth + ','
+        w.lines += arm.lines
+    w.lines.append('          tt' + ')' * len(arms))
+    return w
+
+
+def says(local, value):
+    """An arm that answers true or false."""
+    def go(arm, found):
+        arm.e(f"assigns-last ! (of-opd ! ({value}-lit !)) {inwalk.S} {arm.W(local, '(tt, tt)')} $")
+        return value
+    return go
+
+
+def flow_at():
+    arms = [('Rx::Idle => false,', says('_6', 'false')), ('Rx::OwesOverflow(_) => true,', says('_6', 'true')),
+            ('Rx::OwesGo(_, _) => true,', says('_6', 'true')), ('Rx::Awaits(_, _) => false,', says('_6', 'false'))]
+    return side_at('flow_at', 'Rx', 0, 'flowDue', 7, (3, 4, 5), '_6', arms, 't-5')
+
+
+LEFT = 6   # the gap left among the fields of a Sending
+
+
+def gap_over(arm, found):
+    """left == 0, where the send side is the fifth variant"""
+    seen = arm.item('h', 'was', 'k', 'within', f'tx-seen {BERTH} ({found} .1 .1)')
+    side, sending, left = layout.field(TYPES, 'Berth', 2), layout.variant(TYPES, 'Tx', 4, 0), layout.field(TYPES, 'Sending', LEFT)
+    there = f"(from ! (hop ! (look ! {arm.p('_6')} refl) (fld !{side} refl (vrt ! refl (fld !{sending} refl (fld !{left} refl (stop !)))))))"
+    part = f'(sub ! {LEFT}{left} refl (in-variant ! 4 0{sending} refl refl (sub ! 2{side} refl {seen})))'
+    whole = f'(Tx.Consecutive ({found} .0) ({found} .1 .0))'
+    owed = f"(EL.owed X.the-type X′.the-laws {whole} _ (tx-as {BERTH} {OF_BERTH} ({found} .1 .1)) .0)"
+    fits = f"record {{ fits = LL.owed D.the-type D′.the-laws ({found} .0) _ {owed}{' .1' * LEFT} .0 .1 }}"
+    arm.assign(f"(of-opd ! (load ! {there} (look-in ! {arm.p('cell')} {part})))", '_3', f'(tt, {fits})')
+    arm.e(f"assigns-last ! (bin ! {arm.L('_3')} (lit ! tt) tt) {inwalk.S} {arm.W('_7', '(tt, tt)')} $")
+    return f'(eqb ({found} .0 .left) 0)'
+
+
+def message_at():
+    arms = [('Tx::Idle => false,', says('_7', 'false')), ('Tx::SingleDue(_, _) => true,', says('_7', 'true')), ('Tx::FirstDue(_, _) => true,', says('_7', 'true')),
+            ('Tx::AwaitsFlow(_, _) => false,', says('_7', 'false')), ('Tx::Consecutive(Sending { left: left, .. }, _) => left == 0,', gap_over)]
+    return side_at('message_at', 'Tx', 2, 'messageDue', 8, (4, 5, 6), '_7', arms, 't-5')
+
+
 def due_at():
-    flow = of_berth('flow_due', 'turns', ['Rx'], lambda r, last, h, v: f'{r} ≡ flowDue {v[0]}', 1)
-    message = of_berth('message_due', 'turns', ['Tx'], lambda r, last, h, v: f'{r} ≡ messageDue {v[0]}', 2)
-    w = at_berth('due_at', 11, [flow, message], 'r ≡ due (berthAt h k)', 'use Rattle.rules.specs.Turns.{flowDue, messageDue, due}\n',
-                 'The receive side of one berth is copied out from behind the `&`; where it owes no flow control, the send side decides.')
-    rx(w, 5, 6, 7, 3)
-    there = 'ap due (sym (at-is h k))'
-    return two_sides(
-        w, '_8',
-        first=('if berth::turns::flow_due(rx) {', flow, lambda arm: [arg(arm, '_3', 'Rx', RX)]),
-        second=('berth::turns::message_due(tx)', message, lambda arm: [arg(arm, '_4', 'Tx', TX)]),
-        decides=lambda came: f'then-message {BERTH} ({came}) et ∙ {there}',
-        value='true', decided=lambda came: f'flow-first {BERTH} ({came}) ∙ {there}',
-        goes_on=False, after='t-7', tx_locals=(5, 9, 10, 4))
+    message = asked_of('message_at', lambda r, k: f'{r} ≡ messageDue (berthAt h {k} .tx)', 1)
+    flow = asked_of('flow_at', lambda r, k: f'{r} ≡ flowDue (berthAt h {k} .rx)', 2)
+    w = Walk('due_at', 'shr', [('k', 'usize')], 'bool', 4, [message, flow], requires='k < berthCount', extra_uses='''use Rattle.rules.specs.Turns.{flowDue, messageDue, due}
+use Rattle.looks.proofs.Sides.{message-due, then-flow}
+''', doc='The send side is asked, and where it has no frame due, the receive side.')
+    w.requires_walks, w.ensures = 'a .1 .0 < berthCount', 'r ≡ due (berthAt h k)'
+    w.begin()
+    berth = lambda arm: (lambda: arm.L('_2'), 'usize', 'k', 'k-is')
+    w.source('if message_at(node, k) {')
+    w.call(message, [berth(w)], '_3', 'r', 'e', 'is', lend=LENT, within='within')
+    w.e(f"first ! $ branches ! {w.L('_3')}")
+    sends, other = fork(w), fork(w)
+    sends.e('(λ yes.')
+    sends.depth += 1
+    sends.source('return true;')
+    sends.flag('_0', 'true')
+    sends.finish('exits true (message-due (berthAt h k) (sym e ∙ is-true r yes)) refl', within=True)
+    other.e('(λ no. skips ! $ exec ! C Λ _ body.t-3 (atRet _ Post) $')
+    other.depth += 1
+    other.source('flow_at(node, k)')
+    other.call(flow, [berth(other)], '_0', 't', 'et', 't-is', lend=LENT, within='within')
+    other.finish('exits t (then-flow (berthAt h k) (sym e ∙ is-false r no) et) t-is')
+    w.lines += joined(sends, other)
+    return w
 
 
 # ---- the loops
@@ -257,10 +347,31 @@ class Loop:
         outside.depth += 1
         over(outside)
         inside.lines += joined(yes, no)
-        w.turns = TURNS.format(
+        self.written(t.lines + joined(inside, outside))
+
+    def written(self, lines):
+        self.w.turns = TURNS.format(
             bits=self.bits, invariant=self.invariant('i'), invariant_next=self.invariant('(i .0 + 1)'), rest=self.after, cells=self.cells,
-            env=' ∷ '.join(f'({ty}, l{sub(i)})' for i, ty in enumerate(self.types)), items=at_of(w.nl, self.types, self.values),
-            lines='\n'.join(t.lines + joined(inside, outside)))
+            env=' ∷ '.join(f'({ty}, l{sub(i)})' for i, ty in enumerate(self.types)), items=at_of(self.w.nl, self.types, self.values),
+            lines='\n'.join(lines))
+
+    def steady(self, does, known, over):
+        """One turn that does something and counts, and never returns. `over(arm)` returns after the last turn."""
+        w = self.w
+        t = fork(w)
+        t.ctx, t.full = list(self.start), set(self.live)
+        t.source(self.head)
+        t.assign(f'(bin ! {t.L(self.counter)} (lit ! tt) tt)', self.test, '(tt, tt)')
+        t.e(f'first ! $ branches ! {t.L(self.test)}')
+        inside, outside = fork(t), fork(t)
+        inside.e(f'(λ less. skips ! $ exec ! C Λ En {rest_of(2)} (anyQ (Turned i)) $')
+        inside.depth += 1
+        does(inside)
+        self.count(inside, known)
+        outside.e(f'(λ over. jumps ! $ exec ! C Λ En body.{self.after} (atRet En Post) $')
+        outside.depth += 1
+        over(outside)
+        self.written(t.lines + joined(inside, outside))
 
     def count(self, arm, known):
         arm.source(f'{self.name} += 1;')
@@ -364,48 +475,88 @@ def rest_in_order():
     return w
 
 
-def passed_over():
-    finds = of_looks('probe', None, ['u8', 'u8'], 'usize', lambda r, last, h, v: f'({r} ≡ probeAt {v[0]} {v[1]}) × ({r} < berthCount)', 1)
+# ---- the search of a turn
+
+# what the test of order has found: the node is in order, and how many berths from the first on are idle
+FOUND = ('(inOrder h ≡ true) × (idle ≡ orderOf h)', '(inOrder (a .0 .now) ≡ true) × (a .1 .0 ≡ orderOf (a .0 .now))')
+FOUND_USES = '''use Rattle.rules.specs.Ranges.{inOrder}
+use Rattle.looks.specs.Order.{orderOf}
+'''
+
+
+def due_bits():
+    begins = of_looks('bit', None, ['usize'], 'u16', lambda r, last, h, v: f'{r} ≡ 2 ^ {v[0]}', 1, lambda v: f'{v[0]} ≤ berthCount')
     asks = asked_of('due_at', lambda r, k: f'{r} ≡ due (berthAt h {k})', 2)
-    w = looking('passed_over', [], 'u8', 7, [finds, asks], 'r ≡ passedOver h', LOOP_USES + '''use Rattle.rules.specs.Turns.{due}
-use Rattle.rules.specs.Stores.{passedOver}
-use Rattle.looks.specs.Probes.{probeAt}
-use Rattle.looks.proofs.Distances.{Passed, none-passed, one-passed, found, none-found}
-''', 'A loop probes berth after berth from the one after the berth served last. No berth probed so far is due, so that the count is the\n-- least distance where the search stops.')
-    w.requires = 'h .served < berthCount'
-    w.requires_walks = 'a .0 .now .served < berthCount'
-    loop = Loop(w, ['tyInt w8', 'ref', 'tyInt w8', 'tyInt w8', 'tyInt w64', 'tyBool', 'tyBool'], 'while passed < rules::BERTH_COUNT {', 'passed', '_3', 8, '_5',
-                {2: 'vint w8 (h .served)'}, lambda i: f'Passed h {i}', 't-4')
-    told = lambda came: f'(ap (λ m. due (getD (h .berths) m fresh)) (sym (ep .0)) ∙ ap due (sym (at-is h m)) ∙ sym e ∙ {came})'
-    passed = lambda arm: (lambda: arm.L('_3'), 'u8', '(i .0)', '(refl, i .1)')
-    served = lambda arm: (lambda: arm.L('_2'), 'u8', '(h .served)', '(refl, lt-of-lt-of-le within (lit≤ tt))')
+    adds = of_looks('with_bit', None, ['u16', 'u16', 'bool'], 'u16', lambda r, last, h, v: f'{r} ≡ {v[0]} + choose {v[2]} {v[1]} 0', 3, lambda v: f'{v[0]} + {v[1]} < 2 ^ 16')
+    w = looking('due_bits', [('idle', 'usize')], 'u16', 8, [begins, asks, adds], 'r ≡ dueBits (h .berths)', LOOP_USES + FOUND_USES + '''use Rattle.rules.specs.Tests.{pick as choose}
+use Rattle.rules.specs.Turns.{due}
+use Rattle.looks.specs.Bits.{dueBits}
+use Rattle.looks.proofs.Ordered.{order-most}
+use Rattle.looks.proofs.Bits.{gathered, bit-fits, gathered-fits, both-fit, next-bit, gather-begins, gather-on, gather-ends}
+''', 'A loop asks berth after berth whether it is due, and puts the answer above the bits so far.')
+    w.requires, w.requires_walks = FOUND
+    bits, fits = '(gathered h (i .0))', '(refl, gathered-fits h (i .0) (i .2))'
+    one, one_fits = '(2 ^ i .0)', '(refl, bit-fits (i .0) (i .2))'
+    loop = Loop(w, ['tyInt w16', 'ref', 'tyInt w64', 'tyInt w16', 'tyInt w16', 'tyInt w64', 'tyBool', 'tyBool'], 'while i < 10 {', 'i', '_5', 64, '_7',
+                {2: 'vint w64 idle', 3: f'vint w16 {bits}', 4: f'vint w16 {one}'}, lambda i: f'({i} ≤ berthCount)', 't-5')
+    holds = lambda arm, local, why: arm.e(f"rewrite ! {arm.p(f'_{local}')} (λ (m : ℕ). ‵ (fat fullShare (tyInt w16) l{sub(local)} 0 (vint w16 m))) ({why}) refl $")
 
-    def ask(arm):
-        arm.source('let at = probe(served, passed);')
-        arm.call(finds, [served(arm), passed(arm)], '_4', 'm', 'ep', 'm-is')
-        arm.source('if due_at(node, at) {')
-        arm.call(asks, [(lambda: arm.L('_4'), 'usize', 'm', 'm-is')], '_6', 'r', 'e', 'is', lend=LENT, within='(ep .1)')
-        return '_6'
-
-    def stop(arm, came):
-        arm.source('return passed;')
-        arm.copy('_3', '_0', 'u8', '(i .0)', '(refl, i .1)')
-        arm.finish(f'exits (i .0) (found h within ten (i .0) (i .2) (below less) {told(came)}) (refl, i .1)', within=True)
+    def does(arm):
+        arm.source('let set = due_at(node, i);')
+        arm.call(asks, [counter(arm, '_5')], '_6', 'r', 'e', 'is', lend=LENT, within='(below less)')
+        arm.source('bits = with_bit(bits, next, set);')
+        arm.call(adds, [(lambda: arm.L('_3'), 'u16', bits, fits), (lambda: arm.L('_4'), 'u16', one, one_fits), (lambda: arm.L('_6'), 'bool', 'r', 'is')], '_3', 's', 'es', 's-is', within='(both-fit h (i .0) (below less))')
+        holds(arm, 3, 'gather-on h (i .0) (in-ten less) e es')
+        arm.source('next = 2 * next;')
+        doubled = 'record { fits = subst (λ m. m < 2 ^ 16) (sym (next-bit (i .0))) (bit-fits (i .0 + 1) (add-one-le (below less))) }'
+        arm.assign(f"(bin ! (lit ! tt) {arm.L('_4')} ({doubled}))", '_4', f'(tt, {doubled})')
+        holds(arm, 4, 'next-bit (i .0)')
 
     def over(arm):
-        arm.source('passed')
-        arm.copy('_3', '_0', 'u8', '(i .0)', '(refl, i .1)')
-        arm.finish('exits (i .0) (none-found h within ten (i .0) (i .2) (nltb→le (i .0) 10 over)) (refl, i .1)')
+        arm.source('bits')
+        arm.copy('_3', '_0', 'u16', bits, fits)
+        arm.finish(f'exits {bits} (gather-ends h (i .0) (past over)) {fits}')
 
-    loop.turn(ask, False, lambda came: f'(one-passed h (i .0) (i .2) (below less) {told(came)})', stop, over, counted_last=5)
+    loop.steady(does, '(add-one-le (below less))', over)
+    most = '(subst (λ m. m ≤ berthCount) (sym (within .1)) (order-most h (within .0)))'
+    w.begin()
+    w.open()
+    w.close('h', 'was')
+    w.source('let mut bits: u16 = 0;')
+    w.number('_3')
+    w.source('let mut next = bit(idle);')
+    w.call(begins, [(lambda: w.L('_2'), 'usize', 'idle', 'idle-is')], '_4', 'm', 'em', 'm-is', within=most)
+    w.source('let mut i = idle;')
+    w.copy('_2', '_5', 'usize', 'idle', 'idle-is')
+    holds(w, 3, 'gather-begins h idle (within .0) (within .1)')
+    holds(w, 4, 'em')
+    loop.enter(f'(idle, idle-is .1, {most})')
+    return w
+
+
+def passed_over():
+    gathers = of_looks('due_bits', 'pass', ['usize'], 'u16', lambda r, last, h, v: f'{r} ≡ dueBits (h .berths)', 1, lambda v: f'(inOrder h ≡ true) × ({v[0]} ≡ orderOf h)')
+    finds = of_looks('next_set', None, ['u16', 'u8'], 'u8', lambda r, last, h, v: f'{r} ≡ nextSet {v[0]} {v[1]}', 2, lambda v: f'({v[0]} < 2 ^ berthCount) × ({v[1]} < berthCount)')
+    w = looking('passed_over', [('idle', 'usize')], 'u8', 5, [gathers, finds], 'r ≡ passedOver h', FOUND_USES + '''use Rattle.rules.specs.Ranges.{InOrder}
+use Rattle.rules.specs.Stores.{passedOver}
+use Rattle.rules.proofs.Cases.{yes-of}
+use Rattle.rules.proofs.Ranges.{in-order-range}
+use Rattle.looks.specs.Bits.{dueBits, nextSet}
+use Rattle.looks.proofs.Bits.{due-fit, next-is-passed}
+''', 'The due berths are gathered, and the next set bit is found.')
+    w.requires, w.requires_walks = FOUND
     w.begin()
     w.open()
     w.source('let served = node.served;')
-    w.field(1, '_2', 'u8', *SERVED)
+    w.field(1, '_3', 'u8', *SERVED)
     w.close('h', 'was')
-    w.source('let mut passed: u8 = 0;')
-    w.number('_3')
-    loop.enter('(0, lit< tt, none-passed h)')
+    w.source('let bits = due_bits(node, idle);')
+    w.call(gathers, [(lambda: w.L('_2'), 'usize', 'idle', 'idle-is')], '_4', 'm', 'em', 'm-is', lend=LENT, within='within')
+    w.source('next_set(bits, served)')
+    order = '(in-order-range h (yes-of (within .0)))'
+    w.call(finds, [(lambda: w.L('_4'), 'u16', 'm', 'm-is'), arg(w, '_3', 'u8', SERVED)], '_0', 'r', 'e', 'is',
+           within=f'(subst (λ n. n < 2 ^ berthCount) (sym em) (due-fit (h .berths) ({order} .ten)), {order} .served)')
+    w.finish(f'exits r (e ∙ ap (λ m. nextSet m (h .served)) em ∙ next-is-passed h {order}) is')
     return w
 
 
@@ -464,7 +615,7 @@ use Rattle.looks.proofs.Ordered.{front-fails, berths-fail, berths-pass}
 def walks():
     """(path below the repository's root, text) of every walk that is written. The source lines that it names stand in the source."""
     there = {line.strip() for line in (HERE.parent.parent / 'crates/looks/src/lib.rt').read_text(encoding='utf-8').splitlines()}
-    for make in (idle_at, idle_before, order_at, rest_in_order, order, due_at, passed_over):
+    for make in (idle_at, idle_before, order_at, rest_in_order, order, flow_at, message_at, due_at, due_bits, passed_over):
         inwalk._made[0] = 0
         w = make()
         wrong = [line for line in w.sources if line not in there]

@@ -26,18 +26,6 @@ pub fn flow_due(rx: Rx) -> bool
     }
 }
 
-pub fn message_due(tx: Tx) -> bool
-    ensures { λ r. ⌜ r ≡ messageDue tx ⌝ }
-{
-    match tx {
-        Tx::Idle => false,
-        Tx::SingleDue(_, _) => true,
-        Tx::FirstDue(_, _) => true,
-        Tx::AwaitsFlow(_, _) => false,
-        Tx::Consecutive(o, _) => o.left == 0,
-    }
-}
-
 fn flow_control(status: u8, block: u8, stmin: u8, frame: &mut [u8])
     requires { ⌜ (status < 16) × (length (now frame) ≡ frameSize) ⌝ }
     ensures { λ _. ⌜ now (frame .exit) ≡ headed flowKind status (block ∷ stmin ∷ []) ⌝ }

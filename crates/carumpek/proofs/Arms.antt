@@ -3,10 +3,10 @@
 use Prim.Native.Nat.{ℕ, _<_}
 use native.Mathlib.Omega.{arith}
 use mathlib.Core.Path.{_≡_, refl, sym, ap, _∙_}
-use mathlib.Core.Bool.{Bool, not}
+use mathlib.Core.Bool.{Bool, true, not}
 use mathlib.Core.List.{List, []}
 use lib.ListN.{length, getD}
-use lib.Dec.{T, ltb, leb, eqb, eqb→eq, leb→le}
+use lib.Dec.{T, ltb, leb, eqb, leb→le}
 use mir.Facts.{leb-no}
 use Rattle.rules.specs.Numbers.{berthCount}
 use Rattle.rules.specs.Nodes.{fresh, berthAt}
@@ -22,11 +22,10 @@ use Rattle.rules.specs.declared.TurnAnswer.{TurnAnswer}
 use Rattle.rules.specs.declared.Card.{Card}
 use Rattle.rules.proofs.Cases.{is-true}
 use Rattle.rules.proofs.Answered.{frame-answered, send-answered, turn-answered}
-use Rattle.rules.proofs.Ranges.{in-order-range}
 use Rattle.rules.proofs.Round.{passed-ten}
 use Rattle.looks.specs.Probes.{probeAt}
 use Rattle.looks.specs.Order.{unordered, orderOf}
-use Rattle.looks.proofs.Ordered.{ordered, none-due as none-due-where-idle}
+use Rattle.looks.proofs.Ordered.{ordered}
 use Rattle.looks.proofs.Bodies.{some, none}
 use Rattle.node.specs.Promises.{lent, FramePromise, SendPromise, TurnPromise}
 use Rattle.node.specs.Numbered.{frameRefusal, sendRefusal, turnRefusal, placeOf, placeOfSender}
@@ -112,14 +111,8 @@ module _ (h : Node) {order : ℕ} (eo : order ≡ orderOf h) where
       in-order : T (inOrder h)
       in-order = turn-answered (lent h cards [] outgoing) buffer (may-turn []) .order
 
-      pub served-within : h .served < berthCount
-      served-within = in-order-range h in-order .served
-
-      -- ten berths are idle
-      pub turn-idle : T (eqb order 10) → TurnPromise h cards outgoing buffer (TurnAnswer.None 10) h cards buffer
-      unfolding turnSays
-      turn-idle ten =
-          none-due h cards outgoing buffer may-turn (none-due-where-idle h (is-true (inOrder h) in-order) (sym eo ∙ eqb→eq order 10 ten)) (TurnAnswer.None 10) refl
+      pub found-order : (inOrder h ≡ true) × (order ≡ orderOf h)
+      found-order = (is-true (inOrder h) in-order, eo)
 
       module _ {passed : ℕ} (ep : passed ≡ passedOver h) where
         pub turn-none : T (leb 10 passed) → TurnPromise h cards outgoing buffer (TurnAnswer.None passed) h cards buffer

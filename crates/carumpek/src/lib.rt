@@ -104,10 +104,7 @@ pub fn turn(node: &mut Node, cards: &mut [Card], outgoing: &[u8], buffer: &mut [
     if number != 0 {
         return TurnAnswer::Refused(number);
     }
-    if order == looks::ALL_IDLE {
-        return TurnAnswer::None(rules::BERTH_COUNT);
-    }
-    let passed = looks::passed_over(&*node);
+    let passed = looks::passed_over(&*node, order);
     if rules::BERTH_COUNT <= passed {
         return TurnAnswer::None(passed);
     }

@@ -8,7 +8,7 @@ pub mod Lending
 pub mod Twelve
 pub mod Sides
 pub mod Ordered
-pub mod Distances
+pub mod Bits
 pub mod Variants
 pub mod Puts
 pub mod Bodies

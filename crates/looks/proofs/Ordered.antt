@@ -1,8 +1,7 @@
 -- The test of order. The loops: what is left of the list says what all of it says, as long as each element passed by passes. A berth
 -- that is idle, with a last length in range, is in order, and one that is in order fails that test only where it is not idle. Then
 -- what follows of a node from its answer.
-use Prim.Native.Nat.{ℕ, zero, suc, _+_, _%_, _<_, _≤_}
-use native.Mathlib.Nat.{le-antisymm}
+use Prim.Native.Nat.{ℕ, zero, suc, _+_, _<_, _≤_}
 use native.Mathlib.Numerals.{add-one}
 use native.Mathlib.Omega.{arith}
 use mathlib.Core.Path.{_≡_, refl, sym, _∙_, ap}
@@ -15,9 +14,8 @@ use borrow.Author.Tests.{eq-eqb, lt-ltb, le-ltb}
 use Rattle.rules.specs.Numbers.{berthCount}
 use Rattle.rules.specs.Tests.{pick, all, each}
 use Rattle.rules.specs.Nodes.{fresh}
-use Rattle.rules.specs.Ranges.{settingsAllowed, rxInRange, txInRange, berthInOrder, inOrder, InOrder}
-use Rattle.rules.specs.Turns.{busy, due}
-use Rattle.rules.specs.Stores.{passedOver}
+use Rattle.rules.specs.Ranges.{settingsAllowed, rxInRange, txInRange, berthInOrder, inOrder}
+use Rattle.rules.specs.Turns.{busy}
 use Rattle.rules.specs.declared.Settings.{Settings}
 use Rattle.rules.specs.declared.Rx.{Rx}
 use Rattle.rules.specs.declared.Tx.{Tx}
@@ -25,13 +23,10 @@ use Rattle.rules.specs.declared.Berth.{Berth}
 use Rattle.rules.specs.declared.Node.{Node}
 use Rattle.rules.proofs.Cases.{yes-of, is-true, pick-either, and-left, and-right, all-yes}
 use Rattle.rules.proofs.Ranges.{in-order-range}
-use Rattle.rules.proofs.Round.{passed-ten}
 use Rattle.berth.specs.Idle.{receiving, idle}
 use Rattle.berth.proofs.Chains.{more, stop, ends}
 use Rattle.berth.proofs.Guards.{not-busy}
 use Rattle.looks.specs.Order.{atRest, leadingIdle, Spared, unordered, orderOf}
-use Rattle.looks.specs.Probes.{probed}
-use Rattle.looks.proofs.Distances.{passed-all}
 
 -- ---- a test of every element, from a place on
 
@@ -202,7 +197,7 @@ module _ (n : Node) where
 
 -- ---- what follows from the answer
 
-answer : (n : Node) → inOrder n ≡ true → orderOf n ≡ leadingIdle (n .berths)
+pub answer : (n : Node) → inOrder n ≡ true → orderOf n ≡ leadingIdle (n .berths)
 unfolding orderOf
 answer n e = rw e
 
@@ -218,17 +213,3 @@ ordered n = go (inOrder n) refl
     go : (t : Bool) → inOrder n ≡ t → ltb (orderOf n) unordered ≡ t
     go true e = let most = order-most n e in lt-ltb (orderOf n) unordered (omega (arith, most))
     go false e = let out = out-of-order n e in le-ltb (orderOf n) unordered (omega (arith, out))
-
--- where ten berths are idle no probe meets a due one
-pub none-due : (n : Node) → inOrder n ≡ true → orderOf n ≡ berthCount → passedOver n ≡ berthCount
-unfolding passedOver due
-none-due n e ten = le-antisymm (passed-ten n) (passed-all (n .served) (n .berths) (o .served) (o .ten) berthCount (omega arith) none)
-  where
-    o : InOrder n
-    o = in-order-range n (yes-of e)
-
-    none : (j : ℕ) → j < berthCount → probed (n .served) (n .berths) j ≡ false
-    none j h =
-        let k = (n .served + 1 + j) % berthCount in
-        let rests = idle-there n k e (omega (arith, ten)) in
-        rw (rx-idle (getD (n .berths) k fresh) rests, tx-idle (getD (n .berths) k fresh) rests)

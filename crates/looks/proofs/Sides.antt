@@ -1,7 +1,7 @@
 -- A berth in memory is its three parts: each of them has its type where the berth has. What the two sides say of the berth together:
 -- the receive side is asked first, and decides where it fails the test of order or owes flow control.
-use mathlib.Core.Path.{_≡_, refl}
-use mathlib.Core.Bool.{Bool, true, false}
+use mathlib.Core.Path.{_≡_, refl, sym, ap, _∙_}
+use mathlib.Core.Bool.{Bool, true, false, _||_, or-true, or-false}
 use mathlib.Core.List.{[], _∷_}
 use mir.Syntax.{w32}
 use mir.Val.{Val, vint, vstruct, ofList}
@@ -56,10 +56,10 @@ pub side-passes : {r : Bool} (s : Settings) (b : Berth) → rxInRange s (b .last
 unfolding berthInOrder
 side-passes s b e h = more _ e (ends h)
 
-pub flow-first : (b : Berth) → flowDue (b .rx) ≡ true → true ≡ due b
+pub message-due : (b : Berth) → messageDue (b .tx) ≡ true → true ≡ due b
 unfolding due
-flow-first b e = rw e
+message-due b e = sym (ap (λ t. flowDue (b .rx) || t) e ∙ or-true (flowDue (b .rx)))
 
-pub then-message : {r : Bool} (b : Berth) → flowDue (b .rx) ≡ false → r ≡ messageDue (b .tx) → r ≡ due b
+pub then-flow : {r : Bool} (b : Berth) → messageDue (b .tx) ≡ false → r ≡ flowDue (b .rx) → r ≡ due b
 unfolding due
-then-message b e h = rw e h
+then-flow b e h = h ∙ sym (ap (λ t. flowDue (b .rx) || t) e ∙ or-false (flowDue (b .rx)))

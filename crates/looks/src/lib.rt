@@ -1,24 +1,27 @@
 // What the calls look at behind `&Node`, so that the node is not copied: whether it is in order, and which berth is next to hand a
 // frame over. Only what a test asks for is copied out: one side, or the settings.
 ghost use mathlib.Core.Path.{_≡_};
+ghost use mathlib.Core.Bool.{true};
 ghost use mathlib.Core.List.{[], _∷_};
-ghost use Prim.Native.Nat.{_<_};
+ghost use Prim.Native.Nat.{_+_, _^_, _≤_, _<_};
 ghost use lib.ListN.{drop};
 ghost use lib.Dec.{ltb};
 ghost use Rattle.rules.specs.Numbers.{berthCount};
-ghost use Rattle.rules.specs.Tests.{all, each};
+ghost use Rattle.rules.specs.Tests.{pick, all, each};
 ghost use Rattle.rules.specs.Nodes.{berthAt};
-ghost use Rattle.rules.specs.Ranges.{settingsAllowed, berthInOrder};
-ghost use Rattle.rules.specs.Turns.{due};
+ghost use Rattle.rules.specs.Ranges.{settingsAllowed, berthInOrder, inOrder};
+ghost use Rattle.rules.specs.Turns.{flowDue, messageDue, due};
 ghost use Rattle.rules.specs.Stores.{passedOver};
 ghost use Rattle.looks.specs.Order.{atRest, Spared, orderOf};
 ghost use Rattle.looks.specs.Probes.{probeAt};
+ghost use Rattle.looks.specs.Bits.{dueBits, nextSet};
 use rules::Node;
+use rules::Rx;
+use rules::Sending;
 use rules::Settings;
+use rules::Tx;
 
-// What `order` answers where all ten berths are idle, and of a node that is out of order.
-pub const ALL_IDLE: usize = 10;
-
+// What `order` answers of a node that is out of order.
 pub const UNORDERED: usize = 11;
 
 // Whether the settings and the berth served last are in range.
@@ -100,39 +103,110 @@ pub fn order(node: &Node) -> usize
     UNORDERED
 }
 
+// Whether berth k owes flow control: of its receive side only the tag is read.
+fn flow_at(node: &Node, k: usize) -> bool
+    requires { ⌜ k < berthCount ⌝ }
+    ensures { λ r. ⌜ r ≡ flowDue (berthAt (now (node .entry)) k .rx) ⌝ }
+{
+    match node.berths[k].rx {
+        Rx::Idle => false,
+        Rx::OwesOverflow(_) => true,
+        Rx::OwesGo(_, _) => true,
+        Rx::Awaits(_, _) => false,
+    }
+}
+
+// Whether berth k has a frame of a message due: of its send side the tag is read and, while it sends, the gap left.
+fn message_at(node: &Node, k: usize) -> bool
+    requires { ⌜ k < berthCount ⌝ }
+    ensures { λ r. ⌜ r ≡ messageDue (berthAt (now (node .entry)) k .tx) ⌝ }
+{
+    match node.berths[k].tx {
+        Tx::Idle => false,
+        Tx::SingleDue(_, _) => true,
+        Tx::FirstDue(_, _) => true,
+        Tx::AwaitsFlow(_, _) => false,
+        Tx::Consecutive(Sending { left: left, .. }, _) => left == 0,
+    }
+}
+
+// The send side is asked first: what is due is mostly a frame of a message.
 fn due_at(node: &Node, k: usize) -> bool
     requires { ⌜ k < berthCount ⌝ }
     ensures { λ r. ⌜ r ≡ due (berthAt (now (node .entry)) k) ⌝ }
 {
-    let rx = node.berths[k].rx;
-    if berth::turns::flow_due(rx) {
+    if message_at(node, k) {
         return true;
     }
-    let tx = node.berths[k].tx;
-    berth::turns::message_due(tx)
+    flow_at(node, k)
 }
 
-// The berth that the search probes after so many; where it stops, the berth that is served. Served may be any byte.
+// The number of which only bit k is set.
+fn bit(k: usize) -> u16
+    requires { ⌜ k ≤ berthCount ⌝ }
+    ensures { λ r. ⌜ r ≡ 2 ^ k ⌝ }
+{
+    1 << k
+}
+
+fn with_bit(bits: u16, bit: u16, set: bool) -> u16
+    requires { ⌜ bits + bit < 2 ^ 16 ⌝ }
+    ensures { λ r. ⌜ r ≡ bits + pick set bit 0 ⌝ }
+{
+    if set {
+        return bits + bit;
+    }
+    bits
+}
+
+// The due berths: bit k is set exactly if berth k is due. The berths that the test of order found idle from the first on have no bit.
+fn due_bits(node: &Node, idle: usize) -> u16
+    requires { ⌜ (inOrder (now node) ≡ true) × (idle ≡ orderOf (now node)) ⌝ }
+    ensures { λ r. ⌜ r ≡ dueBits (now (node .entry) .berths) ⌝ }
+{
+    let mut bits: u16 = 0;
+    let mut next = bit(idle);
+    let mut i = idle;
+    while i < 10 {
+        let set = due_at(node, i);
+        bits = with_bit(bits, next, set);
+        next = 2 * next;
+        i += 1;
+    }
+    bits
+}
+
+// From the bit after that of the berth served last, how many bits are passed over until one is set: counted as it goes. The ring has the
+// ten bits twice, so that the round goes on past the last of them without a test.
+fn next_set(bits: u16, served: u8) -> u8
+    requires { ⌜ (bits < 2 ^ berthCount) × (served < berthCount) ⌝ }
+    ensures { λ r. ⌜ r ≡ nextSet bits served ⌝ }
+{
+    if bits == 0 {
+        return rules::BERTH_COUNT;
+    }
+    let mut ring = (bits as u32 * 1025) >> (served as u32 + 1);
+    let mut passed: u8 = 0;
+    while ring % 2 == 0 {
+        ring = ring / 2;
+        passed += 1;
+    }
+    passed
+}
+
+// From the berth after the one served last, how many berths are passed over until one has a frame due; 10 if no frame is due.
+pub fn passed_over(node: &Node, idle: usize) -> u8
+    requires { ⌜ (inOrder (now node) ≡ true) × (idle ≡ orderOf (now node)) ⌝ }
+    ensures { λ r. ⌜ r ≡ passedOver (now (node .entry)) ⌝ }
+{
+    let served = node.served;
+    let bits = due_bits(node, idle);
+    next_set(bits, served)
+}
+
+// The berth that is passed to after so many. Served may be any byte.
 pub fn probe(served: u8, passed: u8) -> usize
     ensures { λ r. ⌜ (r ≡ probeAt served passed) × (r < berthCount) ⌝ }
 {
     (served as usize + 1 + passed as usize) % rules::BERTH_COUNT as usize
-}
-
-// From the berth after the one served last, how many berths are passed over until one has a frame due: counted as it goes, 10 if no
-// frame is due.
-pub fn passed_over(node: &Node) -> u8
-    requires { ⌜ now node .served < berthCount ⌝ }
-    ensures { λ r. ⌜ r ≡ passedOver (now (node .entry)) ⌝ }
-{
-    let served = node.served;
-    let mut passed: u8 = 0;
-    while passed < rules::BERTH_COUNT {
-        let at = probe(served, passed);
-        if due_at(node, at) {
-            return passed;
-        }
-        passed += 1;
-    }
-    passed
 }
