@@ -66,4 +66,7 @@ void deal_whole_card(struct generator *g, int berth);
 /* generate_free.c: scenes streams in which every berth comes free */
 void generate_free(uint64_t seed, int nodes);
 
+/* generate_round.c: scenes streams of turns, with one set of due berths after the other */
+void generate_round(uint64_t seed, int sets);
+
 #endif

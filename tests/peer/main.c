@@ -6,7 +6,7 @@
  *
  *   node.*, order.*, frame.c, gap.c, tick.c, turn.c    the rules of the paper
  *   cards.*                                            the cards beside the node
- *   mutants.*, tick_mistakes.h                         mistakes that can be put into them
+ *   mutants.*, tick_mistakes.h, turn_mistakes.h        mistakes that can be put into them
  *   records.*, world.*, line.*, say.*, program.*       the exerciser and the scenes program
  *   words.c                                            a record in words
  *   outcomes.h, coverage.*                             the outcomes wanted, and their counting
@@ -27,6 +27,7 @@ static const char usage[] =
     "       peer words exerciser|scenes < RECORDS        each record in words\n"
     "       peer generate exerciser|scenes SEED COUNT    a stream of COUNT records\n"
     "       peer generate free SEED COUNT                a scenes stream of COUNT nodes that come free\n"
+    "       peer generate round SEED COUNT               a scenes stream of turns, with COUNT sets of due berths\n"
     "       peer mutants                                 their names and sentences\n";
 
 static int fail(const char *why)
@@ -94,6 +95,10 @@ int main(int count, char **words)
     }
     if (count == 5 && strcmp(words[1], "generate") == 0 && strcmp(words[2], "free") == 0) {
         generate_free(strtoull(words[3], NULL, 10), atoi(words[4]));
+        return 0;
+    }
+    if (count == 5 && strcmp(words[1], "generate") == 0 && strcmp(words[2], "round") == 0) {
+        generate_round(strtoull(words[3], NULL, 10), atoi(words[4]));
         return 0;
     }
     return fail("what shall it do?");

@@ -122,6 +122,9 @@
  * W2 by sentence: a n + 1, b F1 to F9, c reserved values, d 0 stays 0, e the range;
  * then what it leaves as it was: f the node's own STmin, g how a gap is kept and passes.
  *
+ * W5 by sentence: a the due berths, b as ten bits, c the next set bit after the one served
+ * last, d every answer as it is, e in each call.
+ *
  * W11 by sentence: a no stored byte outside the area, b the refusal is out, c the
  * number unused, d no other answer changes.
  *
@@ -238,6 +241,51 @@
     X(W2g5, "after go the first frame waits the one tick more")                       \
     X(W2g6, "after go the first frame waits the whole gap")                           \
     X(W2g7, "the one more is a tick of the timer, before the first frame too")        \
+    X(W5a1, "an owed overflow sets no bit")                                           \
+    X(W5a2, "an owed go sets no bit")                                                 \
+    X(W5a3, "a single due sets no bit")                                               \
+    X(W5a4, "a first due sets no bit")                                                \
+    X(W5a5, "a consecutive frame sets no bit")                                        \
+    X(W5a6, "a reception that awaits sets a bit")                                     \
+    X(W5a7, "a sending that awaits flow control sets a bit")                          \
+    X(W5a8, "a consecutive frame sets a bit in its gap too")                          \
+    X(W5a9, "the peer's gap is looked at for a bit, not what is left of it")          \
+    X(W5a10, "only receive sides set bits")                                           \
+    X(W5a11, "only send sides set bits")                                              \
+    X(W5a12, "a send side sets no bit beside a busy receive side")                    \
+    X(W5a13, "a receive side sets no bit beside a busy send side")                    \
+    X(W5a14, "both sides due take the berth's bit off again")                         \
+    X(W5a15, "both sides due set the bit of the next berth")                          \
+    X(W5b1, "the bit of berth 0 is lost")                                             \
+    X(W5b2, "the bit of berth 9 is lost")                                             \
+    X(W5b3, "the bits are kept in a byte, without those of berths 8 and 9")           \
+    X(W5b4, "each bit stands one place too high")                                     \
+    X(W5b5, "each bit stands one place too low")                                      \
+    X(W5b6, "the first idle berth ends the gathering")                                \
+    X(W5b7, "the first berth that is not idle has the bit of berth 0")                \
+    X(W5b8, "the number of the first berth that is not idle is added twice")          \
+    X(W5b9, "the bits stand in the other order, and are read as if they did not")     \
+    X(W5c1, "the round starts two berths after the one served last")                  \
+    X(W5c2, "the round ends with berth 9")                                            \
+    X(W5c3, "the berth served last is not looked at again")                           \
+    X(W5c4, "a round that comes past berth 9 goes on with berth 1")                   \
+    X(W5c5, "a round that comes past berth 9 takes the highest bit from there on")    \
+    X(W5c6, "the round goes down from the berth before the one served last")          \
+    X(W5c7, "the last set bit of the round is taken")                                 \
+    X(W5c8, "of two set bits or more the second is taken")                            \
+    X(W5c9, "after berth 9 no bit is found")                                          \
+    X(W5c10, "the highest set bit is taken, whichever berth was served last")         \
+    X(W5c11, "of the bits above the berth served last the highest is taken")          \
+    X(W5d1, "with nothing due the berth served last is served, 9 passed over")        \
+    X(W5d2, "with nothing due the berth after it is served, 0 passed over")           \
+    X(W5d3, "with nothing due the buffer is filled")                                  \
+    X(W5d4, "with nothing due the berth after the one served last counts as served")  \
+    X(W5d5, "idle berths do not count as passed over")                                \
+    X(W5d6, "a round that comes past berth 9 counts one more as passed over")         \
+    X(W5d7, "the berths passed over are kept in three bits")                          \
+    X(W5d8, "the idle berths at the front do not count as passed over")               \
+    X(W5d9, "the berth served last is kept as its place in the round")                \
+    X(W5e1, "the bits are gathered anew only when none of the last call's is left")   \
     X(W11a1, "a last consecutive frame stores its padding up to the end of the area") \
     X(W11b1, "11, where seven bytes would leave the area though fewer are missing")   \
     X(W11b2, "11, where the last byte of a message is the last of its area")          \

@@ -5,6 +5,7 @@
 
 #include "cards.h"
 #include "mutants.h"
+#include "turn_mistakes.h"
 
 struct hand_over {
     struct node *node;
@@ -235,7 +236,7 @@ static int serve(struct node *node, struct bytes outgoing, struct cards cards, s
         node->tx[k].timer = 0;
     add_to_card(cards, berth, turn_adds(h.frame, h.code));
     if (!(mistake(25e) && flow))
-        node->served = berth;
+        node->served = rule(berth, W5d9, (berth - node->served + BERTHS - 1) % BERTHS);
     return h.code;
 }
 
@@ -257,15 +258,17 @@ struct turn_answer call_for_frame(struct node *node, struct bytes outgoing, stru
         return (struct turn_answer){ .refusal = refusal };
 
     int start = rule(rule(node->served + 1, 25a, 0), 25b, node->served);
-    int passed = berths_passed_over(node, start);
+    int passed = searches_bits() ? passed_by_bits(node) : berths_passed_over(node, start);
     if (passed == BERTHS) {
-        node->served = rule(node->served, 25c, BERTHS - 1);
+        node->served = rule(rule(node->served, 25c, BERTHS - 1), W5d4, (node->served + 1) % BERTHS);
+        if (mistake(W5d3))
+            memset(buffer.at, FILLER, FRAME_BYTES);
         return (struct turn_answer){ .none = true, .passed_over = passed };
     }
-    int berth = (start + passed) % BERTHS;
+    int berth = (start + passed) % BERTHS, told = told_passed_over(node, start, passed);
     return (struct turn_answer){
         .identifier = TO_BERTH_0 + berth,
         .code = serve(node, outgoing, cards, buffer, berth),
-        .passed_over = rule(passed, 25d, berth),
+        .passed_over = rule(told, 25d, berth),
     };
 }
