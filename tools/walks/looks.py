@@ -492,7 +492,7 @@ def due_bits():
 use Rattle.rules.specs.Turns.{due}
 use Rattle.looks.specs.Bits.{dueBits}
 use Rattle.looks.proofs.Ordered.{order-most}
-use Rattle.looks.proofs.Bits.{gathered, bit-fits, gathered-fits, both-fit, next-bit, gather-begins, gather-on, gather-ends}
+use Rattle.looks.proofs.DueBits.{gathered, bit-fits, gathered-fits, both-fit, next-bit, gather-begins, gather-on, gather-ends}
 ''', 'A loop asks berth after berth whether it is due, and puts the answer above the bits so far.')
     w.requires, w.requires_walks = FOUND
     bits, fits = '(gathered h (i .0))', '(refl, gathered-fits h (i .0) (i .2))'
@@ -542,7 +542,7 @@ use Rattle.rules.specs.Stores.{passedOver}
 use Rattle.rules.proofs.Cases.{yes-of}
 use Rattle.rules.proofs.Ranges.{in-order-range}
 use Rattle.looks.specs.Bits.{dueBits, nextSet}
-use Rattle.looks.proofs.Bits.{due-fit, next-is-passed}
+use Rattle.looks.proofs.DueBits.{due-fit, next-is-passed}
 ''', 'The due berths are gathered, and the next set bit is found.')
     w.requires, w.requires_walks = FOUND
     w.begin()

@@ -9,6 +9,7 @@ pub mod Twelve
 pub mod Sides
 pub mod Ordered
 pub mod Bits
+pub mod DueBits
 pub mod Variants
 pub mod Puts
 pub mod Bodies

@@ -60,7 +60,7 @@ use Rattle.rules.specs.Tests.{pick as choose}
 use Rattle.rules.specs.Turns.{due}
 use Rattle.looks.specs.Bits.{dueBits}
 use Rattle.looks.proofs.Ordered.{order-most}
-use Rattle.looks.proofs.Bits.{gathered, bit-fits, gathered-fits, both-fit, next-bit, gather-begins, gather-on, gather-ends}
+use Rattle.looks.proofs.DueBits.{gathered, bit-fits, gathered-fits, both-fit, next-bit, gather-begins, gather-on, gather-ends}
 use Rattle.looks.proofs.bit as c1
 use Rattle.looks.proofs.bit.Symbol as c1-def
 use Rattle.looks.proofs.bit.Symbol.{name as #c1}

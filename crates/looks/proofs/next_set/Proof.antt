@@ -2,7 +2,7 @@
 use Prim.Native.Nat.{_-_, _*_, _<_}
 use native.Mathlib.Omega.{arith}
 use Rattle.rules.specs.Numbers.{berthCount}
-use Rattle.looks.proofs.Bits.{Round, begins, stops, goes-on, none-next, still-left}
+use Rattle.looks.proofs.DueBits.{Round, begins, stops, goes-on, none-next, still-left}
 use Rattle.looks.proofs.next_set.Statement.{statement}
 use Rattle.looks.proofs.next_set.Tie as tie
 

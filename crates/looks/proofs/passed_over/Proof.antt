@@ -46,7 +46,7 @@ use Rattle.rules.specs.Stores.{passedOver}
 use Rattle.rules.proofs.Cases.{yes-of}
 use Rattle.rules.proofs.Ranges.{in-order-range}
 use Rattle.looks.specs.Bits.{dueBits, nextSet}
-use Rattle.looks.proofs.Bits.{due-fit, next-is-passed}
+use Rattle.looks.proofs.DueBits.{due-fit, next-is-passed}
 use Rattle.looks.proofs.due_bits as c1
 use Rattle.looks.proofs.due_bits.Symbol as c1-def
 use Rattle.looks.proofs.due_bits.Symbol.{name as #c1}

@@ -1,0 +1,257 @@
+-- The search of a turn by ten bits. BIT K IS SET EXACTLY IF BERTH K IS DUE (`bit-is-due`), and the next set bit after that of the berth
+-- served last is the least distance of a due berth (`next-is-passed`). Then the loops: the gathering of the bits, and the count.
+use Prim.Native.Nat.{ℕ, zero, suc, _+_, _*_, _-_, _/_, _%_, _^_, _<_, _≤_}
+use native.Mathlib.Nat.{pow-succ', lt-trans}
+use native.Mathlib.Omega.{arith}
+use mathlib.Core.Path.{_≡_, refl, sym, ap, _∙_}
+use mathlib.Core.Bool.{Bool, true, false, true≢false}
+use mathlib.Core.List.{List, [], _∷_, map}
+use lib.ListN.{length, getD, take, length-map, length-take, List·getD-map}
+use lib.Seq.{take-all}
+use lib.Dec.{eqb}
+use lib.Pow.{pow-lt}
+use Rattle.rules.specs.Numbers.{berthCount}
+use Rattle.rules.specs.Tests.{pick, all, each}
+use Rattle.rules.specs.Nodes.{fresh, berthAt}
+use Rattle.rules.specs.Turns.{due}
+use Rattle.rules.specs.Ranges.{settingsAllowed, berthInOrder, inOrder, InOrder}
+use Rattle.rules.specs.Stores.{distance, passedOver, reached}
+use Rattle.rules.specs.declared.Rx.{Rx}
+use Rattle.rules.specs.declared.Tx.{Tx}
+use Rattle.rules.specs.declared.Berth.{Berth}
+use Rattle.rules.specs.declared.Node.{Node}
+use Rattle.rules.proofs.Cases.{split, yes-of, is-true, is-false, pick-either}
+use Rattle.rules.proofs.Ranges.{in-order-range}
+use Rattle.rules.proofs.Round.{near, there, passed-ten, passed-most, reached-due}
+use Rattle.berth.specs.Idle.{idle}
+use Rattle.looks.specs.Order.{leadingIdle, orderOf}
+use Rattle.looks.specs.Probes.{probeAt}
+use Rattle.looks.specs.Bits.{bitsOf, isSet, dueBits, passedFrom, nextSet}
+use Rattle.looks.proofs.Ten.{at-is}
+use Rattle.looks.proofs.Ordered.{answer, rx-idle, tx-idle}
+use Rattle.looks.proofs.Bits.{by-one, bit-is-test, bits-fit, one-more, none-set, first-round, second-round}
+
+-- ---- the due berths
+
+test-is-due : (bs : List Berth) (k : ℕ) → getD (map due bs) k false ≡ due (getD bs k fresh)
+unfolding due
+test-is-due bs k = List·getD-map due bs k fresh
+
+-- BIT K IS SET EXACTLY IF BERTH K IS DUE
+pub bit-is-due : (bs : List Berth) (k : ℕ) → isSet (dueBits bs) k ≡ due (getD bs k fresh)
+unfolding dueBits
+bit-is-due bs k = bit-is-test (map due bs) k ∙ test-is-due bs k
+
+pub due-fit : (bs : List Berth) → length bs ≡ berthCount → dueBits bs < 2 ^ berthCount
+unfolding dueBits
+due-fit bs ten = bits-fit berthCount (map due bs) (omega (arith, ten, length-map bs due))
+
+-- ---- the next set bit is the least distance
+
+stands : (served p : ℕ) → served < berthCount → p < berthCount → distance served (probeAt served p) ≡ p
+unfolding distance
+stands served p most h = omega arith
+
+module _ (n : Node) (o : InOrder n) where
+  due-at : (p : ℕ) → isSet (dueBits (n .berths)) (probeAt (n .served) p) ≡ due (berthAt n (probeAt (n .served) p))
+  due-at p = bit-is-due (n .berths) (probeAt (n .served) p) ∙ ap due (sym (at-is n (probeAt (n .served) p)))
+
+  -- a set bit is not nearer than the least distance, and the bit there is set
+  set-there : (p : ℕ) → p < berthCount → p ≤ passedOver n → isSet (dueBits (n .berths)) (probeAt (n .served) p) ≡ true → p ≡ passedOver n
+  set-there p h below e =
+      let most = passed-most n o (probeAt (n .served) p) (omega arith) (yes-of (sym (due-at p) ∙ e)) in
+      omega (arith, below, most, stands (n .served) p (o .served) h)
+
+  unset-before : (p : ℕ) → p < berthCount → p ≤ passedOver n → isSet (dueBits (n .berths)) (probeAt (n .served) p) ≡ false → p < passedOver n
+  unfolding reached
+  unset-before p h below e = split (passedOver n) p (λ past. absurd (true≢false (sym (there-set past) ∙ e))) (λ before. before)
+    where
+      there-set : passedOver n ≤ p → isSet (dueBits (n .berths)) (probeAt (n .served) p) ≡ true
+      there-set past =
+          let z : p ≡ passedOver n = omega (arith, below, past) in
+          due-at p ∙ ap (λ m. due (berthAt n (probeAt (n .served) m))) z ∙ is-true _ (reached-due n o (omega (arith, h, z)) .0)
+
+  pub next-is-passed : nextSet (dueBits (n .berths)) (n .served) ≡ passedOver n
+  unfolding nextSet passedFrom
+  next-is-passed = go berthCount 0 (omega arith) refl
+    where
+      go : (left p : ℕ) → p ≤ passedOver n → p + left ≡ berthCount → passedFrom (dueBits (n .berths)) (n .served) p left ≡ passedOver n
+      go zero p below e = omega (arith, below, e, passed-ten n)
+      go (suc left) p below e = pick-either (λ m. m ≡ passedOver n) (isSet (dueBits (n .berths)) (probeAt (n .served) p)) p _
+          (λ t. set-there p (omega (arith, e)) below (is-true _ t))
+          (λ t. go left (suc p) (unset-before p (omega (arith, e)) below (is-false _ t)) (omega (arith, e)))
+
+-- ---- the gathering, in which the bits of the first i berths are there
+
+-- the berths that are idle from the first on have no bit
+pub idle-no-bits : (bs : List Berth) → bitsOf (take (leadingIdle bs) (map due bs)) ≡ 0
+unfolding bitsOf leadingIdle due
+idle-no-bits [] = refl
+idle-no-bits (b ∷ bs) = go (idle b) refl (idle-no-bits bs)
+  where
+    go : (t : Bool) → idle b ≡ t → bitsOf (take (leadingIdle bs) (map due bs)) ≡ 0
+        → bitsOf (take (pick t (suc (leadingIdle bs)) 0) (due b ∷ map due bs)) ≡ 0
+    go true e others = rw (rx-idle b e, tx-idle b e, others)
+    go false e others = refl
+
+pub bit-fits : (i : ℕ) → i ≤ berthCount → 2 ^ i < 2 ^ 16
+bit-fits i h = pow-lt {j = 16} (omega (arith, h))
+
+pub next-bit : (i : ℕ) → 2 * 2 ^ i ≡ 2 ^ (i + 1)
+next-bit i = let z : suc i ≡ i + 1 = omega arith in sym (pow-succ' 2 i) ∙ ap (λ m. 2 ^ m) z
+
+module _ (n : Node) where
+  abbrev pub gathered : ℕ → ℕ
+  gathered i = bitsOf (take i (map due (n .berths)))
+
+  room : (i : ℕ) → gathered i < 2 ^ i
+  room i = bits-fit i (take i (map due (n .berths))) (omega (arith, length-take i (map due (n .berths))))
+
+  pub gathered-fits : (i : ℕ) → i ≤ berthCount → gathered i < 2 ^ 16
+  gathered-fits i h = lt-trans (room i) (bit-fits i h)
+
+  pub both-fit : (i : ℕ) → i < berthCount → gathered i + 2 ^ i < 2 ^ 16
+  both-fit i h = let e = pow-succ' 2 i in let l = room i in let m = bit-fits (suc i) h in omega (arith, e, l, m)
+
+  pub gather-begins : (i : ℕ) → inOrder n ≡ true → i ≡ orderOf n → 0 ≡ gathered i
+  gather-begins i good e = sym (ap gathered (e ∙ answer n good) ∙ idle-no-bits (n .berths))
+
+  pub gather-on : {r : Bool} {s : ℕ} (i : ℕ) → i < length (n .berths) → r ≡ due (berthAt n i) → s ≡ gathered i + pick r (2 ^ i) 0 → s ≡ gathered (i + 1)
+  gather-on i h e es =
+      let z : suc i ≡ i + 1 = omega arith in
+      es ∙ ap (λ t. gathered i + pick t (2 ^ i) 0) (e ∙ ap due (at-is n i) ∙ sym (test-is-due (n .berths) i))
+      ∙ one-more (map due (n .berths)) i (omega (arith, h, length-map (n .berths) due)) ∙ ap gathered z
+
+  pub gather-ends : (i : ℕ) → length (n .berths) ≤ i → gathered i ≡ dueBits (n .berths)
+  unfolding dueBits
+  gather-ends i h = ap bitsOf (take-all i (map due (n .berths)) (omega (arith, h, length-map (n .berths) due)))
+
+-- ---- the ring: the bits twice over, from that of the berth after the one served last, as the search probes them
+
+round-at : (bits served p : ℕ) → bits < 2 ^ berthCount → served < berthCount → p < berthCount
+    → isSet (bits * 2 ^ berthCount + bits) (served + 1 + p) ≡ isSet bits (probeAt served p)
+round-at bits served p fits most h = split berthCount (served + 1 + p) second first
+  where
+    second : berthCount ≤ served + 1 + p → isSet (bits * 2 ^ berthCount + bits) (served + 1 + p) ≡ isSet bits (probeAt served p)
+    second l =
+        let z : served + 1 + p ≡ berthCount + probeAt served p = omega (arith, most, h, l) in
+        ap (isSet (bits * 2 ^ berthCount + bits)) z ∙ second-round berthCount bits fits (probeAt served p)
+
+    first : served + 1 + p < berthCount → isSet (bits * 2 ^ berthCount + bits) (served + 1 + p) ≡ isSet bits (probeAt served p)
+    first l = let z : served + 1 + p ≡ probeAt served p = omega (arith, l) in first-round berthCount bits (served + 1 + p) l ∙ ap (isSet bits) z
+
+-- ---- the count, in which p bits have been passed over and the ring begins with the next
+
+module _ (bits served : ℕ) where
+  abbrev pub Round : ℕ → ℕ → Type 0
+  Round ring p =
+      (p ≤ berthCount) × (ring ≡ (bits * 2 ^ berthCount + bits) / 2 ^ (served + 1 + p)) × (passedFrom bits served p (berthCount - p) ≡ nextSet bits served)
+
+  pub begins : (twice : ℕ) → twice ≡ bits * 2 ^ berthCount + bits → Round (twice / 2 ^ (served + 1)) 0
+  unfolding nextSet
+  begins twice e = (omega arith, (let z : served + 1 ≡ served + 1 + 0 = omega arith in rw e (ap (λ m. (bits * 2 ^ berthCount + bits) / 2 ^ m) z)), refl)
+
+  module _ (ring p : ℕ) (so-far : Round ring p) where
+    pub ends : berthCount ≤ p → p ≡ nextSet bits served
+    unfolding passedFrom
+    ends h = let z : berthCount - p ≡ 0 = omega (arith, h) in ap (passedFrom bits served p) (sym z) ∙ so-far .2
+
+    module _ (fits : bits < 2 ^ berthCount) (most : served < berthCount) (h : p < berthCount) where
+      probed-bit : (t : ℕ) → ring % 2 ≡ t → eqb t 1 ≡ isSet bits (probeAt served p)
+      unfolding isSet
+      probed-bit t e = ap (λ m. eqb m 1) (sym e ∙ ap (λ m. m % 2) (so-far .1)) ∙ round-at bits served p fits most h
+
+      opened : (t : ℕ) → ring % 2 ≡ t → pick (eqb t 1) p (passedFrom bits served (suc p) (berthCount - (p + 1))) ≡ nextSet bits served
+      unfolding passedFrom
+      opened t e =
+          let left : suc (berthCount - (p + 1)) ≡ berthCount - p = omega (arith, h) in
+          ap (λ c. pick c p (passedFrom bits served (suc p) (berthCount - (p + 1)))) (probed-bit t e) ∙ ap (passedFrom bits served p) left ∙ so-far .2
+
+      pub stops : ring % 2 ≡ 1 → p ≡ nextSet bits served
+      stops e = opened 1 e
+
+      pub goes-on : ring % 2 ≡ 0 → Round (ring / 2) (p + 1)
+      goes-on e = (omega (arith, h), shifted, passed)
+        where
+          shifted : ring / 2 ≡ (bits * 2 ^ berthCount + bits) / 2 ^ (served + 1 + (p + 1))
+          shifted =
+              let z : suc (served + 1 + p) ≡ served + 1 + (p + 1) = omega arith in
+              ap (λ m. m / 2) (so-far .1) ∙ by-one (bits * 2 ^ berthCount + bits) (served + 1 + p) ∙ ap (λ m. (bits * 2 ^ berthCount + bits) / 2 ^ m) z
+
+          passed : passedFrom bits served (p + 1) (berthCount - (p + 1)) ≡ nextSet bits served
+          passed = let z : p + 1 ≡ suc p = omega arith in ap (λ m. passedFrom bits served m (berthCount - (p + 1))) z ∙ opened 0 e
+
+-- ---- where a bit is set, the count stops before it has passed over all
+
+module _ (bits served : ℕ) where
+  most-passed : (left p : ℕ) → passedFrom bits served p left ≤ p + left
+  unfolding passedFrom
+  most-passed zero p = omega arith
+  most-passed (suc left) p = pick-either (λ m. m ≤ p + suc left) (isSet bits (probeAt served p)) p _ (λ t. omega arith) (λ t. let h = most-passed left (suc p) in omega (arith, h))
+
+  -- where all that are left are passed over, none of them is set
+  all-unset : (left p : ℕ) → passedFrom bits served p left ≡ p + left → (j : ℕ) → p ≤ j → j < p + left → isSet bits (probeAt served j) ≡ false
+  unfolding passedFrom
+  all-unset zero p e j l h = absurd (omega (arith, l, h))
+  all-unset (suc left) p e j l h =
+      let k : p + suc left ≡ suc p + left = omega arith in
+      let here : isSet bits (probeAt served p) ≡ false = first (isSet bits (probeAt served p)) e in
+      let after : passedFrom bits served (suc p) left ≡ suc p + left = ap (λ t. pick t p (passedFrom bits served (suc p) left)) (sym here) ∙ e ∙ k in
+      split (suc p) j (λ later. all-unset left (suc p) after j later (omega (arith, h))) (λ now. let z : j ≡ p = omega (arith, l, now) in ap (λ i. isSet bits (probeAt served i)) z ∙ here)
+    where
+      first : (t : Bool) → pick t p (passedFrom bits served (suc p) left) ≡ p + suc left → t ≡ false
+      first true q = absurd (omega (arith, q))
+      first false q = refl
+
+  pub none-next : bits ≡ 0 → berthCount ≡ nextSet bits served
+  unfolding nextSet passedFrom bitsOf
+  none-next e = sym (go berthCount 0)
+    where
+      unset-zero : (k : ℕ) → isSet bits k ≡ false
+      unset-zero k = ap (λ m. isSet m k) e ∙ bit-is-test [] k
+
+      go : (left p : ℕ) → passedFrom bits served p left ≡ p + left
+      go zero p = omega arith
+      go (suc left) p = rw (unset-zero (probeAt served p)) (go left (suc p) ∙ (omega arith))
+
+  pub some-next : bits < 2 ^ berthCount → served < berthCount → (bits ≡ 0 → ⊥) → nextSet bits served < berthCount
+  unfolding nextSet
+  some-next fits most some = split berthCount (passedFrom bits served 0 berthCount) (λ all. absurd (some (none-set berthCount bits fits (unset all)))) (λ near. near)
+    where
+      unset : berthCount ≤ passedFrom bits served 0 berthCount → (k : ℕ) → k < berthCount → isSet bits k ≡ false
+      unset all k h =
+          let whole : passedFrom bits served 0 berthCount ≡ 0 + berthCount = let m = most-passed berthCount 0 in omega (arith, m, all) in
+          ap (isSet bits) (sym (there served k most h)) ∙ all-unset berthCount 0 whole (distance served k) (omega arith) (near served k)
+
+  pub still-left : bits < 2 ^ berthCount → served < berthCount → (bits ≡ 0 → ⊥) → {ring p : ℕ} → Round bits served ring p → p < berthCount
+  still-left fits most some so-far =
+      let stops-before = some-next fits most some in
+      split berthCount _ (λ all. let e = ends bits served _ _ so-far all in absurd (omega (arith, stops-before, e, all))) (λ near. near)
+
+-- ---- an example: berths 0, 4 and 9 due on a fresh node, served 0, 4, 9
+
+abbrev waiting : Berth
+waiting = record { rx = Rx.Idle; last = 0; tx = Tx.SingleDue 3 0 }
+
+abbrev pub three-due : Node
+three-due = record {
+  settings = record { area = 40; block = 2; stmin = 5 };
+  served = 9;
+  berths = waiting ∷ fresh ∷ fresh ∷ fresh ∷ waiting ∷ fresh ∷ fresh ∷ fresh ∷ fresh ∷ waiting ∷ [];
+}
+
+three-in-order : InOrder three-due
+unfolding inOrder all each settingsAllowed berthInOrder
+three-in-order = in-order-range three-due tt
+
+pub three-bits : dueBits (three-due .berths) ≡ 529
+unfolding dueBits bitsOf due
+three-bits = refl
+
+pub three-passed : passedOver three-due ≡ 0
+unfolding dueBits bitsOf due nextSet passedFrom isSet
+three-passed = sym (next-is-passed three-due three-in-order)
+
+pub then-passed : (nextSet 528 0 ≡ 3) × (nextSet 512 4 ≡ 4) × (nextSet 0 9 ≡ 10)
+unfolding nextSet passedFrom isSet
+then-passed = (refl, refl, refl)
