@@ -147,9 +147,11 @@ module _ (bits served : ℕ) where
   Round ring p =
       (p ≤ berthCount) × (ring ≡ (bits * 2 ^ berthCount + bits) / 2 ^ (served + 1 + p)) × (passedFrom bits served p (berthCount - p) ≡ nextSet bits served)
 
-  pub begins : (twice : ℕ) → twice ≡ bits * 2 ^ berthCount + bits → Round (twice / 2 ^ (served + 1)) 0
+  pub begins : (twice shift : ℕ) → twice ≡ bits * 2 ^ berthCount + bits → shift ≡ served + 1 → Round (twice / 2 ^ shift) 0
   unfolding nextSet
-  begins twice e = (omega arith, (let z : served + 1 ≡ served + 1 + 0 = omega arith in rw e (ap (λ m. (bits * 2 ^ berthCount + bits) / 2 ^ m) z)), refl)
+  begins twice shift e s =
+      let z : shift ≡ served + 1 + 0 = omega (arith, s) in
+      (omega arith, ap (λ m. m / 2 ^ shift) e ∙ ap (λ m. (bits * 2 ^ berthCount + bits) / 2 ^ m) z, refl)
 
   module _ (ring p : ℕ) (so-far : Round ring p) where
     pub ends : berthCount ≤ p → p ≡ nextSet bits served

@@ -1,5 +1,5 @@
 // What the calls look at behind `&Node`, so that the node is not copied: whether it is in order, and which berth is next to hand a
-// frame over. Only what a test asks for is copied out: one side, or the settings.
+// frame over. The test of order copies out what it asks for, one side or the settings; the search copies no part of a berth.
 ghost use mathlib.Core.Path.{_≡_};
 ghost use mathlib.Core.Bool.{true};
 ghost use mathlib.Core.List.{[], _∷_};
@@ -23,6 +23,9 @@ use rules::Tx;
 
 // What `order` answers of a node that is out of order.
 pub const UNORDERED: usize = 11;
+
+// Ten bits times this are the ten bits twice, one ten above the other.
+const TWICE: u32 = 1025;
 
 // Whether the settings and the berth served last are in range.
 fn front_in_order(settings: Settings, served: u8) -> bool
@@ -149,6 +152,7 @@ fn bit(k: usize) -> u16
     1 << k
 }
 
+// One bit more, set or not.
 fn with_bit(bits: u16, bit: u16, set: bool) -> u16
     requires { ⌜ bits + bit < 2 ^ 16 ⌝ }
     ensures { λ r. ⌜ r ≡ bits + pick set bit 0 ⌝ }
@@ -176,8 +180,8 @@ fn due_bits(node: &Node, idle: usize) -> u16
     bits
 }
 
-// From the bit after that of the berth served last, how many bits are passed over until one is set: counted as it goes. The ring has the
-// ten bits twice, so that the round goes on past the last of them without a test.
+// From the bit after that of the berth served last, how many bits are passed over until one is set: counted as it goes, or 10 at once if
+// none is. The ring has the ten bits twice, so that the round goes on past the last of them without a test.
 fn next_set(bits: u16, served: u8) -> u8
     requires { ⌜ (bits < 2 ^ berthCount) × (served < berthCount) ⌝ }
     ensures { λ r. ⌜ r ≡ nextSet bits served ⌝ }
@@ -185,7 +189,7 @@ fn next_set(bits: u16, served: u8) -> u8
     if bits == 0 {
         return rules::BERTH_COUNT;
     }
-    let mut ring = (bits as u32 * 1025) >> (served as u32 + 1);
+    let mut ring = (bits as u32 * TWICE) >> (served as u32 + 1);
     let mut passed: u8 = 0;
     while ring % 2 == 0 {
         ring = ring / 2;

@@ -1,5 +1,5 @@
 -- No bit is set, or the ring is shifted until its lowest bit is: the bits passed over so far are not set, and one of the ten is.
-use Prim.Native.Nat.{_-_, _*_, _<_}
+use Prim.Native.Nat.{_-_, _<_}
 use native.Mathlib.Omega.{arith}
 use Rattle.rules.specs.Numbers.{berthCount}
 use Rattle.looks.proofs.DueBits.{Round, begins, stops, goes-on, none-next, still-left}
@@ -25,7 +25,7 @@ shr-ring : tie.Need-shr-ring Inv-loop μ-loop
 shr-ring c = omega arith
 
 loop-holds : tie.Need-loop-holds Inv-loop μ-loop
-loop-holds c = begins (c .before .args .bits) (c .before .args .served) (c .before .args .bits * 1025) (omega arith)
+loop-holds c = begins (c .before .args .bits) (c .before .args .served) _ _ (omega arith) (omega arith)
 
 below : (c : tie.In-loop Inv-loop μ-loop) → c .before .loop .passed < berthCount
 below c =
