@@ -2,8 +2,8 @@
 """Writes the walks of crate looks: the functions over `&Node` that test the order and search for the next berth. Run it where one of
 them changed, then `rt fmt`. `--into DIR` writes the same files below another folder.
 
-Three shapes: two sides of one berth are looked at in turn (order_at, due_at), a loop asks berth after berth (idle_before,
-rest_in_order, passed_over), and the two walks that are like no other (idle_at, order).
+Shapes: two sides of one berth are asked in turn (order_at, due_at), one side is matched where it lies (flow_at, message_at), a loop
+asks berth after berth (idle_before, rest_in_order, due_bits); and the walks that are like no other (idle_at, order, passed_over).
 """
 import pathlib
 import sys
@@ -108,13 +108,11 @@ use Rattle.looks.proofs.Ordered.{sides-rest}
     return w
 
 
-def two_sides(w, flag, first, second, decides, value, decided, goes_on, after, tx_locals):
-    """The receive side was copied: `first` tests it into the local `flag`. Where that comes out as `goes_on`, the send side is copied and
-    `second` tests it; else the answer is `value`. first and second are (source line, callee, arguments of an arm). `decides` and
-    `decided` prove the answers from what came out; `after` is the body after the branch."""
-    line, callee, args = first
-    w.source(line)
-    w.call(callee, args(w), flag, 'r', 'e', 'is')
+def in_turn(w, flag, first, second, goes_on, decides, value, decided, after, closes):
+    """`first(w)` asks, and its answer is in the local `flag`, as r, e. Where it comes out as `goes_on`, `second(arm)` answers, as t, et; else
+    the answer is `value`. `decides` and `decided` prove the answers from what came out; `after` is the body after the branch, and
+    `closes(arm)` closes what is open."""
+    first(w)
     w.e(f'first ! $ branches ! {w.L(flag)}')
     taken, left = fork(w), fork(w)
     taken.e('(λ yes.')
@@ -122,16 +120,13 @@ def two_sides(w, flag, first, second, decides, value, decided, goes_on, after, t
     for arm, came, here in ((taken, 'sym e ∙ is-true r yes', True), (left, 'sym e ∙ is-false r no', False)):
         arm.depth += 1
         if here == goes_on:
-            line, callee, args = second
-            tx(arm, *tx_locals)
-            arm.source(line)
-            arm.call(callee, args(arm), '_0', 't', 'et', 't-is')
+            second(arm)
             proof = f'exits t ({decides(came)}) t-is'
         else:
             arm.source(f'return {value};' if here else value)
             arm.flag('_0', value)
             proof = f'exits {value} ({decided(came)}) refl'
-        arm.close('h', 'was')
+        closes(arm)
         arm.finish(proof, within=here)
     w.lines += joined(taken, left)
     return w
@@ -146,13 +141,18 @@ def order_at():
     last(w, 7, 8, 9, 4)
     rx(w, 7, 10, 11, 5)
     there = 'ap (berthInOrder (h .settings)) (sym (at-is h k))'
-    return two_sides(
-        w, '_12',
-        first=('if berth::ranges::rx_in_range(settings, last, rx) {', test_rx, lambda arm: [arg(arm, '_3', 'Settings', SETTINGS), arg(arm, '_4', 'u32', LAST), arg(arm, '_5', 'Rx', RX)]),
-        second=('return berth::ranges::tx_in_range(settings, tx);', test_tx, lambda arm: [arg(arm, '_3', 'Settings', SETTINGS), arg(arm, '_6', 'Tx', TX)]),
-        decides=lambda came: f'side-passes (h .settings) {BERTH} ({came}) et ∙ {there}',
-        value='false', decided=lambda came: f'side-fails (h .settings) {BERTH} ({came}) ∙ {there}',
-        goes_on=True, after='t-12', tx_locals=(13, 14, 15, 6))
+
+    def first(walk):
+        walk.source('if berth::ranges::rx_in_range(settings, last, rx) {')
+        walk.call(test_rx, [arg(walk, '_3', 'Settings', SETTINGS), arg(walk, '_4', 'u32', LAST), arg(walk, '_5', 'Rx', RX)], '_12', 'r', 'e', 'is')
+
+    def second(arm):
+        tx(arm, 13, 14, 15, 6)
+        arm.source('return berth::ranges::tx_in_range(settings, tx);')
+        arm.call(test_tx, [arg(arm, '_3', 'Settings', SETTINGS), arg(arm, '_6', 'Tx', TX)], '_0', 't', 'et', 't-is')
+
+    return in_turn(w, '_12', first, second, True, lambda came: f'side-passes (h .settings) {BERTH} ({came}) et ∙ {there}',
+                   'false', lambda came: f'side-fails (h .settings) {BERTH} ({came}) ∙ {there}', 't-12', lambda arm: arm.close('h', 'was'))
 
 
 # ---- one side, where it lies
@@ -240,23 +240,15 @@ use Rattle.looks.proofs.Sides.{message-due, then-flow}
 ''', doc='The send side is asked, and where it has no frame due, the receive side.')
     w.requires_walks, w.ensures = 'a .1 .0 < berthCount', 'r ≡ due (berthAt h k)'
     w.begin()
-    berth = lambda arm: (lambda: arm.L('_2'), 'usize', 'k', 'k-is')
-    w.source('if message_at(node, k) {')
-    w.call(message, [berth(w)], '_3', 'r', 'e', 'is', lend=LENT, within='within')
-    w.e(f"first ! $ branches ! {w.L('_3')}")
-    sends, other = fork(w), fork(w)
-    sends.e('(λ yes.')
-    sends.depth += 1
-    sends.source('return true;')
-    sends.flag('_0', 'true')
-    sends.finish('exits true (message-due (berthAt h k) (sym e ∙ is-true r yes)) refl', within=True)
-    other.e('(λ no. skips ! $ exec ! C Λ _ body.t-3 (atRet _ Post) $')
-    other.depth += 1
-    other.source('flow_at(node, k)')
-    other.call(flow, [berth(other)], '_0', 't', 'et', 't-is', lend=LENT, within='within')
-    other.finish('exits t (then-flow (berthAt h k) (sym e ∙ is-false r no) et) t-is')
-    w.lines += joined(sends, other)
-    return w
+
+    def asking(line, callee, dst, *names):
+        def go(arm):
+            arm.source(line)
+            arm.call(callee, [(lambda: arm.L('_2'), 'usize', 'k', 'k-is')], dst, *names, lend=LENT, within='within')
+        return go
+
+    return in_turn(w, '_3', asking('if message_at(node, k) {', message, '_3', 'r', 'e', 'is'), asking('flow_at(node, k)', flow, '_0', 't', 'et', 't-is'), False,
+                   lambda came: f'then-flow (berthAt h k) ({came}) et', 'true', lambda came: f'message-due (berthAt h k) ({came})', 't-3', lambda arm: None)
 
 
 # ---- the loops
@@ -318,47 +310,32 @@ class Loop:
         self.start = locals_ctx(w.nl) + ['own', 'tok']
         self.cells = ' '.join('l' + sub(i) for i in range(w.nl))
 
-    def turn(self, ask, goes_on, known, stop, over, counted_last=None):
-        """One turn. `ask(arm)` leaves its answer in the local that it returns. Where that is `goes_on`, `known(came)` proves the invariant
-        one place on; else `stop(arm, came)` returns. `over(arm)` returns after the last turn. The branch on the answer is the turn's last
-        statement, or the counting follows it, after so many statements of the turn (`counted_last`)."""
-        w = self.w
-        t = fork(w)
-        t.ctx, t.full = list(self.start), set(self.live)
-        t.source(self.head)
-        t.assign(f'(bin ! {t.L(self.counter)} (lit ! tt) tt)', self.test, '(tt, tt)')
-        t.e(f'first ! $ branches ! {t.L(self.test)}')
-        inside, outside = fork(t), fork(t)
-        inside.e(f'(λ less. skips ! $ exec ! C Λ En {rest_of(2)} (anyQ (Turned i)) $')
-        inside.depth += 1
-        answer = ask(inside)
-        inside.e(f"{'first ! $ ' if counted_last else ''}branches ! {inside.L(answer)}")
-        yes, no = fork(inside), fork(inside)
-        for arm, flag, came in ((yes, True, 'is-true r yes'), (no, False, 'is-false r no')):
-            arm.e(f"(λ {'yes' if flag else 'no'}.")
-            arm.depth += 1
-            if flag == goes_on:
-                if counted_last:
-                    arm.e(f'skips ! $ exec ! C Λ En {rest_of(counted_last)} (anyQ (Turned i)) $')
-                self.count(arm, known(came))
-            else:
-                stop(arm, came)
-        outside.e(f'(λ over. jumps ! $ exec ! C Λ En body.{self.after} (atRet En Post) $')
-        outside.depth += 1
-        over(outside)
-        inside.lines += joined(yes, no)
-        self.written(t.lines + joined(inside, outside))
-
-    def written(self, lines):
-        self.w.turns = TURNS.format(
-            bits=self.bits, invariant=self.invariant('i'), invariant_next=self.invariant('(i .0 + 1)'), rest=self.after, cells=self.cells,
-            env=' ∷ '.join(f'({ty}, l{sub(i)})' for i, ty in enumerate(self.types)), items=at_of(self.w.nl, self.types, self.values),
-            lines='\n'.join(lines))
+    def turn(self, ask, goes_on, known, stop, over):
+        """One turn. `ask(arm)` leaves its answer in the local that it returns, by a branch that is the turn's last statement: where that is
+        `goes_on`, `known(came)` proves the invariant one place on; else `stop(arm, came)` returns. `over(arm)` returns after the last."""
+        def does(inside):
+            inside.e(f'branches ! {inside.L(ask(inside))}')
+            yes, no = fork(inside), fork(inside)
+            for arm, flag, came in ((yes, True, 'is-true r yes'), (no, False, 'is-false r no')):
+                arm.e(f"(λ {'yes' if flag else 'no'}.")
+                arm.depth += 1
+                if flag == goes_on:
+                    self.count(arm, known(came))
+                else:
+                    stop(arm, came)
+            inside.lines += joined(yes, no)
+        self.written(does, over)
 
     def steady(self, does, known, over):
-        """One turn that does something and counts, and never returns. `over(arm)` returns after the last turn."""
-        w = self.w
-        t = fork(w)
+        """One turn that does something and counts, and never returns."""
+        def goes(inside):
+            does(inside)
+            self.count(inside, known)
+        self.written(goes, over)
+
+    def written(self, does, over):
+        """The loop's test; what a turn does, and what follows the last."""
+        t = fork(self.w)
         t.ctx, t.full = list(self.start), set(self.live)
         t.source(self.head)
         t.assign(f'(bin ! {t.L(self.counter)} (lit ! tt) tt)', self.test, '(tt, tt)')
@@ -367,11 +344,13 @@ class Loop:
         inside.e(f'(λ less. skips ! $ exec ! C Λ En {rest_of(2)} (anyQ (Turned i)) $')
         inside.depth += 1
         does(inside)
-        self.count(inside, known)
         outside.e(f'(λ over. jumps ! $ exec ! C Λ En body.{self.after} (atRet En Post) $')
         outside.depth += 1
         over(outside)
-        self.written(t.lines + joined(inside, outside))
+        self.w.turns = TURNS.format(
+            bits=self.bits, invariant=self.invariant('i'), invariant_next=self.invariant('(i .0 + 1)'), rest=self.after, cells=self.cells,
+            env=' ∷ '.join(f'({ty}, l{sub(i)})' for i, ty in enumerate(self.types)), items=at_of(self.w.nl, self.types, self.values),
+            lines='\n'.join(t.lines + joined(inside, outside)))
 
     def count(self, arm, known):
         arm.source(f'{self.name} += 1;')
