@@ -35,7 +35,7 @@ use Rattle.rules.specs.declared.Rx.{Rx}
 use Rattle.rules.specs.declared.Tx.{Tx}
 use Rattle.rules.proofs.Rx as R
 use Rattle.rules.proofs.Tx as X
-use Rattle.looks.proofs.Sides.{FR, FX, see-parts, rx-of, last-of, tx-of, side-fails, side-passes, flow-first, then-message}
+use Rattle.looks.proofs.Sides.{FR, FX, see-parts, rx-of, last-of, tx-of, side-fails, side-passes}
 '''
 ORDER = '''use Rattle.rules.specs.Tests.{all, each}
 use Rattle.rules.specs.Ranges.{settingsAllowed, berthInOrder}

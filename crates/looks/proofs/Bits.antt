@@ -62,12 +62,12 @@ bits-fit zero (t ∷ ts) h = absurd (omega arith)
 bits-fit (suc n) (t ∷ ts) h = let e = pow-succ' 2 n in let l = bits-fit n ts (omega arith) in let c = at-most t in omega (arith, e, l, c)
 
 -- the bits of the first tests, and one more
-pub one-more : (ts : List Bool) (i : ℕ) → i < length ts → bitsOf (take i ts) + pick (getD ts i false) (2 ^ i) 0 ≡ bitsOf (take (suc i) ts)
+pub one-bit-more : (ts : List Bool) (i : ℕ) → i < length ts → bitsOf (take i ts) + pick (getD ts i false) (2 ^ i) 0 ≡ bitsOf (take (suc i) ts)
 unfolding bitsOf
-one-more [] i h = absurd (omega arith)
-one-more (t ∷ ts) zero h = omega arith
-one-more (t ∷ ts) (suc i) h =
-    let e = one-more ts i (omega arith) in
+one-bit-more [] i h = absurd (omega arith)
+one-bit-more (t ∷ ts) zero h = omega arith
+one-bit-more (t ∷ ts) (suc i) h =
+    let e = one-bit-more ts i (omega arith) in
     let d : pick (getD ts i false) (2 ^ suc i) 0 ≡ 2 * pick (getD ts i false) (2 ^ i) 0
     = ap (λ m. pick (getD ts i false) m 0) (pow-succ' 2 i) ∙ doubled (getD ts i false) (2 ^ i) in
     omega (arith, e, d)

@@ -22,14 +22,14 @@ use Rattle.rules.specs.declared.Berth.{Berth}
 use Rattle.rules.specs.declared.Node.{Node}
 use Rattle.rules.proofs.Cases.{split, yes-of, is-true, is-false, pick-either}
 use Rattle.rules.proofs.Ranges.{in-order-range}
-use Rattle.rules.proofs.Round.{near, there, passed-ten, passed-most, reached-due}
+use Rattle.rules.proofs.Round.{near, there, stands, passed-ten, passed-most, reached-due}
 use Rattle.berth.specs.Idle.{idle}
 use Rattle.looks.specs.Order.{leadingIdle, orderOf}
 use Rattle.looks.specs.Probes.{probeAt}
 use Rattle.looks.specs.Bits.{bitsOf, isSet, dueBits, passedFrom, nextSet}
 use Rattle.looks.proofs.Ten.{at-is}
 use Rattle.looks.proofs.Ordered.{answer, rx-idle, tx-idle}
-use Rattle.looks.proofs.Bits.{by-one, bit-is-test, bits-fit, one-more, none-set, first-round, second-round}
+use Rattle.looks.proofs.Bits.{by-one, bit-is-test, bits-fit, one-bit-more, none-set, first-round, second-round}
 
 -- ---- the due berths
 
@@ -47,10 +47,6 @@ unfolding dueBits
 due-fit bs ten = bits-fit berthCount (map due bs) (omega (arith, ten, length-map bs due))
 
 -- ---- the next set bit is the least distance
-
-stands : (served p : ℕ) → served < berthCount → p < berthCount → distance served (probeAt served p) ≡ p
-unfolding distance
-stands served p most h = omega arith
 
 module _ (n : Node) (o : InOrder n) where
   due-at : (p : ℕ) → isSet (dueBits (n .berths)) (probeAt (n .served) p) ≡ due (berthAt n (probeAt (n .served) p))
@@ -120,7 +116,7 @@ module _ (n : Node) where
   gather-on i h e es =
       let z : suc i ≡ i + 1 = omega arith in
       es ∙ ap (λ t. gathered i + pick t (2 ^ i) 0) (e ∙ ap due (at-is n i) ∙ sym (test-is-due (n .berths) i))
-      ∙ one-more (map due (n .berths)) i (omega (arith, h, length-map (n .berths) due)) ∙ ap gathered z
+      ∙ one-bit-more (map due (n .berths)) i (omega (arith, h, length-map (n .berths) due)) ∙ ap gathered z
 
   pub gather-ends : (i : ℕ) → length (n .berths) ≤ i → gathered i ≡ dueBits (n .berths)
   unfolding dueBits
@@ -154,7 +150,7 @@ module _ (bits served : ℕ) where
       (omega arith, ap (λ m. m / 2 ^ shift) e ∙ ap (λ m. (bits * 2 ^ berthCount + bits) / 2 ^ m) z, refl)
 
   module _ (ring p : ℕ) (so-far : Round ring p) where
-    pub ends : berthCount ≤ p → p ≡ nextSet bits served
+    ends : berthCount ≤ p → p ≡ nextSet bits served
     unfolding passedFrom
     ends h = let z : berthCount - p ≡ 0 = omega (arith, h) in ap (passedFrom bits served p) (sym z) ∙ so-far .2
 
@@ -230,30 +226,28 @@ module _ (bits served : ℕ) where
       let stops-before = some-next fits most some in
       split berthCount _ (λ all. let e = ends bits served _ _ so-far all in absurd (omega (arith, stops-before, e, all))) (λ near. near)
 
--- ---- an example: berths 0, 4 and 9 due on a fresh node, served 0, 4, 9
+-- ---- an example: berths 0, 4 and 9 due on a fresh node, which are the number 529; served 0, 4, 9, and then nothing is due
 
 abbrev waiting : Berth
 waiting = record { rx = Rx.Idle; last = 0; tx = Tx.SingleDue 3 0 }
 
-abbrev pub three-due : Node
-three-due = record {
+abbrev pub threeBerths : ℕ → Berth → Berth → Berth → Node
+threeBerths served a b c = record {
   settings = record { area = 40; block = 2; stmin = 5 };
-  served = 9;
-  berths = waiting ∷ fresh ∷ fresh ∷ fresh ∷ waiting ∷ fresh ∷ fresh ∷ fresh ∷ fresh ∷ waiting ∷ [];
+  served = served;
+  berths = a ∷ fresh ∷ fresh ∷ fresh ∷ b ∷ fresh ∷ fresh ∷ fresh ∷ fresh ∷ c ∷ [];
 }
 
-three-in-order : InOrder three-due
-unfolding inOrder all each settingsAllowed berthInOrder
-three-in-order = in-order-range three-due tt
-
-pub three-bits : dueBits (three-due .berths) ≡ 529
+pub three-bits : dueBits (threeBerths 9 waiting waiting waiting .berths) ≡ 529
 unfolding dueBits bitsOf due
 three-bits = refl
 
-pub three-passed : passedOver three-due ≡ 0
-unfolding dueBits bitsOf due nextSet passedFrom isSet
-three-passed = sym (next-is-passed three-due three-in-order)
-
-pub then-passed : (nextSet 528 0 ≡ 3) × (nextSet 512 4 ≡ 4) × (nextSet 0 9 ≡ 10)
-unfolding nextSet passedFrom isSet
-then-passed = (refl, refl, refl)
+pub three-passed : (passedOver (threeBerths 9 waiting waiting waiting) ≡ 0) × (passedOver (threeBerths 0 fresh waiting waiting) ≡ 3)
+    × (passedOver (threeBerths 4 fresh fresh waiting) ≡ 4) × (passedOver (threeBerths 9 fresh fresh fresh) ≡ 10)
+unfolding dueBits bitsOf due nextSet passedFrom isSet inOrder all each settingsAllowed berthInOrder
+three-passed = (
+  sym (next-is-passed (threeBerths 9 waiting waiting waiting) (in-order-range (threeBerths 9 waiting waiting waiting) tt)),
+  sym (next-is-passed (threeBerths 0 fresh waiting waiting) (in-order-range (threeBerths 0 fresh waiting waiting) tt)),
+  sym (next-is-passed (threeBerths 4 fresh fresh waiting) (in-order-range (threeBerths 4 fresh fresh waiting) tt)),
+  sym (next-is-passed (threeBerths 9 fresh fresh fresh) (in-order-range (threeBerths 9 fresh fresh fresh) tt)),
+)

@@ -1,5 +1,5 @@
 -- A berth in memory is its three parts: each of them has its type where the berth has. What the two sides say of the berth together:
--- the receive side is asked first, and decides where it fails the test of order or owes flow control.
+-- a receive side that fails the test of order decides, and so does a send side that has a frame due.
 use mathlib.Core.Path.{_≡_, refl, sym, ap, _∙_}
 use mathlib.Core.Bool.{Bool, true, false, _||_, or-true, or-false}
 use mathlib.Core.List.{[], _∷_}

@@ -20,7 +20,7 @@ bitsOf (t ∷ ts) = pick t 1 0 + 2 * bitsOf ts
 unfoldable pub isSet : ℕ → ℕ → Bool
 isSet bits k = eqb (bits / 2 ^ k % 2) 1
 
--- the due berths: bit k is set exactly if berth k is due (proofs/Bits, `bit-is-due`)
+-- the due berths: bit k is set exactly if berth k is due (proofs/DueBits, `bit-is-due`)
 unfoldable pub dueBits : List Berth → ℕ
 dueBits bs = bitsOf (map due bs)
 

@@ -153,12 +153,12 @@ fn bit(k: usize) -> u16
 }
 
 // One bit more, set or not.
-fn with_bit(bits: u16, bit: u16, set: bool) -> u16
-    requires { ⌜ bits + bit < 2 ^ 16 ⌝ }
-    ensures { λ r. ⌜ r ≡ bits + pick set bit 0 ⌝ }
+fn with_bit(bits: u16, next: u16, set: bool) -> u16
+    requires { ⌜ bits + next < 2 ^ 16 ⌝ }
+    ensures { λ r. ⌜ r ≡ bits + pick set next 0 ⌝ }
 {
     if set {
-        return bits + bit;
+        return bits + next;
     }
     bits
 }

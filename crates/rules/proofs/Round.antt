@@ -3,7 +3,7 @@
 use mathlib.Core.Path.{_≡_, sym, ap, _∙_}
 use Prim.Native.Nat.{ℕ, zero, suc, _+_, _-_, _%_, _≤_, _<_}
 use native.Mathlib.Omega.{arith}
-use native.Mathlib.Nat.{mod-lt, zero-add}
+use native.Mathlib.Nat.{mod-lt, zero-add, add-zero}
 use mathlib.Core.Bool.{not}
 use mathlib.Core.List.{List, [], _∷_}
 use lib.ListN.{length, getD}
@@ -29,10 +29,10 @@ pub there : (served k : ℕ) → served < berthCount → k < berthCount → (ser
 unfolding distance
 there served k a b = omega arith
 
--- the next berth is at distance 0
-next-near : (served : ℕ) → served < berthCount → distance served ((served + 1) % berthCount) ≡ 0
+-- and the berth that is probed after so many stands at that distance
+pub stands : (served p : ℕ) → served < berthCount → p < berthCount → distance served ((served + 1 + p) % berthCount) ≡ p
 unfolding distance
-next-near served a = omega arith
+stands served p a b = omega arith
 
 -- ---- the least distance
 
@@ -111,6 +111,6 @@ module _ (n : Node) (o : InOrder n) where
   unfolding reached
   next-first t =
       let m = passed-most ((n .served + 1) % berthCount) (mod-lt (n .served + 1) (lit< tt)) t in
-      let z = next-near (n .served) (o .served) in
+      let z : distance (n .served) ((n .served + 1) % berthCount) ≡ 0 = rw add-zero at (stands (n .served) 0 (o .served) (lit< tt)) in
       let e : passedOver n ≡ 0 = omega arith in
       (e, omega arith)
