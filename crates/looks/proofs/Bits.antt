@@ -1,5 +1,5 @@
--- Tests as the bits of a number, over any number of tests: which bit is which test, one test more, a number of which no bit is set, and
--- the bits twice over, in which a round goes on past the last of them. It says nothing of the product.
+-- Tests as the bits of a number, over any number of tests: which bit is which test, one test more, and the
+-- bits twice over, in which a round goes on past the last of them. It says nothing of the product.
 use Prim.Native.Nat.{ℕ, zero, suc, _+_, _*_, _-_, _/_, _%_, _^_, _<_, _≤_}
 use native.Mathlib.Nat.{zero-div, pow-succ', add-mul-div-right, add-comm, mul-assoc}
 use native.Mathlib.Omega.{arith}
@@ -10,9 +10,7 @@ use lib.ListN.{length, getD, take}
 use lib.Dec.{eqb}
 use lib.Pow.{pow-pos, pow-add, shr-shr, high}
 use lib.Bits.{block-odd}
-use mir.Facts.{eqb-no}
 use Rattle.rules.specs.Tests.{pick}
-use Rattle.rules.proofs.Cases.{split, no-of}
 use Rattle.looks.specs.Bits.{bitsOf, isSet}
 
 -- ---- the lowest bit, and the others
@@ -39,9 +37,6 @@ doubled false n = refl
 
 half : (n k : ℕ) → n / 2 ^ suc k ≡ n / 2 / 2 ^ k
 half n k = let z : 1 + k ≡ suc k = omega arith in sym (shr-shr n 1 k ∙ ap (λ m. n / 2 ^ m) z)
-
-pub by-one : (n k : ℕ) → n / 2 ^ k / 2 ≡ n / 2 ^ suc k
-by-one n k = let z : k + 1 ≡ suc k = omega arith in shr-shr n k 1 ∙ ap (λ m. n / 2 ^ m) z
 
 -- ---- which bit is which test
 
@@ -71,24 +66,6 @@ one-bit-more (t ∷ ts) (suc i) h =
     let d : pick (getD ts i false) (2 ^ suc i) 0 ≡ 2 * pick (getD ts i false) (2 ^ i) 0
     = ap (λ m. pick (getD ts i false) m 0) (pow-succ' 2 i) ∙ doubled (getD ts i false) (2 ^ i) in
     omega (arith, e, d)
-
--- ---- a number of which no bit is set
-
-next-half : (bits k : ℕ) → isSet (bits / 2) k ≡ isSet bits (suc k)
-unfolding isSet
-next-half bits k = ap (λ m. eqb (m % 2) 1) (sym (half bits k))
-
-even : (bits : ℕ) → isSet bits 0 ≡ false → bits % 2 ≡ 0
-unfolding isSet
-even bits e = let odd-not : bits / 2 ^ 0 % 2 ≡ 1 → ⊥ = eqb-no (no-of e) in split 1 (bits % 2) (λ one. absurd (odd-not (omega (arith, one)))) (λ none. omega (arith, none))
-
-pub none-set : (n bits : ℕ) → bits < 2 ^ n → ((k : ℕ) → k < n → isSet bits k ≡ false) → bits ≡ 0
-none-set zero bits h f = omega (arith, h)
-none-set (suc n) bits h f =
-    let e = pow-succ' 2 n in
-    let low-bit = even bits (f 0 (omega arith)) in
-    let others = none-set n (bits / 2) (omega (arith, h, e)) (λ k l. next-half bits k ∙ f (suc k) (omega arith)) in
-    omega (arith, low-bit, others)
 
 -- ---- the bits twice over
 

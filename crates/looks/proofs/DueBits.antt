@@ -15,21 +15,21 @@ use Rattle.rules.specs.Tests.{pick, all, each}
 use Rattle.rules.specs.Nodes.{fresh, berthAt}
 use Rattle.rules.specs.Turns.{due}
 use Rattle.rules.specs.Ranges.{settingsAllowed, berthInOrder, inOrder, InOrder}
-use Rattle.rules.specs.Stores.{distance, passedOver, reached}
+use Rattle.rules.specs.Stores.{passedOver, reached}
 use Rattle.rules.specs.declared.Rx.{Rx}
 use Rattle.rules.specs.declared.Tx.{Tx}
 use Rattle.rules.specs.declared.Berth.{Berth}
 use Rattle.rules.specs.declared.Node.{Node}
-use Rattle.rules.proofs.Cases.{split, yes-of, is-true, is-false, pick-either}
+use Rattle.rules.proofs.Cases.{split, yes-of, is-true, is-false, eqb-is, eqb-not, pick-either}
 use Rattle.rules.proofs.Ranges.{in-order-range}
-use Rattle.rules.proofs.Round.{near, there, stands, passed-ten, passed-most, reached-due}
+use Rattle.rules.proofs.Round.{stands, passed-ten, passed-most, reached-due}
 use Rattle.berth.specs.Idle.{idle}
 use Rattle.looks.specs.Order.{leadingIdle, orderOf}
 use Rattle.looks.specs.Probes.{probeAt}
 use Rattle.looks.specs.Bits.{bitsOf, isSet, dueBits, passedFrom, nextSet}
 use Rattle.looks.proofs.Ten.{at-is}
 use Rattle.looks.proofs.Ordered.{answer, rx-idle, tx-idle}
-use Rattle.looks.proofs.Bits.{by-one, bit-is-test, bits-fit, one-bit-more, none-set, first-round, second-round}
+use Rattle.looks.proofs.Bits.{bit-is-test, bits-fit, one-bit-more, first-round, second-round}
 
 -- ---- the due berths
 
@@ -136,95 +136,42 @@ round-at bits served p fits most h = split berthCount (served + 1 + p) second fi
     first : served + 1 + p < berthCount → isSet (bits * 2 ^ berthCount + bits) (served + 1 + p) ≡ isSet bits (probeAt served p)
     first l = let z : served + 1 + p ≡ probeAt served p = omega (arith, l) in first-round berthCount bits (served + 1 + p) l ∙ ap (isSet bits) z
 
--- ---- the count, in which p bits have been passed over and the ring begins with the next
+-- ---- the count, in which p bits have been passed over
 
 module _ (bits served : ℕ) where
-  abbrev pub Round : ℕ → ℕ → Type 0
-  Round ring p =
-      (p ≤ berthCount) × (ring ≡ (bits * 2 ^ berthCount + bits) / 2 ^ (served + 1 + p)) × (passedFrom bits served p (berthCount - p) ≡ nextSet bits served)
+  abbrev pub Counted : ℕ → Type 0
+  Counted p = (p ≤ berthCount) × (passedFrom bits served p (berthCount - p) ≡ nextSet bits served)
 
-  pub begins : (twice shift : ℕ) → twice ≡ bits * 2 ^ berthCount + bits → shift ≡ served + 1 → Round (twice / 2 ^ shift) 0
+  pub none-counted : Counted 0
   unfolding nextSet
-  begins twice shift e s =
-      let z : shift ≡ served + 1 + 0 = omega (arith, s) in
-      (omega arith, ap (λ m. m / 2 ^ shift) e ∙ ap (λ m. (bits * 2 ^ berthCount + bits) / 2 ^ m) z, refl)
+  none-counted = (omega arith, refl)
 
-  module _ (ring p : ℕ) (so-far : Round ring p) where
-    ends : berthCount ≤ p → p ≡ nextSet bits served
+  module _ (p : ℕ) (so-far : Counted p) where
+    pub all-counted : berthCount ≤ p → p ≡ nextSet bits served
     unfolding passedFrom
-    ends h = let z : berthCount - p ≡ 0 = omega (arith, h) in ap (passedFrom bits served p) (sym z) ∙ so-far .2
+    all-counted h = let z : berthCount - p ≡ 0 = omega (arith, h) in ap (passedFrom bits served p) (sym z) ∙ so-far .1
 
-    module _ (fits : bits < 2 ^ berthCount) (most : served < berthCount) (h : p < berthCount) where
-      probed-bit : (t : ℕ) → ring % 2 ≡ t → eqb t 1 ≡ isSet bits (probeAt served p)
+    module _ (twice : ℕ) (is-twice : twice ≡ bits * 2 ^ berthCount + bits) (fits : bits < 2 ^ berthCount) (most : served < berthCount) (h : p < berthCount) where
+      -- the bit of the ring that is probed after p is that of the berth probed
+      probed : (shift : ℕ) → shift ≡ served + 1 + p → eqb (twice / 2 ^ shift % 2) 1 ≡ isSet bits (probeAt served p)
       unfolding isSet
-      probed-bit t e = ap (λ m. eqb m 1) (sym e ∙ ap (λ m. m % 2) (so-far .1)) ∙ round-at bits served p fits most h
+      probed shift e = ap (λ m. eqb (m % 2) 1) (ap (λ m. m / 2 ^ shift) is-twice ∙ ap (λ m. (bits * 2 ^ berthCount + bits) / 2 ^ m) e) ∙ round-at bits served p fits most h
 
-      opened : (t : ℕ) → ring % 2 ≡ t → pick (eqb t 1) p (passedFrom bits served (suc p) (berthCount - (p + 1))) ≡ nextSet bits served
+      opened : pick (isSet bits (probeAt served p)) p (passedFrom bits served (suc p) (berthCount - (p + 1))) ≡ nextSet bits served
       unfolding passedFrom
-      opened t e =
-          let left : suc (berthCount - (p + 1)) ≡ berthCount - p = omega (arith, h) in
-          ap (λ c. pick c p (passedFrom bits served (suc p) (berthCount - (p + 1)))) (probed-bit t e) ∙ ap (passedFrom bits served p) left ∙ so-far .2
+      opened = let left : suc (berthCount - (p + 1)) ≡ berthCount - p = omega (arith, h) in ap (passedFrom bits served p) left ∙ so-far .1
 
-      pub stops : ring % 2 ≡ 1 → p ≡ nextSet bits served
-      stops e = opened 1 e
+      pub set-stops : (shift : ℕ) → shift ≡ served + 1 + p → twice / 2 ^ shift % 2 ≡ 1 → p ≡ nextSet bits served
+      set-stops shift e t = ap (λ c. pick c p (passedFrom bits served (suc p) (berthCount - (p + 1)))) (sym (eqb-is _ 1 t) ∙ probed shift e) ∙ opened
 
-      pub goes-on : ring % 2 ≡ 0 → Round (ring / 2) (p + 1)
-      goes-on e = (omega (arith, h), shifted, passed)
+      pub one-counted : (shift : ℕ) → shift ≡ served + 1 + p → (twice / 2 ^ shift % 2 ≡ 1 → ⊥) → Counted (p + 1)
+      one-counted shift e t = (omega (arith, h), passed)
         where
-          shifted : ring / 2 ≡ (bits * 2 ^ berthCount + bits) / 2 ^ (served + 1 + (p + 1))
-          shifted =
-              let z : suc (served + 1 + p) ≡ served + 1 + (p + 1) = omega arith in
-              ap (λ m. m / 2) (so-far .1) ∙ by-one (bits * 2 ^ berthCount + bits) (served + 1 + p) ∙ ap (λ m. (bits * 2 ^ berthCount + bits) / 2 ^ m) z
-
           passed : passedFrom bits served (p + 1) (berthCount - (p + 1)) ≡ nextSet bits served
-          passed = let z : p + 1 ≡ suc p = omega arith in ap (λ m. passedFrom bits served m (berthCount - (p + 1))) z ∙ opened 0 e
-
--- ---- where a bit is set, the count stops before it has passed over all
-
-module _ (bits served : ℕ) where
-  most-passed : (left p : ℕ) → passedFrom bits served p left ≤ p + left
-  unfolding passedFrom
-  most-passed zero p = omega arith
-  most-passed (suc left) p = pick-either (λ m. m ≤ p + suc left) (isSet bits (probeAt served p)) p _ (λ t. omega arith) (λ t. let h = most-passed left (suc p) in omega (arith, h))
-
-  -- where all that are left are passed over, none of them is set
-  all-unset : (left p : ℕ) → passedFrom bits served p left ≡ p + left → (j : ℕ) → p ≤ j → j < p + left → isSet bits (probeAt served j) ≡ false
-  unfolding passedFrom
-  all-unset zero p e j l h = absurd (omega (arith, l, h))
-  all-unset (suc left) p e j l h =
-      let k : p + suc left ≡ suc p + left = omega arith in
-      let here : isSet bits (probeAt served p) ≡ false = first (isSet bits (probeAt served p)) e in
-      let after : passedFrom bits served (suc p) left ≡ suc p + left = ap (λ t. pick t p (passedFrom bits served (suc p) left)) (sym here) ∙ e ∙ k in
-      split (suc p) j (λ later. all-unset left (suc p) after j later (omega (arith, h))) (λ now. let z : j ≡ p = omega (arith, l, now) in ap (λ i. isSet bits (probeAt served i)) z ∙ here)
-    where
-      first : (t : Bool) → pick t p (passedFrom bits served (suc p) left) ≡ p + suc left → t ≡ false
-      first true q = absurd (omega (arith, q))
-      first false q = refl
-
-  pub none-next : bits ≡ 0 → berthCount ≡ nextSet bits served
-  unfolding nextSet passedFrom bitsOf
-  none-next e = sym (go berthCount 0)
-    where
-      unset-zero : (k : ℕ) → isSet bits k ≡ false
-      unset-zero k = ap (λ m. isSet m k) e ∙ bit-is-test [] k
-
-      go : (left p : ℕ) → passedFrom bits served p left ≡ p + left
-      go zero p = omega arith
-      go (suc left) p = rw (unset-zero (probeAt served p)) (go left (suc p) ∙ (omega arith))
-
-  pub some-next : bits < 2 ^ berthCount → served < berthCount → (bits ≡ 0 → ⊥) → nextSet bits served < berthCount
-  unfolding nextSet
-  some-next fits most some = split berthCount (passedFrom bits served 0 berthCount) (λ all. absurd (some (none-set berthCount bits fits (unset all)))) (λ near. near)
-    where
-      unset : berthCount ≤ passedFrom bits served 0 berthCount → (k : ℕ) → k < berthCount → isSet bits k ≡ false
-      unset all k h =
-          let whole : passedFrom bits served 0 berthCount ≡ 0 + berthCount = let m = most-passed berthCount 0 in omega (arith, m, all) in
-          ap (isSet bits) (sym (there served k most h)) ∙ all-unset berthCount 0 whole (distance served k) (omega arith) (near served k)
-
-  pub still-left : bits < 2 ^ berthCount → served < berthCount → (bits ≡ 0 → ⊥) → {ring p : ℕ} → Round bits served ring p → p < berthCount
-  still-left fits most some so-far =
-      let stops-before = some-next fits most some in
-      split berthCount _ (λ all. let e = ends bits served _ _ so-far all in absurd (omega (arith, stops-before, e, all))) (λ near. near)
+          passed =
+              let z : p + 1 ≡ suc p = omega arith in
+              ap (λ m. passedFrom bits served m (berthCount - (p + 1))) z
+              ∙ ap (λ c. pick c p (passedFrom bits served (suc p) (berthCount - (p + 1)))) (sym (eqb-not _ 1 t) ∙ probed shift e) ∙ opened
 
 -- ---- an example: berths 0, 4 and 9 due on a fresh node, which are the number 529; served 0, 4, 9, and then nothing is due
 

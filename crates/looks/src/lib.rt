@@ -180,19 +180,18 @@ fn due_bits(node: &Node, idle: usize) -> u16
     bits
 }
 
-// From the bit after that of the berth served last, how many bits are passed over until one is set: counted as it goes, or 10 at once if
-// none is. The ring has the ten bits twice, so that the round goes on past the last of them without a test.
+// From the bit after that of the berth served last, how many bits are passed over until one is set: counted as it goes, 10 if none is.
+// The ring has the ten bits twice, so that the round goes on past the last of them without a test.
 fn next_set(bits: u16, served: u8) -> u8
     requires { ⌜ (bits < 2 ^ berthCount) × (served < berthCount) ⌝ }
     ensures { λ r. ⌜ r ≡ nextSet bits served ⌝ }
 {
-    if bits == 0 {
-        return rules::BERTH_COUNT;
-    }
-    let mut ring = (bits as u32 * TWICE) >> (served as u32 + 1);
+    let ring = bits as u32 * TWICE;
     let mut passed: u8 = 0;
-    while ring % 2 == 0 {
-        ring = ring / 2;
+    while passed < rules::BERTH_COUNT {
+        if (ring >> (served as u32 + 1 + passed as u32)) % 2 == 1 {
+            return passed;
+        }
         passed += 1;
     }
     passed
