@@ -11,17 +11,14 @@ use lib.Seq.{take-all}
 use lib.Dec.{eqb}
 use lib.Pow.{pow-lt}
 use Rattle.rules.specs.Numbers.{berthCount}
-use Rattle.rules.specs.Tests.{pick, all, each}
+use Rattle.rules.specs.Tests.{pick}
 use Rattle.rules.specs.Nodes.{fresh, berthAt}
 use Rattle.rules.specs.Turns.{due}
-use Rattle.rules.specs.Ranges.{settingsAllowed, berthInOrder, inOrder, InOrder}
+use Rattle.rules.specs.Ranges.{inOrder, InOrder}
 use Rattle.rules.specs.Stores.{passedOver, reached}
-use Rattle.rules.specs.declared.Rx.{Rx}
-use Rattle.rules.specs.declared.Tx.{Tx}
 use Rattle.rules.specs.declared.Berth.{Berth}
 use Rattle.rules.specs.declared.Node.{Node}
 use Rattle.rules.proofs.Cases.{split, yes-of, is-true, is-false, eqb-is, eqb-not, pick-either}
-use Rattle.rules.proofs.Ranges.{in-order-range}
 use Rattle.rules.proofs.Round.{stands, passed-ten, passed-most, reached-due}
 use Rattle.berth.specs.Idle.{idle}
 use Rattle.looks.specs.Order.{leadingIdle, orderOf}
@@ -172,29 +169,3 @@ module _ (bits served : ℕ) where
               let z : p + 1 ≡ suc p = omega arith in
               ap (λ m. passedFrom bits served m (berthCount - (p + 1))) z
               ∙ ap (λ c. pick c p (passedFrom bits served (suc p) (berthCount - (p + 1)))) (sym (eqb-not _ 1 t) ∙ probed shift e) ∙ opened
-
--- ---- an example: berths 0, 4 and 9 due on a fresh node, which are the number 529; served 0, 4, 9, and then nothing is due
-
-abbrev waiting : Berth
-waiting = record { rx = Rx.Idle; last = 0; tx = Tx.SingleDue 3 0 }
-
-abbrev pub threeBerths : ℕ → Berth → Berth → Berth → Node
-threeBerths served a b c = record {
-  settings = record { area = 40; block = 2; stmin = 5 };
-  served = served;
-  berths = a ∷ fresh ∷ fresh ∷ fresh ∷ b ∷ fresh ∷ fresh ∷ fresh ∷ fresh ∷ c ∷ [];
-}
-
-pub three-bits : dueBits (threeBerths 9 waiting waiting waiting .berths) ≡ 529
-unfolding dueBits bitsOf due
-three-bits = refl
-
-pub three-passed : (passedOver (threeBerths 9 waiting waiting waiting) ≡ 0) × (passedOver (threeBerths 0 fresh waiting waiting) ≡ 3)
-    × (passedOver (threeBerths 4 fresh fresh waiting) ≡ 4) × (passedOver (threeBerths 9 fresh fresh fresh) ≡ 10)
-unfolding dueBits bitsOf due nextSet passedFrom isSet inOrder all each settingsAllowed berthInOrder
-three-passed = (
-  sym (next-is-passed (threeBerths 9 waiting waiting waiting) (in-order-range (threeBerths 9 waiting waiting waiting) tt)),
-  sym (next-is-passed (threeBerths 0 fresh waiting waiting) (in-order-range (threeBerths 0 fresh waiting waiting) tt)),
-  sym (next-is-passed (threeBerths 4 fresh fresh waiting) (in-order-range (threeBerths 4 fresh fresh waiting) tt)),
-  sym (next-is-passed (threeBerths 9 fresh fresh fresh) (in-order-range (threeBerths 9 fresh fresh fresh) tt)),
-)

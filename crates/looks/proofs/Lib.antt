@@ -10,6 +10,7 @@ pub mod Sides
 pub mod Ordered
 pub mod Bits
 pub mod DueBits
+pub mod Examples
 pub mod Variants
 pub mod Puts
 pub mod Bodies
