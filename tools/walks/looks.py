@@ -463,6 +463,38 @@ use Rattle.looks.specs.Order.{orderOf}
 '''
 
 
+def becomes(arm, local, why):
+    """The number in a local of 16 bits is another, which `why` proves."""
+    arm.e(f"rewrite ! {arm.p(f'_{local}')} (λ (m : ℕ). ‵ (fat fullShare (tyInt w16) l{sub(local)} 0 (vint w16 m))) ({why}) refl $")
+
+
+def gathering(w, asks, adds):
+    """The loop of due_bits: the bits of the berths before i are in `_3`, and the bit of berth i is the only one of `_4`."""
+    bits, fits = '(gathered h (i .0))', '(refl, gathered-fits h (i .0) (i .2))'
+    one, one_fits = '(2 ^ i .0)', '(refl, bit-fits (i .0) (i .2))'
+    loop = Loop(w, ['tyInt w16', 'ref', 'tyInt w64', 'tyInt w16', 'tyInt w16', 'tyInt w64', 'tyBool', 'tyBool'], 'while i < 10 {', 'i', '_5', 64, '_7',
+                {2: 'vint w64 idle', 3: f'vint w16 {bits}', 4: f'vint w16 {one}'}, lambda i: f'({i} ≤ berthCount)', 't-5')
+
+    def does(arm):
+        arm.source('let set = due_at(node, i);')
+        arm.call(asks, [counter(arm, '_5')], '_6', 'r', 'e', 'is', lend=LENT, within='(below less)')
+        arm.source('bits = with_bit(bits, next, set);')
+        arm.call(adds, [(lambda: arm.L('_3'), 'u16', bits, fits), (lambda: arm.L('_4'), 'u16', one, one_fits), (lambda: arm.L('_6'), 'bool', 'r', 'is')], '_3', 's', 'es', 's-is', within='(both-fit h (i .0) (below less))')
+        becomes(arm, 3, 'gather-on h (i .0) (in-ten less) e es')
+        arm.source('next = 2 * next;')
+        doubled = 'record { fits = subst (λ m. m < 2 ^ 16) (sym (next-bit (i .0))) (bit-fits (i .0 + 1) (add-one-le (below less))) }'
+        arm.assign(f"(bin ! (lit ! tt) {arm.L('_4')} ({doubled}))", '_4', f'(tt, {doubled})')
+        becomes(arm, 4, 'next-bit (i .0)')
+
+    def over(arm):
+        arm.source('bits')
+        arm.copy('_3', '_0', 'u16', bits, fits)
+        arm.finish(f'exits {bits} (gather-ends h (i .0) (past over)) {fits}')
+
+    loop.steady(does, '(add-one-le (below less))', over)
+    return loop
+
+
 def due_bits():
     begins = of_looks('bit', None, ['usize'], 'u16', lambda r, last, h, v: f'{r} ≡ 2 ^ {v[0]}', 1, lambda v: f'{v[0]} ≤ berthCount')
     asks = asked_of('due_at', lambda r, k: f'{r} ≡ due (berthAt h {k})', 2)
@@ -474,29 +506,7 @@ use Rattle.looks.proofs.Ordered.{order-most}
 use Rattle.looks.proofs.DueBits.{gathered, bit-fits, gathered-fits, both-fit, next-bit, gather-begins, gather-on, gather-ends}
 ''', 'A loop asks berth after berth whether it is due, and puts the answer above the bits so far.')
     w.requires, w.requires_walks = FOUND
-    bits, fits = '(gathered h (i .0))', '(refl, gathered-fits h (i .0) (i .2))'
-    one, one_fits = '(2 ^ i .0)', '(refl, bit-fits (i .0) (i .2))'
-    loop = Loop(w, ['tyInt w16', 'ref', 'tyInt w64', 'tyInt w16', 'tyInt w16', 'tyInt w64', 'tyBool', 'tyBool'], 'while i < 10 {', 'i', '_5', 64, '_7',
-                {2: 'vint w64 idle', 3: f'vint w16 {bits}', 4: f'vint w16 {one}'}, lambda i: f'({i} ≤ berthCount)', 't-5')
-    holds = lambda arm, local, why: arm.e(f"rewrite ! {arm.p(f'_{local}')} (λ (m : ℕ). ‵ (fat fullShare (tyInt w16) l{sub(local)} 0 (vint w16 m))) ({why}) refl $")
-
-    def does(arm):
-        arm.source('let set = due_at(node, i);')
-        arm.call(asks, [counter(arm, '_5')], '_6', 'r', 'e', 'is', lend=LENT, within='(below less)')
-        arm.source('bits = with_bit(bits, next, set);')
-        arm.call(adds, [(lambda: arm.L('_3'), 'u16', bits, fits), (lambda: arm.L('_4'), 'u16', one, one_fits), (lambda: arm.L('_6'), 'bool', 'r', 'is')], '_3', 's', 'es', 's-is', within='(both-fit h (i .0) (below less))')
-        holds(arm, 3, 'gather-on h (i .0) (in-ten less) e es')
-        arm.source('next = 2 * next;')
-        doubled = 'record { fits = subst (λ m. m < 2 ^ 16) (sym (next-bit (i .0))) (bit-fits (i .0 + 1) (add-one-le (below less))) }'
-        arm.assign(f"(bin ! (lit ! tt) {arm.L('_4')} ({doubled}))", '_4', f'(tt, {doubled})')
-        holds(arm, 4, 'next-bit (i .0)')
-
-    def over(arm):
-        arm.source('bits')
-        arm.copy('_3', '_0', 'u16', bits, fits)
-        arm.finish(f'exits {bits} (gather-ends h (i .0) (past over)) {fits}')
-
-    loop.steady(does, '(add-one-le (below less))', over)
+    loop = gathering(w, asks, adds)
     most = '(subst (λ m. m ≤ berthCount) (sym (within .1)) (order-most h (within .0)))'
     w.begin()
     w.open()
@@ -507,8 +517,8 @@ use Rattle.looks.proofs.DueBits.{gathered, bit-fits, gathered-fits, bot
     w.call(begins, [(lambda: w.L('_2'), 'usize', 'idle', 'idle-is')], '_4', 'm', 'em', 'm-is', within=most)
     w.source('let mut i = idle;')
     w.copy('_2', '_5', 'usize', 'idle', 'idle-is')
-    holds(w, 3, 'gather-begins h idle (within .0) (within .1)')
-    holds(w, 4, 'em')
+    becomes(w, 3, 'gather-begins h idle (within .0) (within .1)')
+    becomes(w, 4, 'em')
     loop.enter(f'(idle, idle-is .1, {most})')
     return w
 
