@@ -154,18 +154,17 @@ module _ (bits served : ℕ) where
       unfolding isSet
       probed shift e = ap (λ m. eqb (m % 2) 1) (ap (λ m. m / 2 ^ shift) is-twice ∙ ap (λ m. (bits * 2 ^ berthCount + bits) / 2 ^ m) e) ∙ round-at bits served p fits most h
 
-      opened : pick (isSet bits (probeAt served p)) p (passedFrom bits served (suc p) (berthCount - (p + 1))) ≡ nextSet bits served
+      either : (shift : ℕ) (t : Bool) → shift ≡ served + 1 + p → eqb (twice / 2 ^ shift % 2) 1 ≡ t
+          → pick t p (passedFrom bits served (suc p) (berthCount - (p + 1))) ≡ nextSet bits served
       unfolding passedFrom
-      opened = let left : suc (berthCount - (p + 1)) ≡ berthCount - p = omega (arith, h) in ap (passedFrom bits served p) left ∙ so-far .1
+      either shift t e q =
+          let left : suc (berthCount - (p + 1)) ≡ berthCount - p = omega (arith, h) in
+          ap (λ c. pick c p (passedFrom bits served (suc p) (berthCount - (p + 1)))) (sym q ∙ probed shift e) ∙ ap (passedFrom bits served p) left ∙ so-far .1
 
       pub set-stops : (shift : ℕ) → shift ≡ served + 1 + p → twice / 2 ^ shift % 2 ≡ 1 → p ≡ nextSet bits served
-      set-stops shift e t = ap (λ c. pick c p (passedFrom bits served (suc p) (berthCount - (p + 1)))) (sym (eqb-is _ 1 t) ∙ probed shift e) ∙ opened
+      set-stops shift e t = either shift true e (eqb-is _ 1 t)
 
       pub one-counted : (shift : ℕ) → shift ≡ served + 1 + p → (twice / 2 ^ shift % 2 ≡ 1 → ⊥) → Counted (p + 1)
-      one-counted shift e t = (omega (arith, h), passed)
-        where
-          passed : passedFrom bits served (p + 1) (berthCount - (p + 1)) ≡ nextSet bits served
-          passed =
-              let z : p + 1 ≡ suc p = omega arith in
-              ap (λ m. passedFrom bits served m (berthCount - (p + 1))) z
-              ∙ ap (λ c. pick c p (passedFrom bits served (suc p) (berthCount - (p + 1)))) (sym (eqb-not _ 1 t) ∙ probed shift e) ∙ opened
+      one-counted shift e t =
+          let z : p + 1 ≡ suc p = omega arith in
+          (omega (arith, h), ap (λ m. passedFrom bits served m (berthCount - (p + 1))) z ∙ either shift false e (eqb-not _ 1 t))

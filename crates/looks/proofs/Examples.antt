@@ -3,6 +3,7 @@
 use Prim.Native.Nat.{ℕ}
 use mathlib.Core.Path.{_≡_, refl, sym}
 use mathlib.Core.List.{[], _∷_}
+use lib.Dec.{T}
 use Rattle.rules.specs.Tests.{all, each}
 use Rattle.rules.specs.Nodes.{fresh}
 use Rattle.rules.specs.Ranges.{settingsAllowed, berthInOrder, inOrder}
@@ -30,12 +31,11 @@ pub three-bits : dueBits (threeBerths 9 waiting waiting waiting .berths) ≡ 529
 unfolding dueBits bitsOf due
 three-bits = refl
 
+by-law : (n : Node) → T (inOrder n) → passedOver n ≡ nextSet (dueBits (n .berths)) (n .served)
+by-law n t = sym (next-is-passed n (in-order-range n t))
+
 pub three-passed : (passedOver (threeBerths 9 waiting waiting waiting) ≡ 0) × (passedOver (threeBerths 0 fresh waiting waiting) ≡ 3)
     × (passedOver (threeBerths 4 fresh fresh waiting) ≡ 4) × (passedOver (threeBerths 9 fresh fresh fresh) ≡ 10)
 unfolding dueBits bitsOf due nextSet passedFrom isSet inOrder all each settingsAllowed berthInOrder
-three-passed = (
-  sym (next-is-passed (threeBerths 9 waiting waiting waiting) (in-order-range (threeBerths 9 waiting waiting waiting) tt)),
-  sym (next-is-passed (threeBerths 0 fresh waiting waiting) (in-order-range (threeBerths 0 fresh waiting waiting) tt)),
-  sym (next-is-passed (threeBerths 4 fresh fresh waiting) (in-order-range (threeBerths 4 fresh fresh waiting) tt)),
-  sym (next-is-passed (threeBerths 9 fresh fresh fresh) (in-order-range (threeBerths 9 fresh fresh fresh) tt)),
-)
+three-passed =
+    (by-law (threeBerths 9 waiting waiting waiting) tt, by-law (threeBerths 0 fresh waiting waiting) tt, by-law (threeBerths 4 fresh fresh waiting) tt, by-law (threeBerths 9 fresh fresh fresh) tt)
