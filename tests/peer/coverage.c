@@ -4,23 +4,12 @@
 #include <string.h>
 
 #include "cards.h"
+#include "counting.h"
 #include "coverage.h"
-#include "outcomes.h"
 
 enum programs { BOTH, ONLY_SCENES, ONLY_EXERCISER };
-enum side { OF_NODE, OF_RECEIVE, OF_SEND, OF_CARD };
-enum { STATES_MAX = 6 };
-
-#define X_FAULT(id, programs, side, states, sentence) id,
-#define X_COUNT(id, programs, side, states, sentence) id,
-#define AS_ID(id, programs, side, states, sentence) id,
-enum outcome {
-    NODE_OUTCOMES(AS_ID) FAULTS(AS_OUTCOME_OF_FAULT) RECEIVE_OUTCOMES(AS_ID) SEND_OUTCOMES(AS_ID)
-    COUNTS(AS_OUTCOME_OF_COUNT)
-    OUTCOME_COUNT
-};
-#undef X_FAULT
-#undef X_COUNT
+enum side { OF_NODE, OF_RECEIVE, OF_SEND, OF_BERTH, OF_CARD };
+enum { STATES_MAX = BERTHS };
 
 static const struct row {
     enum programs programs;
@@ -31,8 +20,8 @@ static const struct row {
 #define X_FAULT(id, programs, side, states, sentence) { programs, side, states, sentence },
 #define X_COUNT(id, programs, side, states, sentence) { programs, side, states, sentence },
 #define AS_ROW(id, programs, side, states, sentence) { programs, side, states, sentence },
-    NODE_OUTCOMES(AS_ROW) FAULTS(AS_OUTCOME_OF_FAULT) RECEIVE_OUTCOMES(AS_ROW) SEND_OUTCOMES(AS_ROW)
-    COUNTS(AS_OUTCOME_OF_COUNT)
+    NODE_OUTCOMES(AS_ROW) CHANGE_OUTCOMES(AS_ROW) FAULTS(AS_OUTCOME_OF_FAULT) RECEIVE_OUTCOMES(AS_ROW)
+    SEND_OUTCOMES(AS_ROW) BERTH_OUTCOMES(AS_ROW) COUNTS(AS_OUTCOME_OF_COUNT)
 };
 
 static const struct {
@@ -43,25 +32,31 @@ static const struct {
     [OF_NODE] = { "node", "-", { "seen" } },
     [OF_RECEIVE] = { "receive side", "ioga", { "idle", "overflow", "go", "awaits" } },
     [OF_SEND] = { "send side", "isfwcp", { "idle", "single", "first", "flow", "consec", "in gap" } },
+    [OF_BERTH] = { "berth", TEN_BERTHS, { "0", "1", "2", "3", "4", "5", "6", "7", "8", "9" } },
     [OF_CARD] = { "cards", "rtk", { "raised", "to top", "kept" } },
 };
 
 static long counts[OUTCOME_COUNT][STATES_MAX];
 
-static void count(enum outcome outcome)
+void count(enum outcome outcome)
 {
     counts[outcome][0]++;
 }
 
-static void count_receive(enum outcome outcome, const struct receive_side *rx)
+void count_receive(enum outcome outcome, const struct receive_side *rx)
 {
     counts[outcome][rx->state]++;
 }
 
-static void count_send(enum outcome outcome, const struct send_side *tx)
+void count_send(enum outcome outcome, const struct send_side *tx)
 {
     bool in_gap = tx->state == CONSECUTIVE && tx->gap_left > 0;
     counts[outcome][in_gap ? CONSECUTIVE + 1 : (int)tx->state]++;
+}
+
+void count_berth(enum outcome outcome, int berth)
+{
+    counts[outcome][berth]++;
 }
 
 /* One step outside the range of the gaps, in both states that carry them. */
@@ -73,13 +68,14 @@ static void cover_gap_fault(enum fault fault, const struct send_side *tx)
         count(gap_left_129);
 }
 
-static void cover_order(const struct node *before)
+void cover_order(const struct node *before)
 {
     enum fault fault = fault_of(before);
     if (fault != no_fault)
         count(fault_area_small + (fault - area_small));
     for (int k = 0; k < BERTHS; k++)
         cover_gap_fault(fault, &before->tx[k]);
+    cover_settings_order(before);
 }
 
 /* The outcome for too few cards; the one for too many stands behind it. */
@@ -139,7 +135,8 @@ static void cover_first(const struct node *before, const struct call *call, cons
 static void cover_consecutive(const struct node *before, const struct frame_answer *answer)
 {
     const struct receive_side *rx = &before->rx[answer->berth];
-    bool full = rx->taken + 1 == before->block_size;
+    int block_size = before->set[answer->berth].block_size;
+    bool full = rx->taken + 1 == block_size;
     if (answer->word == IGNORED) {
         count_receive(answer->number == 4 ? consecutive_ignored_4 : consecutive_ignored_3, rx);
         return;
@@ -152,13 +149,15 @@ static void cover_consecutive(const struct node *before, const struct frame_answ
         count_receive(take_at_999, rx);
     if (answer->word == DELIVERED)
         count_receive(full ? delivered_full : delivered, rx);
-    else if (before->block_size == 0)
+    else if (block_size == 0)
         count_receive(took_no_blocks, rx);
     else
         count_receive(full ? took_full : took, rx);
+    if (full)
+        cover_full_block(before, answer->berth);
 }
 
-static bool within(int value, int low, int high)
+bool within(uint32_t value, uint32_t low, uint32_t high)
 {
     return value >= low && value <= high;
 }
@@ -168,7 +167,7 @@ static void cover_stmin(uint8_t stmin, int gap)
 {
     static const struct {
         enum outcome outcome;
-        int stmin_low, stmin_high, gap_low, gap_high;
+        uint32_t stmin_low, stmin_high, gap_low, gap_high;
     } rules[] = {
         { stmin_none, 0x00, 0x00, 0, 0 },
         { stmin_one, 0x01, 0x01, 2, 2 },
@@ -180,7 +179,7 @@ static void cover_stmin(uint8_t stmin, int gap)
     };
     for (size_t i = 0; i < sizeof rules / sizeof rules[0]; i++)
         if (within(stmin, rules[i].stmin_low, rules[i].stmin_high)
-            && within(gap, rules[i].gap_low, rules[i].gap_high))
+            && within((uint32_t)gap, rules[i].gap_low, rules[i].gap_high))
             count(rules[i].outcome);
 }
 
@@ -285,6 +284,7 @@ static void cover_tick(const struct world *world, const struct tick_answer *answ
         cover_gap(&before->tx[k]);
         cover_additions(world, k, tick_adds(before->rx[k].state, receive, send));
     }
+    cover_ranges_kept(before);
 }
 
 static void cover_send(const struct node *before, int berth, int refusal)
@@ -345,6 +345,8 @@ static void cover_hand_over(const struct node *before, const struct node *after,
         return;
     }
     count_receive(rx->state == OWES_GO ? turn_go : turn_overflow, rx);
+    if (rx->state == OWES_GO)
+        cover_go(before, berth);
     count_send(turn_flow_first, tx);
     if (rx->timer == TIMER_END - 1)
         count_receive(turn_flow_at_999, rx);
@@ -417,9 +419,11 @@ static void cover_needs(uint64_t length)
 
 static void cover_card(const struct world *world, const struct call *call)
 {
-    count(frozen(&world->cards[call->berth]) ? card_shown_frozen : card_shown);
+    bool shown = call->kind == CARD;
+    if (shown)
+        count(frozen(&world->cards[call->berth]) ? card_shown_frozen : card_shown);
     if (call->berth >= world->cards_lent)
-        count(card_shown_unlent);
+        count(shown ? card_shown_unlent : count_loaded_unlent);
 }
 
 /* The calls that take no cards must be seen beside a list that is not ten long. */
@@ -441,6 +445,7 @@ void cover(const struct world *before, const struct world *world, const struct c
 {
     const struct node *node = &before->node;
     cover_calls_without_cards(before, call, answer);
+    follow_settings(node, &world->node, call->kind);
     switch (call->kind) {
     case BAD:
         count(record_bad);
@@ -467,12 +472,12 @@ void cover(const struct world *before, const struct world *world, const struct c
     case NEEDS:
         cover_needs(call->asked);
         break;
-    case CARD:
-        cover_card(world, call);
+    case CHANGE:
+        cover_change(before, call, answer->refusal);
         break;
+    case CARD:
     case LOAD_COUNT:
-        if (call->berth >= world->cards_lent)
-            count(count_loaded_unlent);
+        cover_card(world, call);
         break;
     default:
         break;

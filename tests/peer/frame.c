@@ -10,6 +10,7 @@
 
 #include "cards.h"
 #include "mutants.h"
+#include "settings_mistakes.h"
 
 enum kind { SINGLE, FIRST, CONSECUTIVE_FRAME, FLOW_CONTROL };
 
@@ -17,6 +18,7 @@ struct arrival {
     struct node *node;
     struct receive_side *rx;
     struct send_side *tx;
+    int block_size;         /* the berth's own */
     uint8_t *area;          /* the berth's part of the incoming store */
     const uint8_t *data;
     int length;
@@ -160,7 +162,7 @@ static struct frame_answer take(struct arrival *a, int missing)
     count = rule(count, W11a1, room_up_to_seven(a));
     for (int i = 0; i < count; i++)
         a->area[rx->got + i] = a->data[1 + i];
-    bool full = fills_block(rx, a->node->block_size);
+    bool full = fills_block(rx, a->block_size);
     if (missing <= SINGLE_MAX && !(mistake(17a) && full)) {
         int total = rx->total;
         *rx = (struct receive_side){ .state = RX_IDLE, .last = total };
@@ -169,7 +171,7 @@ static struct frame_answer take(struct arrival *a, int missing)
     rx->got += count;
     rx->sn = mistake(17b) && full ? 1 : (rx->sn + 1) % 16;
     rx->timer = (mistake(17d) && full) || mistake(W13g2) ? rx->timer : 0;
-    if (a->node->block_size != 0 || mistake(03a))
+    if (a->block_size != 0 || mistake(03a))
         rx->taken++;
     if (full) {
         rx->state = OWES_GO;
@@ -202,14 +204,20 @@ static struct frame_answer sending_failed(struct arrival *a, int code)
     return answer(0, FAILED, code);
 }
 
+/* For a mutant only: what goes out in the berth's own go. */
+static uint8_t own_stmin(const struct arrival *a)
+{
+    return (uint8_t)a->node->set[a->rx - a->node->rx].stmin;
+}
+
 static struct frame_answer flow_control_obeyed(struct arrival *a)
 {
     struct send_side *tx = a->tx;
     switch (low_nibble(a)) {
     case 0:
         tx->state = CONSECUTIVE;
-        tx->block_size = a->data[1];
-        tx->gap = gap_of(a->data[2]);
+        tx->block_size = rule(a->data[1], W3a10, a->block_size);
+        tx->gap = gap_of(rule(a->data[2], W3a11, own_stmin(a)));
         tx->gap_left = rule(rule(0, W2g5, tx->gap > 0), W2g6, tx->gap);
         tx->sn = rule(tx->sn, 18f, 1);
         tx->timer = rule(0, 18e, tx->timer);
@@ -269,9 +277,10 @@ static int frame_refusal(const struct node *node, struct bytes incoming, struct 
                          int identifier, int length)
 {
     bool lent = cards_lent(cards, identifier, length);
+    uint32_t berth = (uint32_t)(identifier - FROM_BERTH_0);
     if (mistake(W1g9) && !lent)
         return 12;
-    if (!in_order(node) && !(mistake(02b) && !has_ten_areas(node, incoming)))
+    if (!in_order_for(node, berth, mistake(W3e8)) && !(mistake(02b) && !has_ten_areas(node, incoming)))
         return rule(1, W11d1, lands_outside(node, identifier) ? 11 : 1);
     if (mistake(W1g6) && !lent)
         return 12;
@@ -325,6 +334,7 @@ struct frame_answer frame_came(struct node *node, struct bytes incoming, struct 
         .node = node,
         .rx = &node->rx[berth],
         .tx = &node->tx[berth],
+        .block_size = block_size_of_blocks(node, berth),
         .area = incoming.at + (size_t)berth * (size_t)node->area,
         .data = data,
         .length = length,

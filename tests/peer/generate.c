@@ -5,7 +5,7 @@
 
 #include "generate.h"
 
-enum { CARD_SEEDS = 1000000 };
+enum { CARD_SEEDS = 1000000, SET_SEEDS = 2000000 };
 
 void write_record(struct generator *g, const uint8_t *record)
 {
@@ -33,8 +33,10 @@ static int berth_of(const struct generator *g, const uint8_t *record)
 void emit(struct generator *g, const uint8_t *record)
 {
     write_record(g, record);
-    if (g->program == SCENES && !g->plain)
+    if (g->program == SCENES && !g->plain) {
         deal_cards(g, berth_of(g, record));
+        deal_changes(g, berth_of(g, record));
+    }
 }
 
 static void exerciser_stretch(struct generator *g)
@@ -93,7 +95,8 @@ static void write_cut_record(struct generator *g)
 void generate(enum program program, uint64_t seed, long records)
 {
     struct generator g = {
-        .dice = { seed }, .card_dice = { seed + CARD_SEEDS }, .program = program, .left = records,
+        .dice = { seed }, .card_dice = { seed + CARD_SEEDS }, .set_dice = { seed + SET_SEEDS },
+        .program = program, .left = records,
     };
     open_world(&g.model, program);
     if (program == SCENES)

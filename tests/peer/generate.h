@@ -17,7 +17,8 @@ struct generator {
     struct world model;
     long left;              /* records still to write; then every emit does nothing */
     struct dice card_dice;  /* apart, so that cards leave the other draws as they are */
-    bool plain;             /* no looks and no cards between the records of a scenes stream */
+    struct dice set_dice;   /* and so do settings */
+    bool plain;             /* no looks, cards and changes between the records of a scenes stream */
 };
 
 /* generate.c */
@@ -62,6 +63,19 @@ void stretch_of_scenes(struct generator *g);
 /* generate_cards.c: the records of a scenes stream that load, show and lend cards */
 void deal_cards(struct generator *g, int berth);
 void deal_whole_card(struct generator *g, int berth);
+
+/* generate_changes.c: the records of a scenes stream that change or load the settings of a berth */
+void deal_changes(struct generator *g, int berth);
+void emit_settings(struct generator *g, int berth, struct berth_settings set);
+void emit_change(struct generator *g, int berth, int parameter, uint32_t value);
+void emit_some_change(struct generator *g, int berth);
+void spoil_one_berth(struct generator *g);
+struct berth_settings some_settings(struct generator *g);
+struct berth_settings settings_that_fit(struct generator *g, const struct receive_side *rx);
+int some_reserved_stmin(struct generator *g);
+
+/* generate_settings.c: scenes streams of changes, in every state of both sides */
+void generate_settings(uint64_t seed, int changes);
 
 /* generate_free.c: scenes streams in which every berth comes free */
 void generate_free(uint64_t seed, int nodes);

@@ -85,10 +85,10 @@ static void load_node_in_order(struct generator *g)
 /* A berth with no frame due: no turn comes to it, and it keeps none from the others. */
 static void load_without_due(struct generator *g, int berth)
 {
-    struct receive_side rx = some_receive_side(g);
+    struct receive_side rx = some_receive_side(g, berth);
     struct send_side tx = some_send_side(g);
     while (rx.state != RX_IDLE && rx.state != AWAITS)
-        rx = some_receive_side(g);
+        rx = some_receive_side(g, berth);
     while (tx.state != TX_IDLE && tx.state != AWAITS_FLOW)
         tx = some_send_side(g);
     emit_receive_side(g, berth, &rx);

@@ -37,22 +37,22 @@ static int some_count(struct generator *g, int block_size)
     return block_size == 0 ? 0 : edge(g, 0, block_size - 1);
 }
 
-static struct receive_side some_reception(struct generator *g, enum receive_state state)
+static struct receive_side some_reception(struct generator *g, int berth, enum receive_state state)
 {
     const struct node *node = &g->model.node;
     struct receive_side rx = { .state = state, .timer = some_timer(g) };
     rx.total = edge(g, AREA_MIN, node->area);
     rx.got = some_place(g, rx.total);
     rx.sn = edge(g, 0, SN_MAX);
-    rx.taken = some_count(g, node->block_size);
+    rx.taken = some_count(g, node->set[berth].block_size);
     return rx;
 }
 
-struct receive_side some_receive_side(struct generator *g)
+struct receive_side some_receive_side(struct generator *g, int berth)
 {
     enum receive_state state = (enum receive_state)roll(&g->dice, 4);
     if (state == OWES_GO || state == AWAITS)
-        return some_reception(g, state);
+        return some_reception(g, berth, state);
     return (struct receive_side){
         .state = state,
         .timer = state == RX_IDLE ? 0 : some_timer(g),
@@ -123,9 +123,8 @@ static bool spoil_last_or_timer(struct generator *g, enum fault fault, struct re
     }
 }
 
-static bool spoil_progress(struct generator *g, enum fault fault, struct receive_side *rx)
+static bool spoil_progress(struct generator *g, enum fault fault, int block_size, struct receive_side *rx)
 {
-    int block_size = g->model.node.block_size;
     switch (fault) {
     case total_small:
         rx->total = AREA_MIN - 1;
@@ -154,10 +153,10 @@ static bool spoil_progress(struct generator *g, enum fault fault, struct receive
     }
 }
 
-bool spoil_receive_side(struct generator *g, enum fault fault, struct receive_side *rx)
+bool spoil_receive_side(struct generator *g, enum fault fault, int berth, struct receive_side *rx)
 {
-    *rx = some_reception(g, chance(&g->dice, 50) ? OWES_GO : AWAITS);
-    return spoil_last_or_timer(g, fault, rx) || spoil_progress(g, fault, rx);
+    *rx = some_reception(g, berth, chance(&g->dice, 50) ? OWES_GO : AWAITS);
+    return spoil_last_or_timer(g, fault, rx) || spoil_progress(g, fault, g->model.node.set[berth].block_size, rx);
 }
 
 static bool spoil_due_side(struct generator *g, enum fault fault, struct send_side *tx)

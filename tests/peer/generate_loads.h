@@ -7,12 +7,12 @@
 #include "generate.h"
 #include "order.h"
 
-/* In order beside the model's settings. */
-struct receive_side some_receive_side(struct generator *g);
+/* In order beside the model's A and the berth's settings. */
+struct receive_side some_receive_side(struct generator *g, int berth);
 struct send_side some_send_side(struct generator *g);
 
-/* With exactly this fault; false if a side of this kind cannot have it beside the model's settings. */
-bool spoil_receive_side(struct generator *g, enum fault fault, struct receive_side *rx);
+/* With exactly this fault; false if a side of this kind cannot have it beside those. */
+bool spoil_receive_side(struct generator *g, enum fault fault, int berth, struct receive_side *rx);
 bool spoil_send_side(struct generator *g, enum fault fault, struct send_side *tx);
 
 #endif

@@ -84,16 +84,17 @@ void emit_flow_control(struct generator *g, int berth, int status, int block_siz
 }
 
 /* Lengths at the edges of frames, of blocks and of the area, where mistakes show. */
-static int some_total(struct generator *g)
+static int some_total(struct generator *g, int berth)
 {
     const struct node *node = &g->model.node;
+    int block_size = node->set[berth].block_size;
     int total = between(&g->dice, AREA_MIN, 60);
     switch (roll(&g->dice, 12)) {
     case 0:
         total = node->area - roll(&g->dice, 3);
         break;
     case 1: case 2:
-        total = FIRST_BYTES + 7 * node->block_size * between(&g->dice, 1, 3) - roll(&g->dice, 7);
+        total = FIRST_BYTES + 7 * block_size * between(&g->dice, 1, 3) - roll(&g->dice, 7);
         break;
     case 3:
         total = between(&g->dice, AREA_MIN, 21);
@@ -135,7 +136,7 @@ void advance_receive(struct generator *g, int berth)
         if (chance(&g->dice, 20))
             emit_single(g, berth);
         else
-            emit_first(g, berth, some_total(g));
+            emit_first(g, berth, some_total(g, berth));
         break;
     case AWAITS:
         emit_right_consecutive(g, berth);
@@ -179,7 +180,7 @@ void advance_send(struct generator *g, int berth)
     const struct send_side *tx = &g->model.node.tx[berth];
     switch (tx->state) {
     case TX_IDLE:
-        emit_send(g, berth, chance(&g->dice, 20) ? between(&g->dice, 1, SINGLE_MAX) : some_total(g));
+        emit_send(g, berth, chance(&g->dice, 20) ? between(&g->dice, 1, SINGLE_MAX) : some_total(g, berth));
         break;
     case AWAITS_FLOW:
         emit_flow_control(g, berth, some_status(g), some_block_size(g), some_stmin(g));

@@ -33,7 +33,7 @@ static void load_berth(struct generator *g, int berth, enum berth_kind kind)
     struct receive_side rx;
     struct send_side tx;
     do {
-        rx = some_receive_side(g);
+        rx = some_receive_side(g, berth);
         tx = some_send_side(g);
     } while (kind_of(&rx, &tx) != kind);
     emit_receive_side(g, berth, &rx);
@@ -58,12 +58,13 @@ static void load_berths(struct generator *g, int set, int front)
     }
 }
 
+/* All berths have the header's settings, so that they may be loaded again beside any state. */
 static void turn_and_look(struct generator *g, int served)
 {
     const struct node *node = &g->model.node;
     write_record(g, (const uint8_t[RECORD_BYTES]){
-        LOAD_NODE, (uint8_t)served, (uint8_t)(node->area >> 8), (uint8_t)node->area, (uint8_t)node->block_size,
-        (uint8_t)node->stmin,
+        LOAD_NODE, (uint8_t)served, (uint8_t)(node->area >> 8), (uint8_t)node->area, (uint8_t)node->set[0].block_size,
+        (uint8_t)node->set[0].stmin,
     });
     emit_turn(g);
     write_record(g, (const uint8_t[RECORD_BYTES]){ NODE });

@@ -170,13 +170,18 @@ static struct own some_own(struct generator *g)
     };
 }
 
-/* Brings the whole node in order, in states of every kind, with stores of the right length. */
+/*
+ * Brings the whole node in order, in states of every kind, with stores of the right length.
+ * Most berths get settings of their own.
+ */
 void settle(struct generator *g)
 {
     struct own own = some_own(g);
     emit_own(g, &own);
     for (int k = 0; k < BERTHS; k++) {
-        struct receive_side rx = some_receive_side(g);
+        if (chance(&g->dice, 60))
+            emit_settings(g, k, some_settings(g));
+        struct receive_side rx = some_receive_side(g, k);
         struct send_side tx = some_send_side(g);
         emit_receive_side(g, k, &rx);
         emit_send_side(g, k, &tx);
@@ -273,6 +278,14 @@ static void spoil_settings(struct generator *g, enum fault fault)
     emit_own(g, &own);
 }
 
+/* Of one berth only, whatever the others and the berth itself are at. */
+static void spoil_stmin(struct generator *g, int berth)
+{
+    struct berth_settings set = g->model.node.set[berth];
+    set.stmin = some_reserved_stmin(g);
+    emit_settings(g, berth, set);
+}
+
 static void one_field_out_of_range(struct generator *g)
 {
     enum fault fault = (enum fault)between(&g->dice, area_small, FAULT_COUNT - 1);
@@ -281,9 +294,11 @@ static void one_field_out_of_range(struct generator *g)
     struct send_side tx;
     if (!usable(&g->model))
         settle(g);
-    if (fault <= served_large)
+    if (fault == stmin_reserved && chance(&g->dice, 60))
+        spoil_stmin(g, berth);
+    else if (fault <= served_large)
         spoil_settings(g, fault);
-    else if (spoil_receive_side(g, fault, &rx))
+    else if (spoil_receive_side(g, fault, berth, &rx))
         emit_receive_side(g, berth, &rx);
     else if (spoil_send_side(g, fault, &tx))
         emit_send_side(g, berth, &tx);
@@ -292,8 +307,9 @@ static void one_field_out_of_range(struct generator *g)
         set_up_refused(g);
     if (chance(&g->dice, 30))
         set_up_and_lend(g);
-    rx = some_receive_side(g);
+    rx = some_receive_side(g, berth);
     tx = some_send_side(g);
+    emit_settings(g, berth, settings_that_fit(g, &rx));
     emit_receive_side(g, berth, &rx);
     emit_send_side(g, berth, &tx);
 }

@@ -5,11 +5,12 @@
  * a second time, to run the proved programs against. Its parts:
  *
  *   node.*, order.*, frame.c, gap.c, tick.c, turn.c    the rules of the paper
+ *   change.c                                           a berth's settings changed, request W3
  *   cards.*                                            the cards beside the node
- *   mutants.*, tick_mistakes.h, turn_mistakes.h        mistakes that can be put into them
+ *   mutants.*, *_mistakes.h                            mistakes that can be put into them
  *   records.*, world.*, line.*, say.*, program.*       the exerciser and the scenes program
  *   words.c                                            a record in words
- *   outcomes.h, coverage.*                             the outcomes wanted, and their counting
+ *   outcomes.h, counting.h, coverage*                  the outcomes wanted, and their counting
  *   dice.*, generate*                                  streams of records from a seed
  */
 #include <stdio.h>
@@ -28,6 +29,7 @@ static const char usage[] =
     "       peer generate exerciser|scenes SEED COUNT    a stream of COUNT records\n"
     "       peer generate free SEED COUNT                a scenes stream of COUNT nodes that come free\n"
     "       peer generate round SEED COUNT               a scenes stream of turns, with COUNT sets of due berths\n"
+    "       peer generate settings SEED COUNT            a scenes stream of COUNT changes of berths' settings\n"
     "       peer mutants                                 their names and sentences\n";
 
 static int fail(const char *why)
@@ -73,6 +75,22 @@ static int run_with_options(enum program program, bool with_cards, int count, ch
     return run(program, with_cards, coverage_name);
 }
 
+/* The scenes streams off whose lines a law is read; false if there is none of this name. */
+static bool generate_for_law(const char *name, uint64_t seed, int number)
+{
+    static const struct {
+        const char *name;
+        void (*generate)(uint64_t, int);
+    } streams[] = { { "free", generate_free }, { "round", generate_round }, { "settings", generate_settings } };
+    for (size_t i = 0; i < sizeof streams / sizeof streams[0]; i++) {
+        if (strcmp(streams[i].name, name) == 0) {
+            streams[i].generate(seed, number);
+            return true;
+        }
+    }
+    return false;
+}
+
 int main(int count, char **words)
 {
     enum program program;
@@ -93,13 +111,8 @@ int main(int count, char **words)
         generate(program, strtoull(words[3], NULL, 10), strtol(words[4], NULL, 10));
         return 0;
     }
-    if (count == 5 && strcmp(words[1], "generate") == 0 && strcmp(words[2], "free") == 0) {
-        generate_free(strtoull(words[3], NULL, 10), atoi(words[4]));
+    if (count == 5 && strcmp(words[1], "generate") == 0
+        && generate_for_law(words[2], strtoull(words[3], NULL, 10), atoi(words[4])))
         return 0;
-    }
-    if (count == 5 && strcmp(words[1], "generate") == 0 && strcmp(words[2], "round") == 0) {
-        generate_round(strtoull(words[3], NULL, 10), atoi(words[4]));
-        return 0;
-    }
     return fail("what shall it do?");
 }

@@ -26,7 +26,7 @@
     X(04d, "a gap left above the peer's gap is held to be out of order")              \
     X(05a, "after a filled block the peer's block size is forgotten")                 \
     X(05b, "after a filled block the peer's gap is forgotten")                        \
-    X(05c, "after a first frame the peer's block size is the node's own")             \
+    X(05c, "after a first frame the peer's block size is the berth's own")            \
     X(06a, "a refused set-up empties the node")                                       \
     X(06b, "set-up takes BS modulo 256")                                              \
     X(06c, "set-up keeps the berth served last")                                      \
@@ -120,7 +120,11 @@
  * exerciser's lines, j the records of scenes.
  *
  * W2 by sentence: a n + 1, b F1 to F9, c reserved values, d 0 stays 0, e the range;
- * then what it leaves as it was: f the node's own STmin, g how a gap is kept and passes.
+ * then what it leaves as it was: f the berth's own STmin, g how a gap is kept and passes.
+ *
+ * W3 by sentence: a the settings in each berth's part, b a call changes either one, c set-up
+ * fills all ten, d one of that berth's own calls: nothing else moves, e the ranges, f refusals
+ * 1 and 5, g 13, h 14, i 15, j the records of scenes.
  *
  * W5 by sentence: a the due berths, b as ten bits, c the next set bit after the one served
  * last, d every answer as it is, e in each call.
@@ -230,9 +234,9 @@
     X(W2e5, "a peer's gap of 129 is in order while consecutive")                      \
     X(W2e6, "a gap left of 129 is in order")                                          \
     X(W2e7, "a peer's gap of 1 is out of order, as no STmin asks for it")             \
-    X(W2f1, "go carries the node's STmin and one more")                               \
-    X(W2f2, "go carries the gap that the node's STmin means")                         \
-    X(W2f3, "a node's own STmin may be 80")                                           \
+    X(W2f1, "go carries the berth's STmin and one more")                              \
+    X(W2f2, "go carries the gap that the berth's STmin means")                        \
+    X(W2f3, "a berth's own STmin may be 80")                                          \
     X(W2f4, "set-up keeps STmin and one more")                                        \
     X(W2g1, "a hand-over leaves 127 of a gap of 128")                                 \
     X(W2g2, "a filled block takes the one more off the gap")                          \
@@ -241,6 +245,121 @@
     X(W2g5, "after go the first frame waits the one tick more")                       \
     X(W2g6, "after go the first frame waits the whole gap")                           \
     X(W2g7, "the one more is a tick of the timer, before the first frame too")        \
+    X(W3a1, "go carries the settings of berth 0")                                     \
+    X(W3a2, "go carries the settings of the next berth")                              \
+    X(W3a3, "go carries the BS of berth 0")                                           \
+    X(W3a4, "go carries the STmin of berth 0")                                        \
+    X(W3a5, "go carries the settings of the berth served last")                       \
+    X(W3a6, "go carries STmin before BS")                                             \
+    X(W3a7, "a block is full by the BS of berth 0")                                   \
+    X(W3a8, "a block is full by the BS of the next berth")                            \
+    X(W3a9, "with BS 0 at berth 0 no berth has blocks")                               \
+    X(W3a10, "a sending's blocks go by the berth's own BS")                           \
+    X(W3a11, "a sending's gap goes by the berth's own STmin")                         \
+    X(W3b1, "parameter 0 is BS, and 1 is STmin")                                      \
+    X(W3b2, "either parameter changes the other one, each in its own range")          \
+    X(W3b3, "a change is made at all ten berths")                                     \
+    X(W3b4, "a change is made at the next berth")                                     \
+    X(W3b5, "a change is made at berth 0")                                            \
+    X(W3b6, "a change of STmin sets BS to 0")                                         \
+    X(W3b7, "a change of BS sets STmin to 0")                                         \
+    X(W3b8, "a change of STmin is answered and not made")                             \
+    X(W3b9, "a change of BS is answered and not made")                                \
+    X(W3b10, "a change to 0 is answered and not made")                                \
+    X(W3b11, "a change to the value that stands is refused with 14")                  \
+    X(W3b12, "STmin F1 to F9 are kept as 01")                                         \
+    X(W3b13, "a change of a berth that owes overflow is answered and not made")       \
+    X(W3b14, "a change of a berth that sends is answered and not made")               \
+    X(W3b15, "a change of either goes to both")                                       \
+    X(W3c1, "set-up fills berth 0 only")                                              \
+    X(W3c2, "set-up leaves out berth 9")                                              \
+    X(W3c3, "set-up leaves the old settings of all berths but berth 0")               \
+    X(W3c4, "set-up leaves the old BS of each berth")                                 \
+    X(W3c5, "set-up leaves the old STmin of each berth")                              \
+    X(W3c6, "a refused set-up fills the settings all the same")                       \
+    X(W3d1, "a change starts the receive timer again")                                \
+    X(W3d2, "a change starts the send timer again")                                   \
+    X(W3d3, "a change clears the last length")                                        \
+    X(W3d4, "a change takes an owed overflow off")                                    \
+    X(W3d5, "a change ends the sending")                                              \
+    X(W3d6, "a change counts as serving its berth")                                   \
+    X(W3d7, "a change ends the gap left")                                             \
+    X(W3d8, "a change of BS goes to the peer's block size of a sending")              \
+    X(W3d9, "a change of STmin goes to the peer's gap of a sending")                  \
+    X(W3d10, "a change needs a list of ten")                                          \
+    X(W3d11, "a change needs an incoming store of ten areas")                         \
+    X(W3d12, "a change needs an outgoing store of ten areas")                         \
+    X(W3d13, "a change counts as a message sent")                                     \
+    X(W3d14, "a change refused with 15 counts as a reception failed with 7")          \
+    X(W3d15, "a change empties the berth's incoming area")                            \
+    X(W3e1, "only the STmin of berth 0 has a range")                                  \
+    X(W3e2, "the STmin of berth 9 has no range")                                      \
+    X(W3e3, "the STmin of an idle berth has no range")                                \
+    X(W3e4, "only the STmin of a berth that owes go or awaits has a range")           \
+    X(W3e5, "the frames taken are below the BS of berth 0")                           \
+    X(W3e6, "the frames taken are below the BS of the next berth")                    \
+    X(W3e7, "show looks at the settings of its own berth only")                       \
+    X(W3e8, "a frame looks at the settings of its own berth only")                    \
+    X(W3e9, "send looks at the settings of its own berth only")                       \
+    X(W3f1, "a change does not test the order")                                       \
+    X(W3f2, "a change takes its berth modulo ten")                                    \
+    X(W3f3, "a change tests its berth before the order")                              \
+    X(W3f4, "a change of berth 9 is refused with 5")                                  \
+    X(W3f5, "a change looks at the settings of its own berth only")                   \
+    X(W3g1, "an unknown parameter is STmin")                                          \
+    X(W3g2, "an unknown parameter is BS")                                             \
+    X(W3g3, "only the lowest bit of a parameter counts")                              \
+    X(W3g4, "an unknown parameter is answered, and nothing changes")                  \
+    X(W3g5, "a change tests its parameter before its berth")                          \
+    X(W3g6, "a change tests its parameter before the order")                          \
+    X(W3g7, "an unknown parameter is refused with 14")                                \
+    X(W3h1, "a value has no range, and its low byte is kept")                         \
+    X(W3h2, "only the low byte of a value counts")                                    \
+    X(W3h3, "only the low 16 bits of a value count")                                  \
+    X(W3h4, "a value from 80000000 on is below 0, and its low byte is kept")          \
+    X(W3h5, "STmin F1 to F9 are refused")                                             \
+    X(W3h6, "STmin 80 to F0 are taken")                                               \
+    X(W3h7, "STmin FA to FF are taken")                                               \
+    X(W3h8, "STmin 80 is taken")                                                      \
+    X(W3h9, "STmin 7F is refused")                                                    \
+    X(W3h10, "STmin F0 is taken")                                                     \
+    X(W3h11, "STmin F1 is refused")                                                   \
+    X(W3h12, "STmin F9 is refused")                                                   \
+    X(W3h13, "STmin FA is taken")                                                     \
+    X(W3h14, "BS 256 is taken")                                                       \
+    X(W3h15, "BS 255 is refused")                                                     \
+    X(W3h16, "BS 0 is refused")                                                       \
+    X(W3h17, "BS has the range of STmin")                                             \
+    X(W3h18, "STmin has the range of BS")                                             \
+    X(W3h19, "a change tests its value before its parameter")                         \
+    X(W3h20, "a change tests its value before its berth")                             \
+    X(W3h21, "a value above its range is the highest of it")                          \
+    X(W3i1, "a change is never refused with 15")                                      \
+    X(W3i2, "15 while the berth owes go, and not while it awaits")                    \
+    X(W3i3, "15 while the berth awaits, and not while it owes go")                    \
+    X(W3i4, "15 while the berth owes overflow too")                                   \
+    X(W3i5, "15 while the berth sends too")                                           \
+    X(W3i6, "15 while the berth awaits flow control too")                             \
+    X(W3i7, "15 while the berth has a message that arrived too")                      \
+    X(W3i8, "15 while any berth owes go or awaits")                                   \
+    X(W3i9, "15 goes by the receive side of berth 0")                                 \
+    X(W3i10, "a change tests for 15 before its value")                                \
+    X(W3i11, "a change tests for 15 before its parameter")                            \
+    X(W3i12, "a change refused with 15 is made all the same")                         \
+    X(W3i13, "a change refused with 15 ends the reception")                           \
+    X(W3i14, "a change refused with 15 starts the receive timer again")               \
+    X(W3i15, "STmin may be changed while the berth owes go or awaits")                \
+    X(W3i16, "BS may be changed while the berth owes go or awaits")                   \
+    X(W3i17, "no 15 for a change to the value that stands")                           \
+    X(W3i18, "no 15 where no frame of the block was taken")                           \
+    X(W3j1, "a load of the node's own has settings for berth 0 only")                 \
+    X(W3j2, "a load of the node's own leaves the berths' settings")                   \
+    X(W3j3, "a load of one berth's settings goes to all ten")                         \
+    X(W3j4, "a load of one berth's settings has STmin before BS")                     \
+    X(W3j5, "a change's value is read low byte first")                                \
+    X(W3j6, "a state has the settings of berth 0")                                    \
+    X(W3j7, "a state has STmin before BS")                                            \
+    X(W3j8, "settings out of range are not loaded")                                   \
     X(W5a1, "an owed overflow sets no bit")                                           \
     X(W5a2, "an owed go sets no bit")                                                 \
     X(W5a3, "a single due sets no bit")                                               \

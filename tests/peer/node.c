@@ -5,6 +5,7 @@
 
 #include "mutants.h"
 #include "node.h"
+#include "settings_mistakes.h"
 
 /* Only asked of a node in order: elsewhere A may be anything. */
 bool has_ten_areas(const struct node *node, struct bytes store)
@@ -21,6 +22,8 @@ int set_up(struct node *node, uint32_t area, uint32_t block_size, uint32_t stmin
 {
     block_size = rule(block_size, 06b, block_size % 256);
     bool allowed = settings_allowed(area, block_size, stmin) && !(mistake(06e) && !in_order(node));
+    if (!allowed && mistake(W3c6))
+        settings_of_refused_set_up(node, block_size, stmin);
     if (!allowed && !mistake(06a))
         return 10;
 
@@ -29,12 +32,13 @@ int set_up(struct node *node, uint32_t area, uint32_t block_size, uint32_t stmin
         memset(node, 0, sizeof *node);
         return 10;
     }
+    struct berth_settings given = { (int)block_size, (int)rule(stmin, W2f4, stmin + 1) };
     *node = (struct node){
         .area = (int)area,
-        .block_size = (int)block_size,
-        .stmin = (int)rule(stmin, W2f4, stmin + 1),
         .served = rule(BERTHS - 1, 06c, before.served),
     };
+    for (int k = 0; k < BERTHS; k++)
+        node->set[k] = filled_at_set_up(&before, k, given);
     for (int k = 0; k < BERTHS && mistake(06d); k++)
         node->rx[k].last = before.rx[k].last;
     return 0;
@@ -42,7 +46,7 @@ int set_up(struct node *node, uint32_t area, uint32_t block_size, uint32_t stmin
 
 static int send_refusal(const struct node *node, struct bytes outgoing, int berth, size_t length)
 {
-    if (!in_order(node))
+    if (!in_order_for(node, (uint32_t)berth, mistake(W3e9)))
         return 1;
     if (!has_ten_areas(node, outgoing))
         return 2;
@@ -92,7 +96,7 @@ struct bytes show_message(const struct node *node, struct bytes incoming, struct
     struct bytes chosen = choice == SHOW_ARRIVED ? incoming : outgoing;
     struct bytes other = rule(choice == SHOW_ARRIVED ? outgoing : incoming, 30a, chosen);
     struct bytes empty = { chosen.at, 0 };
-    if (berth >= BERTHS || (!in_order(node) && !mistake(02a)))
+    if (berth >= BERTHS || (!in_order_for(node, (uint32_t)berth, mistake(W3e7)) && !mistake(02a)))
         return empty;
     if (!has_ten_areas(node, chosen) || !has_ten_areas(node, other))
         return empty;

@@ -1,5 +1,6 @@
 /*
- * node.h - the node of paper 01 and its calls, with the cards of request W1 beside it and the gaps of W2.
+ * node.h - the node of paper 01 and its calls, with the cards of request W1 beside it, the gaps of W2 and the
+ * settings of W3.
  *
  * This is an independent reading of the paper in plain C: it shares no line
  * with the proved node, so that an error would have to be made twice to stay
@@ -59,9 +60,15 @@ struct send_side {
     int timer;
 };
 
+/* A berth's own: what its go frames carry, and what its blocks are counted by. */
+struct berth_settings {
+    int block_size, stmin;
+};
+
 struct node {
-    int area, block_size, stmin;
+    int area;
     int served;
+    struct berth_settings set[BERTHS];
     struct receive_side rx[BERTHS];
     struct send_side tx[BERTHS];
 };
@@ -125,8 +132,12 @@ struct turn_answer {
     int passed_over;
 };
 
-/* Set-up and send answer with their refusal alone, 0 for none. */
+/* Set-up, change and send answer with their refusal alone, 0 for none. */
 int set_up(struct node *node, uint32_t area, uint32_t block_size, uint32_t stmin);
+
+/* The parameters of a change, by the numbers that callers give them; no other number is known. */
+enum parameter { STMIN, BLOCK_SIZE };
+int change(struct node *node, uint32_t berth, uint32_t parameter, uint32_t value);
 
 /* data holds at least FRAME_BYTES readable bytes, whatever the length says. */
 struct frame_answer frame_came(struct node *node, struct bytes incoming, struct cards cards, int identifier,

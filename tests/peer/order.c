@@ -7,6 +7,7 @@
  */
 #include "mutants.h"
 #include "order.h"
+#include "settings_mistakes.h"
 
 #define BREAKS(name, test)                                \
     do {                                                  \
@@ -24,17 +25,26 @@ bool stmin_allowed(uint32_t stmin)
     return stmin <= (uint32_t)rule(STMIN_TICKS_MAX, W2f3, GAP_MAX) || in_tenths(stmin);
 }
 
-static enum fault settings_fault(const struct node *node)
+/* What the node has beside its berths. */
+static enum fault own_fault(const struct node *node)
 {
     BREAKS(area_small, node->area < AREA_MIN);
     BREAKS(area_large, node->area > AREA_MAX);
-    BREAKS(stmin_reserved, !stmin_allowed((uint32_t)node->stmin));
     BREAKS(served_large, node->served >= BERTHS);
     return no_fault;
 }
 
-static enum fault receive_fault(const struct node *node, const struct receive_side *rx)
+/* A block size out of its range does not fit the byte that loads it. */
+static enum fault settings_fault(const struct node *node, int berth)
 {
+    BREAKS(stmin_reserved, !stmin_allowed((uint32_t)node->set[berth].stmin) && !stmin_untested(node, berth));
+    return no_fault;
+}
+
+static enum fault receive_fault(const struct node *node, int berth)
+{
+    const struct receive_side *rx = &node->rx[berth];
+    int block_size = block_size_of_range(node, berth);
     BREAKS(last_large, rx->last > node->area);
     if (rx->state == RX_IDLE)
         return no_fault;
@@ -47,8 +57,8 @@ static enum fault receive_fault(const struct node *node, const struct receive_si
     BREAKS(got_small, rx->got < FIRST_BYTES);
     BREAKS(got_large, rx->got >= rx->total);
     BREAKS(receive_sn_large, rx->sn > SN_MAX);
-    BREAKS(taken_large, node->block_size != 0 && rx->taken >= node->block_size);
-    BREAKS(taken_uncounted, node->block_size == 0 && rx->taken != 0);
+    BREAKS(taken_large, block_size != 0 && rx->taken >= block_size);
+    BREAKS(taken_uncounted, block_size == 0 && rx->taken != 0);
     /* The mistakes of corner 4 are ranges that the paper does not name. */
     BREAKS(taken_large, mistake(04a) && rx->state == OWES_GO && rx->taken != 0);
     BREAKS(got_large, mistake(04b) && (rx->got - FIRST_BYTES) % 7 != 0);
@@ -107,9 +117,11 @@ static enum fault send_fault(const struct node *node, const struct send_side *tx
 
 enum fault fault_of(const struct node *node)
 {
-    enum fault fault = settings_fault(node);
+    enum fault fault = own_fault(node);
     for (int k = 0; k < BERTHS && fault == no_fault; k++) {
-        fault = receive_fault(node, &node->rx[k]);
+        fault = settings_fault(node, k);
+        if (fault == no_fault)
+            fault = receive_fault(node, k);
         if (fault == no_fault)
             fault = send_fault(node, &node->tx[k]);
     }

@@ -7,6 +7,7 @@
  *   send side: i idle, s single due, f first due, w awaits flow control,
  *              c consecutive with gap left 0, p consecutive in a pause
  *   the node as a whole: -
+ *   a berth: its digit
  * A count of a card has what an event that adds to it did to it:
  *   r raised, t raised to the top, which freezes the card, k kept, as the card was frozen
  * In a state that is not named the outcome is impossible by the paper.
@@ -97,6 +98,39 @@
     X(record_bad, BOTH, OF_NODE, "-", "record: bad")                            \
     X(record_short, BOTH, OF_NODE, "-", "record: short")
 
+#define CHANGE_OUTCOMES(X)                                                      \
+    X(change_refused_1, ONLY_SCENES, OF_NODE, "-", "change: refused 1")         \
+    X(change_refused_1_and_5, ONLY_SCENES, OF_NODE, "-", "change: refused 1, berth above 9") \
+    X(change_refused_5, ONLY_SCENES, OF_NODE, "-", "change: refused 5")         \
+    X(change_refused_5_and_13, ONLY_SCENES, OF_NODE, "-", "change: refused 5, unknown parameter") \
+    X(stmin_00, ONLY_SCENES, OF_NODE, "-", "change: STmin 00")                  \
+    X(stmin_01_7e, ONLY_SCENES, OF_NODE, "-", "change: STmin 01 to 7E")         \
+    X(stmin_7f, ONLY_SCENES, OF_NODE, "-", "change: STmin 7F")                  \
+    X(stmin_f1, ONLY_SCENES, OF_NODE, "-", "change: STmin F1")                  \
+    X(stmin_f2_f8, ONLY_SCENES, OF_NODE, "-", "change: STmin F2 to F8")         \
+    X(stmin_f9, ONLY_SCENES, OF_NODE, "-", "change: STmin F9")                  \
+    X(bs_0, ONLY_SCENES, OF_NODE, "-", "change: BS 0")                          \
+    X(bs_1, ONLY_SCENES, OF_NODE, "-", "change: BS 1")                          \
+    X(bs_2_254, ONLY_SCENES, OF_NODE, "-", "change: BS 2 to 254")               \
+    X(bs_255, ONLY_SCENES, OF_NODE, "-", "change: BS 255")                      \
+    X(stmin_80, ONLY_SCENES, OF_NODE, "-", "change: refused 14, STmin 80")      \
+    X(stmin_81_ef, ONLY_SCENES, OF_NODE, "-", "change: refused 14, STmin 81 to EF") \
+    X(stmin_f0, ONLY_SCENES, OF_NODE, "-", "change: refused 14, STmin F0")      \
+    X(stmin_fa, ONLY_SCENES, OF_NODE, "-", "change: refused 14, STmin FA")      \
+    X(stmin_fb_ff, ONLY_SCENES, OF_NODE, "-", "change: refused 14, STmin FB to FF") \
+    X(stmin_low_byte, ONLY_SCENES, OF_NODE, "-", "change: refused 14, STmin of 2 bytes") \
+    X(stmin_low_half, ONLY_SCENES, OF_NODE, "-", "change: refused 14, STmin of 4 bytes") \
+    X(stmin_high, ONLY_SCENES, OF_NODE, "-", "change: refused 14, STmin's top bit set") \
+    X(bs_256, ONLY_SCENES, OF_NODE, "-", "change: refused 14, BS 256")          \
+    X(bs_low_byte, ONLY_SCENES, OF_NODE, "-", "change: refused 14, BS of 2 bytes") \
+    X(bs_low_half, ONLY_SCENES, OF_NODE, "-", "change: refused 14, BS of 4 bytes") \
+    X(bs_high, ONLY_SCENES, OF_NODE, "-", "change: refused 14, BS's top bit set") \
+    X(changed_beside_message, ONLY_SCENES, OF_NODE, "-", "change: last length above 0") \
+    X(changed_without_cards, ONLY_SCENES, OF_NODE, "-", "change: not ten cards") \
+    X(changed_without_stores, ONLY_SCENES, OF_NODE, "-", "change: stores of a wrong length") \
+    X(set_up_of_unlike, ONLY_SCENES, OF_NODE, "-", "set-up: unlike berths become alike") \
+    X(set_up_refused_unlike, ONLY_SCENES, OF_NODE, "-", "set-up: refused 10, unlike berths")
+
 #define AS_OUTCOME_OF_FAULT(name, sentence)                                     \
     X_FAULT(fault_##name, ONLY_SCENES, OF_NODE, "-", "refused 1: " sentence)
 
@@ -130,6 +164,14 @@
     X(turn_go, BOTH, OF_RECEIVE, "g", "turn: go handed over")                   \
     X(turn_flow_at_999, BOTH, OF_RECEIVE, "og", "turn: handed over at timer 999") \
     X(sent_beside, BOTH, OF_RECEIVE, "ioga", "send: sent beside it")            \
+    X(change_refused_13, ONLY_SCENES, OF_RECEIVE, "ioga", "change: refused 13") \
+    X(change_refused_13_and_14, ONLY_SCENES, OF_RECEIVE, "ioga", "change: refused 13, value above 255") \
+    X(change_refused_14_stmin, ONLY_SCENES, OF_RECEIVE, "ioga", "change: refused 14, STmin") \
+    X(change_refused_14_bs, ONLY_SCENES, OF_RECEIVE, "ioga", "change: refused 14, BS") \
+    X(change_refused_15_stmin, ONLY_SCENES, OF_RECEIVE, "ga", "change: refused 15, STmin") \
+    X(change_refused_15_bs, ONLY_SCENES, OF_RECEIVE, "ga", "change: refused 15, BS") \
+    X(changed_stmin, ONLY_SCENES, OF_RECEIVE, "io", "change: STmin changed")    \
+    X(changed_bs, ONLY_SCENES, OF_RECEIVE, "io", "change: BS changed")          \
     X(show_arrived, ONLY_SCENES, OF_RECEIVE, "io", "show: last message arrived") \
     X(show_no_arrived, ONLY_SCENES, OF_RECEIVE, "ioga", "show: no message arrived")
 
@@ -161,8 +203,23 @@
     X(turn_last_full, BOTH, OF_SEND, "c", "turn: consecutive, last, block full") \
     X(turn_at_999, BOTH, OF_SEND, "sfc", "turn: handed over at timer 999")      \
     X(turn_flow_first, BOTH, OF_SEND, "isfwcp", "turn: flow control goes first") \
+    X(changed_stmin_beside, ONLY_SCENES, OF_SEND, "isfwcp", "change: STmin changed beside it") \
+    X(changed_bs_beside, ONLY_SCENES, OF_SEND, "isfwcp", "change: BS changed beside it") \
+    X(change_refused_15_beside, ONLY_SCENES, OF_SEND, "isfwcp", "change: refused 15 beside it") \
     X(show_sending, ONLY_SCENES, OF_SEND, "sfwcp", "show: message being sent")  \
     X(show_no_sending, ONLY_SCENES, OF_SEND, "i", "show: no message being sent")
+
+#define TEN_BERTHS "0123456789"
+
+#define BERTH_OUTCOMES(X)                                                       \
+    X(changed_stmin_of, ONLY_SCENES, OF_BERTH, TEN_BERTHS, "change: STmin changed") \
+    X(changed_bs_of, ONLY_SCENES, OF_BERTH, TEN_BERTHS, "change: BS changed")   \
+    X(go_of_change, ONLY_SCENES, OF_BERTH, TEN_BERTHS, "turn: go carries a change") \
+    X(go_of_own, ONLY_SCENES, OF_BERTH, TEN_BERTHS, "turn: go, next berth has others") \
+    X(block_of_change, ONLY_SCENES, OF_BERTH, TEN_BERTHS, "consecutive: block full by a changed BS") \
+    X(stmin_alone, ONLY_SCENES, OF_BERTH, TEN_BERTHS, "refused 1: its STmin alone") \
+    X(taken_alone, ONLY_SCENES, OF_BERTH, TEN_BERTHS, "refused 1: taken, allowed by another's BS") \
+    X(taken_by_own, ONLY_SCENES, OF_BERTH, TEN_BERTHS, "tick: taken, not allowed by another's BS")
 
 #define AS_OUTCOME_OF_COUNT(name, sentence) X_COUNT(card_##name, BOTH, OF_CARD, "rtk", sentence)
 

@@ -4,6 +4,7 @@
  * A record is judged before any call is made: a field out of the record's own
  * range or an unused byte that is not zero makes it bad, whatever the node holds.
  */
+#include "mutants.h"
 #include "records.h"
 
 static uint64_t number(const uint8_t *record, int from, int to)
@@ -177,6 +178,25 @@ static bool read_lend_cards(enum program program, const uint8_t *r, struct call 
     return call->cards <= CARDS_MAX && zeros(r, 2, 15);
 }
 
+/* Any values: what the node makes of them is its business. */
+static bool read_load_settings(enum program program, const uint8_t *r, struct call *call)
+{
+    (void)program;
+    call->berth = r[1];
+    call->set = (struct berth_settings){ rule(r[2], W3j4, r[3]), rule(r[3], W3j4, r[2]) };
+    return call->berth < BERTHS && zeros(r, 4, 15);
+}
+
+static bool read_change(enum program program, const uint8_t *r, struct call *call)
+{
+    (void)program;
+    const uint8_t low_first[] = { r[6], r[5], r[4], r[3] };
+    call->berth = r[1];
+    call->parameter = r[2];
+    call->value = (uint32_t)rule(number(r, 3, 6), W3j5, number(low_first, 0, 3));
+    return zeros(r, 7, 15);
+}
+
 typedef bool reader(enum program, const uint8_t *, struct call *);
 
 static reader *const readers[] = {
@@ -185,11 +205,12 @@ static reader *const readers[] = {
     [LOAD_RECEIVE] = read_load_receive, [LOAD_SEND] = read_load_send, [LOAD_NODE] = read_load_node,
     [STATE] = read_state, [NODE] = read_bare, [SET_UP] = read_set_up, [NEEDS] = read_needs,
     [LOAD_COUNT] = read_load_count, [CARD] = read_state, [LEND_CARDS] = read_lend_cards,
+    [LOAD_SETTINGS] = read_load_settings, [CHANGE] = read_change,
 };
 
 struct call read_record(enum program program, const uint8_t *record)
 {
-    int last_kind = program == EXERCISER ? TURN : LEND_CARDS;
+    int last_kind = program == EXERCISER ? TURN : CHANGE;
     struct call call = { .kind = BAD };
     if (record[0] == 0 || record[0] > last_kind)
         return call;

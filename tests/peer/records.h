@@ -23,6 +23,7 @@ enum call_kind {
     BAD, FRAME, TICK, SEND, TURN,
     SHOW, DUMP, LOAD_RECEIVE, LOAD_SEND, LOAD_NODE, STATE, NODE, SET_UP, NEEDS,
     LOAD_COUNT, CARD, LEND_CARDS,
+    LOAD_SETTINGS, CHANGE,
     HEADER,
 };
 
@@ -47,7 +48,9 @@ struct call {
     struct settings settings;
     uint64_t asked;
     int count;                      /* of a card, one of enum count */
-    uint32_t value;
+    struct berth_settings set;      /* of one berth */
+    uint32_t parameter;             /* of a change */
+    uint32_t value;                 /* of a count or of a change */
     int cards;                      /* lent from now on */
 };
 

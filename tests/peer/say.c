@@ -62,7 +62,13 @@ static void say_send_side(struct line *line, const struct send_side *tx)
 
 static void say_node(struct line *line, const struct node *node)
 {
-    line_add(line, "node %d %d %d %d", node->area, node->block_size, node->stmin, node->served);
+    line_add(line, "node %d %d", node->area, node->served);
+}
+
+static void say_settings(struct line *line, const struct node *node, int berth)
+{
+    const struct berth_settings *set = &node->set[rule(berth, W3j6, 0)];
+    line_add(line, " set %d %d", rule(set->block_size, W3j7, set->stmin), rule(set->stmin, W3j7, set->block_size));
 }
 
 static void say_card(struct line *line, const struct card *card)
@@ -99,6 +105,7 @@ static void say_scenes_answer(struct line *line, const struct world *world, cons
         break;
     case STATE:
         line_add(line, "state");
+        say_settings(line, &world->node, call->berth);
         say_receive_side(line, &world->node.rx[call->berth]);
         say_send_side(line, &world->node.tx[call->berth]);
         break;
@@ -111,6 +118,9 @@ static void say_scenes_answer(struct line *line, const struct world *world, cons
         break;
     case CARD:
         say_card(line, &answer->card);
+        break;
+    case CHANGE:
+        line_add(line, "changed %d", call->berth);
         break;
     case NEEDS:
         line_add(line, "needs %d", answer->needs);

@@ -5,12 +5,13 @@
 
 #include "cards.h"
 #include "mutants.h"
+#include "settings_mistakes.h"
 #include "turn_mistakes.h"
 
 struct hand_over {
-    struct node *node;
     struct receive_side *rx;
     struct send_side *tx;
+    struct berth_settings set;
     const uint8_t *area;    /* the berth's part of the outgoing store */
     uint8_t frame[FRAME_BYTES];
     int used;               /* bytes of the frame before the filling */
@@ -68,17 +69,17 @@ static void put_byte(struct hand_over *h, int byte)
 static void hand_over_overflow(struct hand_over *h)
 {
     put_byte(h, 0x32);
-    put_byte(h, rule(0, 26b, h->node->block_size));
-    put_byte(h, rule(0, 26b, h->node->stmin));
+    put_byte(h, rule(0, 26b, h->set.block_size));
+    put_byte(h, rule(0, 26b, h->set.stmin));
     *h->rx = (struct receive_side){ .state = RX_IDLE, .last = h->rx->last };
 }
 
-/* The node's own STmin, as it was set up: what a peer makes of it is the peer's business. */
+/* The berth's own STmin, as it was set up or changed: what a peer makes of it is the peer's business. */
 static void hand_over_go(struct hand_over *h)
 {
-    int stmin = h->node->stmin;
+    int stmin = h->set.stmin;
     put_byte(h, 0x30);
-    put_byte(h, h->node->block_size);
+    put_byte(h, h->set.block_size);
     put_byte(h, rule(rule(stmin, W2f1, stmin + 1), W2f2, gap_of((uint8_t)stmin)));
     h->rx->state = AWAITS;
     h->rx->taken = 0;
@@ -115,7 +116,7 @@ static void hand_over_first(struct hand_over *h)
         .length = length,
         .position = FIRST_BYTES,
         .sn = 1,
-        .block_size = rule(0, 05c, h->node->block_size),
+        .block_size = rule(0, 05c, h->set.block_size),
         .gap = rule(0, W2d2, 1),
     };
 }
@@ -220,9 +221,9 @@ static void write_frame(const struct hand_over *h, struct bytes buffer)
 static int serve(struct node *node, struct bytes outgoing, struct cards cards, struct bytes buffer, int berth)
 {
     struct hand_over h = {
-        .node = node,
         .rx = &node->rx[berth],
         .tx = &node->tx[berth],
+        .set = settings_of_go(node, berth),
         .area = outgoing.at + (size_t)berth * (size_t)node->area,
     };
     memset(h.frame, FILLER, sizeof h.frame);

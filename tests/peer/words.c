@@ -57,6 +57,19 @@ static void say_cards_record(const struct call *call)
         printf("lend %d cards from now on\n", call->cards);
 }
 
+static void say_berth_settings(const struct call *call)
+{
+    static const char *const names[] = { "STmin", "BS" };
+    const char *name = call->parameter <= BLOCK_SIZE ? names[call->parameter] : "unknown";
+    if (call->kind == LOAD_SETTINGS) {
+        printf("load settings of berth %d: BS %d, STmin %02X\n", call->berth, call->set.block_size,
+               (unsigned)call->set.stmin);
+        return;
+    }
+    printf("change parameter %lu (%s) of berth %d to %lX hex\n", (unsigned long)call->parameter, name, call->berth,
+           (unsigned long)call->value);
+}
+
 /* The records that only the scenes program knows. */
 static void say_scenes_record(const struct call *call)
 {
@@ -78,6 +91,10 @@ static void say_scenes_record(const struct call *call)
                call->outgoing_more);
         say_settings("settings", call);
         break;
+    case LOAD_SETTINGS:
+    case CHANGE:
+        say_berth_settings(call);
+        break;
     case STATE:
         printf("state of berth %d\n", call->berth);
         break;
@@ -88,10 +105,8 @@ static void say_scenes_record(const struct call *call)
         printf("frames needed for %llu\n", (unsigned long long)call->asked);
         break;
     case HEADER:
-        say_settings("header", call);
-        break;
     case SET_UP:
-        say_settings("set-up again", call);
+        say_settings(call->kind == HEADER ? "header" : "set-up again", call);
         break;
     default:
         say_cards_record(call);

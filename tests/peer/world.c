@@ -93,6 +93,36 @@ static void perform_send(struct world *world, const struct call *call, struct an
         answer->refusal = send_message(&world->node, world->outgoing, call->berth, message);
 }
 
+/* The mistakes of a change that looks at a store or at the list; 0 where there is none. */
+static int refused_for_what_is_lent(const struct world *world)
+{
+    const struct node *node = &world->node;
+    bool sound = in_order(node);
+    if ((mistake(W3d11) && sound && !has_ten_areas(node, world->incoming))
+        || (mistake(W3d12) && sound && !has_ten_areas(node, world->outgoing)))
+        return 2;
+    return misses_cards(world, mistake(W3d10) && sound) ? 12 : 0;
+}
+
+/* And of one that writes there. */
+static void write_for_change(struct world *world, int berth, int refusal)
+{
+    struct card *card = &world->cards[berth % BERTHS];
+    size_t area = (size_t)world->node.area;
+    card->counts[count_sent] += mistake(W3d13) && refusal == 0;
+    card->counts[count_failed_7] += mistake(W3d14) && refusal == 15;
+    if (mistake(W3d15) && refusal == 0)
+        memset(world->incoming.at + (size_t)berth * area, 0, area);
+}
+
+static void perform_change(struct world *world, const struct call *call, struct answer *answer)
+{
+    answer->refusal = refused_for_what_is_lent(world);
+    if (answer->refusal == 0)
+        answer->refusal = change(&world->node, (uint32_t)call->berth, call->parameter, call->value);
+    write_for_change(world, call->berth, answer->refusal);
+}
+
 static void perform_turn(struct world *world, const struct call *call, struct answer *answer)
 {
     memset(answer->buffer, EMPTY_BUFFER_BYTE, sizeof answer->buffer);
@@ -145,12 +175,26 @@ static void lend(struct bytes *store, int area, int more)
     store->length = length < 0 ? 0 : (size_t)length;
 }
 
+/* All ten berths alike, as set-up fills them. */
+static void load_all_settings(struct node *node, const struct settings *settings)
+{
+    for (int k = 0; k < rule(rule(BERTHS, W3j1, 1), W3j2, 0); k++)
+        node->set[k] = (struct berth_settings){ (int)settings->block_size, (int)settings->stmin };
+}
+
+static void load_settings(struct node *node, const struct call *call)
+{
+    bool missed = mistake(W3j8) && !stmin_allowed((uint32_t)call->set.stmin);
+    for (int k = 0; k < BERTHS && !missed; k++)
+        if (k == call->berth || mistake(W3j3))
+            node->set[k] = call->set;
+}
+
 static void load_node(struct world *world, const struct call *call)
 {
     world->node.served = call->served;
     world->node.area = (int)call->settings.area;
-    world->node.block_size = (int)call->settings.block_size;
-    world->node.stmin = (int)call->settings.stmin;
+    load_all_settings(&world->node, &call->settings);
     lend(&world->incoming, world->area, call->incoming_more);
     lend(&world->outgoing, world->area, call->outgoing_more);
     forget_cards(world, mistake(W1j3), mistake(W1j4));
@@ -191,6 +235,9 @@ static void perform_by_hand(struct world *world, const struct call *call)
         break;
     case LOAD_NODE:
         load_node(world, call);
+        break;
+    case LOAD_SETTINGS:
+        load_settings(&world->node, call);
         break;
     case LOAD_COUNT:
         load_count(world, call);
@@ -235,6 +282,9 @@ struct answer perform(struct world *world, const struct call *call)
     case HEADER:
     case SET_UP:
         perform_set_up(world, call, &answer);
+        break;
+    case CHANGE:
+        perform_change(world, call, &answer);
         break;
     case CARD:
         answer.card = shown_card(world, call->berth);
