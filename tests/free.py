@@ -30,13 +30,13 @@ class Side:
 
 
 class Berth:
-    """A berth by the line of its state: "state rx NUMBERS last LENGTH tx NUMBERS"."""
+    """A berth by the line of its state: "state set BS STMIN rx NUMBERS last LENGTH tx NUMBERS"."""
 
     def __init__(self, line):
-        found = re.fullmatch(r"state rx ([\d ]+) last (\d+) tx ([\d ]+)", line)
+        found = re.fullmatch(r"state set (\d+ \d+) rx ([\d ]+) last (\d+) tx ([\d ]+)", line)
         if not found:
             raise ValueError(f"not the state of a berth: {line}")
-        receive, self.last, send = found.groups()
+        self.set, receive, self.last, send = found.groups()
         self.sides = [Side(name, [int(n) for n in numbers.split()]) for name, numbers in (("receive", receive), ("send", send))]
 
 
@@ -117,9 +117,10 @@ class Freed:
                 yield f"{name}: in state {at_last.state} after {FREE_TICKS}"
 
     def of_what_stays(self, k):
-        lengths = [self.berth(ticks, k).last for ticks in LOOKS]
-        if len(set(lengths)) > 1:
-            yield f"berth {k}: last lengths {lengths}"
+        for name in ("last", "set"):
+            had = [getattr(self.berth(ticks, k), name) for ticks in LOOKS]
+            if len(set(had)) > 1:
+                yield f"berth {k}: {name} {had}"
         for choice in (0, 1):
             before, after = (self.area(ticks, k, choice) for ticks in (0, FREE_TICKS))
             if before != after:

@@ -14,7 +14,7 @@ NONE = len(BERTHS)  # berths passed over where nothing is due
 RECEIVE = ("idle", "owes overflow", "owes go", "awaits")  # by the state's number
 SEND = ("idle", "single due", "first due", "awaits flow control", "consecutive", "consecutive in its gap")
 DUE = {"owes overflow": "320000", "owes go": "30", "single due": "0", "first due": "1", "consecutive": "2"}  # how the frame begins
-STATE_LINE = re.compile(r"state rx ([\d ]+) last \d+ tx ([\d ]+)")
+STATE_LINE = re.compile(r"state set \d+ \d+ rx ([\d ]+) last \d+ tx ([\d ]+)")
 
 
 def send_state(number, gap_left):
