@@ -13,14 +13,14 @@
 
 enum { WORDS = 6, SHORT_BUFFER = 7, LONG_FRAME = 9, BAD_STMIN = 0xFA };
 
-/* The third letter tells the calls apart. */
-enum call { FRAME = 'a', TICK = 'c', SEND = 'n', TURN = 'r', SHOW = 'o', SET_UP = 't' };
+/* The third letter tells the calls apart, but for a change, which begins with a c. */
+enum call { FRAME = 'a', TICK = 'c', SEND = 'n', TURN = 'r', SHOW = 'o', SET_UP = 't', CHANGE = 'h' };
 
 struct load {
     char call, situation;
     int area, length, busy;
     struct bytes incoming, outgoing, message, buffer;
-    int number, came; /* the frame's identifier, the berth of send and show, or the STmin of a set-up */
+    int number, came; /* the frame's identifier, the berth of send, show and change, or the STmin of a set-up */
     uint8_t payload[LONG_FRAME];
 };
 
@@ -33,6 +33,12 @@ static struct card ten_cards[BERTHS];
 static int of_node(const struct node *node)
 {
     return node->served + node->rx[BERTHS - 1].last;
+}
+
+/* The settings of its first berth, which is the one that a change is asked for. A send and a change answer berth 0 with 0. */
+static int of_settings(const struct node *node)
+{
+    return 2 * node->set[0].block_size + node->set[0].stmin;
 }
 
 /* A card's counts in their order, each worth twice the next. */
@@ -87,7 +93,9 @@ static struct send_side sending(int length)
 
 static void build_node(const struct load *l, struct node *node)
 {
-    *node = (struct node){ .area = l->area, .block_size = 8, .served = BERTHS - 1 };
+    *node = (struct node){ .area = l->area, .served = BERTHS - 1 };
+    for (int berth = 0; berth < BERTHS; berth++)
+        node->set[berth].block_size = 8;
     if (l->situation == 'i')
         return;
     for (int berth = 0; berth < l->busy && berth < BERTHS; berth++) {
@@ -97,6 +105,10 @@ static void build_node(const struct load *l, struct node *node)
     if (l->call == SEND && l->situation == 'b') {
         node->rx[0] = receiving(l->length);
         node->tx[0] = (struct send_side){ .state = TX_IDLE };
+    }
+    if (l->call == CHANGE && l->situation == 'b') {
+        node->rx[0] = (struct receive_side){ .state = RX_IDLE };
+        node->tx[0] = sending(l->length);
     }
     if (l->call == TICK && l->situation == 'r') {
         node->rx[BERTHS - 1] = receiving(l->length);
@@ -111,6 +123,7 @@ static int given(char call, bool refused)
     switch (call) {
     case FRAME: return FROM_BERTH_0;
     case SHOW: return refused ? BERTHS : 0;
+    case CHANGE: return refused ? BERTHS : 0;
     case SET_UP: return refused ? BAD_STMIN : 0;
     default: return 0;
     }
@@ -141,6 +154,7 @@ static int made(const struct load *l, struct node *node)
     case SEND: return send_message(node, l->outgoing, l->number, l->message);
     case TURN: return of_turn(call_for_frame(node, l->outgoing, cards, l->buffer));
     case SHOW: return (int)show_message(node, l->incoming, l->outgoing, l->number, SHOW_SENDING).length;
+    case CHANGE: return change(node, (uint32_t)l->number, STMIN, 5) + of_settings(node);
     default: return set_up(node, (uint32_t)l->area, 8, (uint32_t)l->number);
     }
 }
@@ -150,7 +164,7 @@ int main(int argc, char **argv)
     if (argc != WORDS)
         return 2;
     struct load load = {
-        .call = argv[1][2],
+        .call = argv[1][0] == 'c' ? CHANGE : argv[1][2],
         .situation = argv[2][0],
         .area = atoi(argv[3]),
         .length = atoi(argv[4]),

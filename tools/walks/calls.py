@@ -1,4 +1,4 @@
-"""The plans of the walks of frame, tick, send and turn (crates/carumpek/src/lib.rt), and of what frame and turn lend the node on to
+"""The plans of the walks of frame, tick, send, turn and change (crates/carumpek/src/lib.rt), and of what frame and turn lend the node on to
 (crates/hearing and crates/handing).
 """
 import cards
@@ -6,7 +6,7 @@ import put
 from steps import Callee
 from ticks import EACH, QUIET
 
-PUT_RX, PUT_TX, SERVED_RX, SERVED_TX = (put.callee(name) for name in ('rx', 'tx', 'served_rx', 'served_tx'))
+PUT_RX, PUT_TX, PUT_OWN, SERVED_RX, SERVED_TX = (put.callee(name) for name in ('rx', 'tx', 'settings', 'served_rx', 'served_tx'))
 ORDER = Callee('looks', 'order', 'shr', [], 'usize', lambda r, z, zs, h, vs: f'{r} ≡ orderOf {h}')
 
 
@@ -19,27 +19,31 @@ FRAME_REFUSAL = numbers('node', 'refusals::frame', ['bool', 'u32', 'usize', 'usi
 TICK_REFUSAL = numbers('node', 'refusals::tick', ['bool', 'usize'], 'u8', 'tickRefusal')
 SEND_REFUSAL = numbers('node', 'refusals::send', ['bool', 'u32', 'Tx', 'usize', 'u32', 'usize'], 'u8', 'sendRefusal')
 TURN_REFUSAL = numbers('node', 'refusals::turn', ['bool', 'u32', 'usize', 'usize', 'usize'], 'u8', 'turnRefusal')
+CHANGE_REFUSAL = numbers('node', 'refusals::change', ['bool', 'Rx', 'u32', 'u32', 'u32'], 'u8', 'changeRefusal')
 OF_BERTH = numbers('node', 'places::of_berth', ['u32'], 'usize', 'placeOf')
 OF_SENDER = numbers('node', 'places::of_sender', ['u32'], 'usize', 'placeOfSender')
 PROBE = Callee('looks', 'probe', None, ['u8', 'u8'], 'usize', lambda r, z, zs, h, vs: f'({r} ≡ probeAt {" ".join(vs)}) × ({r} < berthCount)')
 FLOW_DUE = numbers('berth', 'turns::flow_due', ['Rx'], 'bool', 'flowDue')
 IS_FLOW = Callee('arrivals', 'is_flow', None, ['&[u8]:payload'], 'bool', lambda r, z, zs, h, vs: f'{r} ≡ isFlow (payload .now)')
 WHY = Callee('arrivals', 'why_ignored', None, ['Rx', '&[u8]:payload'], 'u8', lambda r, z, zs, h, vs: f'{r} ≡ whyIgnored {vs[0]} (payload .now)',
-             asks=lambda ps: f'(0 < length (payload .now)) × ((s· : Settings) × ((l· : ℕ) × RxRange s· l· {ps[0]}))')
+             asks=lambda ps: f'(0 < length (payload .now)) × ((s· : Settings) × ((b· : ℕ) × ((l· : ℕ) × RxRange s· b· l· {ps[0]})))')
 IGNORED = Callee('sides', 'ignored', None, ['usize', 'u8'], 'FrameAnswer', lambda r, z, zs, h, vs: f'frameSays {r} ≡ saysHeard {vs[0]} 0 (Ignored {vs[1]})',
                  asks=lambda ps: f'{ps[0]} < berthCount')
 TOLD = Callee('sides', 'told', None, ['usize', 'Tx', '&[u8]:payload'], 'ToldAt',
               lambda r, z, zs, h, vs: f'(n· : Node) (c· : List Card) (d· : ℕ) (i· : List ℕ) → Telling n· c· d· {vs[0]} {vs[1]} i· (payload .now) → FramePromise n· c· i· d· (payload .now) ({r} .answer) '
                                       f'(withBerth n· {vs[0]} (withTx (berthAt n· {vs[0]}) ({r} .tx))) (answerAdded c· {vs[0]} (payload .now) ({r} .answer)) i·',
               asks=lambda ps: f'((n· : Node) × ((c· : List Card) × ((d· : ℕ) × ((i· : List ℕ) × Telling n· c· d· {ps[0]} {ps[1]} i· (payload .now)))))')
-HEARD = Callee('sides', 'heard', None, ['Settings', 'usize', 'Rx', 'u32', '&mut [u8]:incoming', '&[u8]:payload'], 'HeardAt',
-               lambda r, z, zs, h, vs: f'(n· : Node) (c· : List Card) (d· : ℕ) → Hearing n· c· d· {vs[0]} {vs[1]} {vs[2]} {vs[3]} (incoming .now) (payload .now) → FramePromise n· c· (incoming .now) d· (payload .now) '
-                                       f'({r} .answer) (withBerth n· {vs[1]} (withRx (berthAt n· {vs[1]}) ({r} .rx) ({r} .last))) (answerAdded c· {vs[1]} (payload .now) ({r} .answer)) {zs["incoming"]}',
-               asks=lambda ps: f'((n· : Node) × ((c· : List Card) × ((d· : ℕ) × Hearing n· c· d· {ps[0]} {ps[1]} {ps[2]} {ps[3]} (incoming .now) (payload .now))))')
+HEARD = Callee('sides', 'heard', None, ['Settings', 'BerthSettings', 'usize', 'Rx', 'u32', '&mut [u8]:incoming', '&[u8]:payload'], 'HeardAt',
+               lambda r, z, zs, h, vs: f'(n· : Node) (c· : List Card) (d· : ℕ) → Hearing n· c· d· {" ".join(vs[:5])} (incoming .now) (payload .now) → FramePromise n· c· (incoming .now) d· (payload .now) '
+                                       f'({r} .answer) (withBerth n· {vs[2]} (withRx (berthAt n· {vs[2]}) ({r} .rx) ({r} .last))) (answerAdded c· {vs[2]} (payload .now) ({r} .answer)) {zs["incoming"]}',
+               asks=lambda ps: f'((n· : Node) × ((c· : List Card) × ((d· : ℕ) × Hearing n· c· d· {" ".join(ps[:5])} (incoming .now) (payload .now))))')
 SENT = Callee('sides', 'sent', None, ['u32', 'usize', '&mut [u8]:outgoing', '&[u8]:message'], 'SentAt',
               lambda r, z, zs, h, vs: f'(n· : Node) → Sends n· {vs[0]} {vs[1]} (outgoing .now) (message .now) → SendPromise n· (outgoing .now) {vs[1]} (message .now) ({r} .answer) '
                                       f'(withBerth n· {vs[1]} (withTx (berthAt n· {vs[1]}) ({r} .tx))) {zs["outgoing"]}',
               asks=lambda ps: f'((n· : Node) × Sends n· {ps[0]} {ps[1]} (outgoing .now) (message .now))')
+CHANGED = Callee('sides', 'changed', None, ['BerthSettings', 'usize', 'u32', 'u32'], 'ChangedAt',
+                 lambda r, z, zs, h, vs: f'(n· : Node) → Changing n· {" ".join(vs)} → ChangePromise n· {" ".join(vs[1:])} ({r} .answer) (withBerth n· {vs[1]} (withSettings (berthAt n· {vs[1]}) ({r} .own)))',
+                 asks=lambda ps: f'((n· : Node) × Changing n· {" ".join(ps)})')
 
 # what a frame that touches the receive side, and any frame, makes of the node, whatever the cards
 HEARD_SAYS = ('(c· : List Card) (d· : ℕ) → Arriving {h} c· d· {at} (incoming .now) (payload .now) '
@@ -64,10 +68,10 @@ ARRIVED = Callee('hearing', 'arrived', 'mut', ['&mut [Card]:cards', 'usize', '&m
                  lambda r, z, zs, h, vs: f'(d· : ℕ) → Arriving {h} (cards .now) d· {vs[1]} (incoming .now) (payload .now) → FramePromise {h} (cards .now) (incoming .now) d· (payload .now) {r} {z} {zs["cards"]} {zs["incoming"]}',
                  asks=lambda ps: f'((d· : ℕ) × Arriving h (cards .now) d· {ps[1]} (incoming .now) (payload .now))')
 PASSED_OVER = Callee('looks', 'passed_over', 'shr', ['usize'], 'u8', lambda r, z, zs, h, vs: f'{r} ≡ passedOver {h}', asks=lambda ps: f'(inOrder h ≡ true) × ({ps[0]} ≡ orderOf h)')
-FLOW_HANDED = Callee('sides', 'flow_handed', None, ['Settings', 'usize', 'Rx', 'u8', '&mut [u8]:buffer'], 'FlowHanded',
-                     lambda r, z, zs, h, vs: f'(n· : Node) (c· : List Card) (u· : List ℕ) → {vs[2]} ≡ berthAt n· {vs[1]} .rx → Turning n· c· {vs[0]} {vs[1]} {vs[3]} u· (buffer .now) → TurnPromise n· c· u· (buffer .now) '
+FLOW_HANDED = Callee('sides', 'flow_handed', None, ['BerthSettings', 'usize', 'Rx', 'u8', '&mut [u8]:buffer'], 'FlowHanded',
+                     lambda r, z, zs, h, vs: f'(n· : Node) (c· : List Card) (g· : Settings) (u· : List ℕ) → {vs[0]} ≡ berthAt n· {vs[1]} .settings → {vs[2]} ≡ berthAt n· {vs[1]} .rx → Turning n· c· g· {vs[1]} {vs[3]} u· (buffer .now) → TurnPromise n· c· u· (buffer .now) '
                                              f'({r} .answer) (servedNode n· {vs[1]} (withRx (berthAt n· {vs[1]}) ({r} .rx) (berthAt n· {vs[1]} .last))) c· {zs["buffer"]}',
-                     asks=lambda ps: f'(flowDue {ps[2]} ≡ true) × ((n· : Node) × ((c· : List Card) × ((u· : List ℕ) × Turning n· c· {ps[0]} {ps[1]} {ps[3]} u· (buffer .now))))')
+                     asks=lambda ps: f'(flowDue {ps[2]} ≡ true) × ((n· : Node) × ((c· : List Card) × ((g· : Settings) × ((u· : List ℕ) × Turning n· c· g· {ps[1]} {ps[3]} u· (buffer .now)))))')
 MESSAGE_HANDED = Callee('sides', 'message_handed', None, ['Settings', 'usize', 'Tx', 'u8', '&[u8]:outgoing', '&mut [u8]:buffer'], 'MessageHanded',
                         lambda r, z, zs, h, vs: f'(n· : Node) (c· : List Card) → flowDue (berthAt n· {vs[1]} .rx) ≡ false → {vs[2]} ≡ berthAt n· {vs[1]} .tx → Turning n· c· {vs[0]} {vs[1]} {vs[3]} (outgoing .now) (buffer .now) '
                                                 f'→ TurnPromise n· c· (outgoing .now) (buffer .now) ({r} .answer) (servedNode n· {vs[1]} (withTx (berthAt n· {vs[1]}) ({r} .tx))) (addedAt c· {vs[1]} (turnAdds ({r} .code))) {zs["buffer"]}',
@@ -125,7 +129,7 @@ use Rattle.rules.specs.Stores.{servedNode}
 use Rattle.node.specs.Promises.{TurnPromise}
 use Rattle.sides.specs.Parts.{Turning}
 use Rattle.looks.proofs.Bodies.{none as is-no}
-use Rattle.handing.proofs.Arms.{turned-within, card-at-turn, flow-is, no-flow, own-rx, own-tx}
+use Rattle.handing.proofs.Arms.{turned-within, card-at-turn, flow-is, no-flow, own-settings, own-rx, own-tx}
 '''
 TURN_USES = '''use mathlib.Core.Bool.{true}
 use Rattle.rules.specs.Ranges.{inOrder}
@@ -156,10 +160,19 @@ use Rattle.carumpek.proofs.Arms.{placed, send-refused, is-berth, sendin
 '''
 
 
-def begins(settings):
+CHANGE_USES = '''use Rattle.rules.specs.Nodes.{withSettings, withBerth}
+use Rattle.looks.specs.Order.{orderOf}
+use Rattle.node.specs.Promises.{ChangePromise}
+use Rattle.node.specs.Numbered.{changeRefusal, placeOf}
+use Rattle.sides.specs.Parts.{Changing}
+use Rattle.carumpek.proofs.Arms.{placed, change-refused, is-changed, changing}
+'''
+
+
+def begins(*settings):
     """The first lines of every call: the test of order, and what it takes of the settings."""
     return [('source', 'let order = looks::order(&*node);', 2), ('call', ORDER, 'o·', 'eo', 'o-is', None, None),
-            ('source', 'let ordered = order < looks::UNORDERED;', 1), ('source', settings, 1)]
+            ('source', 'let ordered = order < looks::UNORDERED;', 1)] + [('source', line, 1) for line in settings]
 
 
 def refuses(line, count, callee, kind, proof):
@@ -180,16 +193,16 @@ def tell():
 def hear():
     there = 'within .1 .1 .1'
     here = f'(hearing ({there}) (within .0) is-data)'
-    last = '(getD (h .berths) j· fresh .last)'
+    block, last = '(getD (h .berths) j· fresh .settings .block)', '(getD (h .berths) j· fresh .last)'
     promise = '(λ (g· : Node). FramePromise h c· (incoming .now) d· (payload .now) (t· .answer) g· (answerAdded c· j· (payload .now) (t· .answer)) ⟨incoming⟩)'
 
     def ignored(why, proof):
         return [('source', f'return sides::ignored(at, {why});', 2), ('call', IGNORED, 'a·', 'ea', 'a-is', f'(arrived-within ({there}))', None), ('return', f'λ c· d· z·. {proof} a· ea')]
     return [('source', 'if payload.len() == 0 {', 2), ('if', ('is-empty', 'is-data'), ignored('rules::NO_DATA', 'unread z· (within .0) is-empty'), None),
             ('source', 'let rx = node.berths[at].rx;', 4), ('source', 'let why = arrivals::why_ignored(rx, payload);', 1),
-            ('call', WHY, 'w·', 'ew', 'w-is', f'(above-none is-data, ((h .settings), ({last}, hearable {here} .range)))', None), ('source', 'if why != 0 {', 2),
-            ('if', ('is-why', 'is-none'), ignored('why', 'ignoring z· (within .0) ew (is-some w· is-why)'), None), ('source', 'let last = node.berths[at].last;', 4),
-            ('source', 'let heard = sides::heard(node.settings, at, rx, last, incoming, payload);', 4),
+            ('call', WHY, 'w·', 'ew', 'w-is', f'(above-none is-data, ((h .settings), ({block}, ({last}, hearable {here} .range))))', None), ('source', 'if why != 0 {', 2),
+            ('if', ('is-why', 'is-none'), ignored('why', 'ignoring z· (within .0) ew (is-some w· is-why)'), None), ('source', 'let own = node.berths[at].settings;', 4),
+            ('source', 'let last = node.berths[at].last;', 4), ('source', 'let heard = sides::heard(node.settings, own, at, rx, last, incoming, payload);', 4),
             ('call', HEARD, 't·', 'et', 't-is', f'(h, (within .1 .0, (within .1 .1 .0, {here})))', None),
             ('source', 'berths::put::rx(&mut *node, at, heard.rx, heard.last);', 2), ('call', PUT_RX, 'u·', 'eu', 'u-is', f'(arrived-within ({there}))', None),
             ('source', 'heard.answer', 2), ('return', f'λ c· d· a·. subst {promise} (sym eu) (et h c· d· (hearing a· (within .0) is-data))')]
@@ -254,10 +267,10 @@ def send():
 def hand_over():
     promise = '(λ (g· : Node). TurnPromise h (cards .now) (outgoing .now) (buffer .now) (t· .answer) g· (cards .now) ⟨buffer⟩)'
     here = '(turned-within within)'
-    flow = [('source', 'let handed = sides::flow_handed(settings, at, rx, passed, buffer);', 3),
-            ('call', FLOW_HANDED, 't·', 'et', 't-is', '(flow-is within ef is-one, (h, ((cards .now), ((outgoing .now), within))))', None),
+    flow = [('source', 'let own = node.berths[at].settings;', 4), ('source', 'let handed = sides::flow_handed(own, at, rx, passed, buffer);', 3),
+            ('call', FLOW_HANDED, 't·', 'et', 't-is', '(flow-is within ef is-one, (h, ((cards .now), (s·, ((outgoing .now), within)))))', None),
             ('source', 'berths::put::served_rx(&mut *node, at, handed.rx);', 2), ('call', SERVED_RX, 'u·', 'eu', 'u-is', here, None),
-            ('source', 'return handed.answer;', 2), ('return', f'subst {promise} (sym eu) (et h (cards .now) (outgoing .now) (own-rx h j·) within)')]
+            ('source', 'return handed.answer;', 2), ('return', f'subst {promise} (sym eu) (et h (cards .now) s· (outgoing .now) (own-settings h j·) (own-rx h j·) within)')]
     after = '(addedAt (cards .now) j· (turnAdds (t· .code)))'
     made = f'(subst (λ (g· : Node). TurnPromise h (cards .now) (outgoing .now) (buffer .now) (t· .answer) g· {after} ⟨buffer⟩) (sym eu) (et h (cards .now) (no-flow within ef is-other) (own-tx h j·) within))'
     left = '(λ (c· : List Card). TurnPromise h (cards .now) (outgoing .now) (buffer .now) (t· .answer) ⟨node⟩ c· ⟨buffer⟩)'
@@ -282,6 +295,19 @@ def turn():
                ('source', 'let at = looks::probe(node.served, passed);', 2), ('call', PROBE, 'j·', 'ej', 'j-is', None, None),
                ('source', 'handing::hand_over( &mut *node, &mut *cards, settings, at, passed, outgoing, buffer, )', 7), ('call', HAND_OVER, 'r·', 'er', 'r-is', f'(turning {known} fine ep is-few (ej .0))', None),
                ('return', 'er')])
+
+
+def change():
+    known = 'h eo k parameter value ej en'
+    made = f'(et h (changing {known} fine))'
+    back = f'(subst (λ (g· : Node). ChangePromise h j· parameter value (t· .answer) g·) (sym eu) {made})'
+    return (begins()
+            + [('source', 'let at = node::places::of_berth(berth);', 1), ('call', OF_BERTH, 'j·', 'ej', 'j-is', None, '(placed k ej)'), ('source', 'let rx = node.berths[at].rx;', 4)]
+            + refuses('let number = node::refusals::change(ordered, rx, berth, parameter, value);', 1, CHANGE_REFUSAL, 'ChangeAnswer', f'change-refused {known} found')
+            + [('source', 'let own = node.berths[at].settings;', 4), ('source', 'let changed = sides::changed(own, at, parameter, value);', 1),
+               ('call', CHANGED, 't·', 'et', 't-is', f'(h, changing {known} fine)', None),
+               ('source', 'berths::put::settings(&mut *node, at, changed.own);', 2), ('call', PUT_OWN, 'u·', 'eu', 'u-is', '(placed k ej)', None), ('source', 'changed.answer', 2),
+               ('return', f'subst (λ (m· : ℕ). ChangePromise h m· parameter value (t· .answer) ⟨node⟩) (is-changed {known} fine) {back}')])
 
 
 def walks_of_hearing(walk):
@@ -318,3 +344,5 @@ def walks(walk):
                'SendPromise h (outgoing .now) k (message .now) r h′ outgoing′', send(), callees=[ORDER, OF_BERTH, SEND_REFUSAL, SENT, PUT_TX], uses=SEND_USES, doc='Refused, or sent.')
     yield walk('turn', [('cards', '&mut [Card]'), ('outgoing', '&[u8]'), ('buffer', '&mut [u8]')], 'TurnAnswer', 'TurnPromise h (cards .now) (outgoing .now) (buffer .now) r h′ cards′ buffer′', turn(),
                callees=[ORDER, TURN_REFUSAL, PASSED_OVER, PROBE, HAND_OVER], uses=TURN_USES, doc='Refused, none due, or handed over.')
+    yield walk('change', [('k', 'u32'), ('parameter', 'u32'), ('value', 'u32')], 'ChangeAnswer', 'ChangePromise h k parameter value r h′', change(),
+               callees=[ORDER, OF_BERTH, CHANGE_REFUSAL, CHANGED, PUT_OWN], uses=CHANGE_USES, doc='Refused, or changed.')

@@ -67,6 +67,7 @@ use Rattle.rules.specs.declared.Berth.{Berth}
 use Rattle.rules.specs.declared.Node.{Node}
 use Rattle.rules.proofs.Settings as G
 use Rattle.rules.proofs.Settings.Laws as G′
+use Rattle.rules.proofs.BerthSettings.Laws as O′
 use Rattle.rules.proofs.Rx.Laws as R′
 use Rattle.rules.proofs.Tx.Laws as X′
 use Rattle.rules.proofs.Berth as B

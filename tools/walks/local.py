@@ -42,13 +42,14 @@ use Rattle.looks.proofs.Twelve.{F12, least, lent-said, lent-cards, back-cards}
 '''
 # name, parameters after the node, the answer and whether it is an enum, the promise. Of a call that counts on cards, the parameters
 # are what follows the cards and their number, and the promise has a place for the cards before the call and one for those after it
-FIVE = [
+CALLS = [
     ('set_up', [('area', 'u32'), ('block', 'u32'), ('stmin', 'u32')], 'SetUp', True, 'SetUpPromise h area block stmin r h′'),
     ('frame', [('incoming', '&mut [u8]'), ('identifier', 'u32'), ('payload', '&[u8]')], 'Frame', True,
      'FramePromise h {} (incoming .now) identifier (payload .now) r h′ {} incoming′'),
     ('tick', [], 'Tick', False, 'TickPromise h {} r h′ {}'),
     ('send', [('outgoing', '&mut [u8]'), ('k', 'u32'), ('message', '&[u8]')], 'Send', True, 'SendPromise h (outgoing .now) k (message .now) r h′ outgoing′'),
     ('turn', [('outgoing', '&[u8]'), ('buffer', '&mut [u8]')], 'Turn', True, 'TurnPromise h {} (outgoing .now) (buffer .now) r h′ {} buffer′'),
+    ('change', [('k', 'u32'), ('parameter', 'u32'), ('value', 'u32')], 'Change', True, 'ChangePromise h k parameter value r h′'),
 ]
 SHOW = [('incoming', '&[u8]'), ('outgoing', '&[u8]'), ('k', 'u32'), ('choice', 'Choice')]
 SHOWN = 'ShowPromise h (incoming .now) (outgoing .now) k choice (r .now) (incoming .ptr) (outgoing .ptr) (r .ptr)'
@@ -510,7 +511,7 @@ class LocalShow(Local):
 def walks(found):
     """(path below the repository's root, text) of each walk, of the MIR of the crate's functions."""
     made = []
-    for name, params, answer, an_enum, said in FIVE:
+    for name, params, answer, an_enum, said in CALLS:
         types = [Own(f'{answer}Out', 'carumpek', 'O', fields=[]), Type(f'{answer}Answer', 'rules', 'A1', variants=[] if an_enum else None)]
         made.append((Counted if '{}' in said else Local)(name, params, f'{answer}Out', f'{answer}Answer', said, types, found[f'local::{name}']))
     made.append(LocalShow('show', SHOW, '&[u8]', '&[u8]', SHOWN, [Type('Choice', 'rules', 'Ch', variants=[])], found['local::show']))

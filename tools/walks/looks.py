@@ -19,6 +19,7 @@ from kinds import TYPES
 OWN = 'Rattle.looks.proofs.'
 inwalk.K['Rx'] = ('FR', 'Rx', 'R.the-row')
 inwalk.K['Tx'] = ('FX', 'Tx', 'X.the-row')
+inwalk.K['BerthSettings'] = ('FO', 'BerthSettings', 'O.the-row')
 
 # ---- berth k of the node h, and its parts: a value, and that it has its type
 BERTH = '(getD (h .berths) k fresh)'
@@ -28,17 +29,20 @@ SERVED = ('(h .served)', '(refl, served-fits h was)')
 LAST = (f'({BERTH} .last)', f'(last-of {BERTH} {OF_BERTH})')
 RX = (f'({BERTH} .rx)', f'(rx-of {BERTH} {OF_BERTH})')
 TX = (f'({BERTH} .tx)', f'(tx-of {BERTH} {OF_BERTH})')
+OWN_SETTINGS = (f'({BERTH} .settings)', f'(own-of {BERTH} {OF_BERTH})')
 
 SIDES = '''use lib.Dec.{leb}
 use Rattle.rules.specs.Tests.{all}
+use Rattle.rules.specs.declared.BerthSettings.{BerthSettings}
 use Rattle.rules.specs.declared.Rx.{Rx}
 use Rattle.rules.specs.declared.Tx.{Tx}
+use Rattle.rules.proofs.BerthSettings as O
 use Rattle.rules.proofs.Rx as R
 use Rattle.rules.proofs.Tx as X
-use Rattle.looks.proofs.Sides.{FR, FX, see-parts, rx-of, last-of, tx-of, side-fails, side-passes}
+use Rattle.looks.proofs.Sides.{FR, FX, FO, see-parts, rx-of, last-of, tx-of, own-of, side-fails, side-passes}
 '''
 ORDER = '''use Rattle.rules.specs.Tests.{all, each}
-use Rattle.rules.specs.Ranges.{settingsAllowed, berthInOrder}
+use Rattle.rules.specs.Ranges.{areaAllowed, berthInOrder}
 '''
 
 
@@ -70,6 +74,7 @@ def part(walk, line, j, kind, value, mul, addr, ptr, dst):
 def last(walk, *locals_): part(walk, 'let last = node.berths[k].last;', 1, 'u32', LAST, *locals_)
 def rx(walk, *locals_): part(walk, 'let rx = node.berths[k].rx;', 0, 'Rx', RX, *locals_)
 def tx(walk, *locals_): part(walk, 'let tx = node.berths[k].tx;', 2, 'Tx', TX, *locals_)
+def own(walk, *locals_): part(walk, 'let own = node.berths[k].settings;', 3, 'BerthSettings', OWN_SETTINGS, *locals_)
 
 
 def settings(walk, dst):
@@ -90,19 +95,23 @@ def at_berth(fn, nlocals, callees, ensures, uses, doc):
 # ---- one berth
 
 def idle_at():
-    asks = of_berth('idle', 'ranges', ['Settings', 'u32', 'Rx', 'Tx'], lambda r, last, h, v: f'{r} ≡ all (not (receiving {v[2]}) ∷ not (busy {v[3]}) ∷ leb {v[1]} ({v[0]} .area) ∷ [])', 1)
-    w = at_berth('idle_at', 14, [asks], 'r ≡ atRest (h .settings) (berthAt h k)', '''use mathlib.Core.Bool.{not}
+    asks = of_berth('idle', 'ranges', ['Settings', 'BerthSettings', 'u32', 'Rx', 'Tx'],
+                    lambda r, last, h, v: f'{r} ≡ all (not (receiving {v[3]}) ∷ not (busy {v[4]}) ∷ ownAllowed ({v[1]} .block) ({v[1]} .stmin) ∷ leb {v[2]} ({v[0]} .area) ∷ [])', 1)
+    w = at_berth('idle_at', 17, [asks], 'r ≡ atRest (h .settings) (berthAt h k)', '''use mathlib.Core.Bool.{not}
+use Rattle.rules.specs.Ranges.{ownAllowed}
 use Rattle.rules.specs.Turns.{busy}
 use Rattle.berth.specs.Idle.{receiving}
 use Rattle.looks.specs.Order.{atRest}
 use Rattle.looks.proofs.Ordered.{sides-rest}
 ''', 'The settings and the parts of one berth are copied out from behind the `&`, and a covered function tests them.')
     settings(w, '_3')
-    last(w, 7, 8, 9, 4)
-    rx(w, 7, 10, 11, 5)
-    tx(w, 7, 12, 13, 6)
-    w.source('berth::ranges::idle(settings, last, rx, tx)')
-    w.call(asks, [arg(w, '_3', 'Settings', SETTINGS), arg(w, '_4', 'u32', LAST), arg(w, '_5', 'Rx', RX), arg(w, '_6', 'Tx', TX)], '_0', 'r', 'e', 'is')
+    own(w, 8, 9, 10, 4)
+    last(w, 8, 11, 12, 5)
+    rx(w, 8, 13, 14, 6)
+    tx(w, 8, 15, 16, 7)
+    w.source('berth::ranges::idle(settings, own, last, rx, tx)')
+    w.call(asks, [arg(w, '_3', 'Settings', SETTINGS), arg(w, '_4', 'BerthSettings', OWN_SETTINGS), arg(w, '_5', 'u32', LAST), arg(w, '_6', 'Rx', RX), arg(w, '_7', 'Tx', TX)],
+           '_0', 'r', 'e', 'is')
     w.close('h', 'was')
     w.finish(f'exits r (e ∙ sides-rest (h .settings) {BERTH} ∙ ap (atRest (h .settings)) (sym (at-is h k))) is')
     return w
@@ -133,26 +142,29 @@ def in_turn(w, flag, first, second, goes_on, decides, value, decided, after, clo
 
 
 def order_at():
-    test_rx = of_berth('rx_in_range', 'ranges', ['Settings', 'u32', 'Rx'], lambda r, last, h, v: f"{r} ≡ rxInRange {' '.join(v)}", 1)
+    test_rx = of_berth('receive_in_order', 'ranges', ['Settings', 'BerthSettings', 'u32', 'Rx'],
+                       lambda r, last, h, v: f'{r} ≡ all (ownAllowed ({v[1]} .block) ({v[1]} .stmin) ∷ rxInRange {v[0]} ({v[1]} .block) {v[2]} {v[3]} ∷ [])', 1)
     test_tx = of_berth('tx_in_range', 'ranges', ['Settings', 'Tx'], lambda r, last, h, v: f"{r} ≡ txInRange {' '.join(v)}", 2)
-    w = at_berth('order_at', 16, [test_rx, test_tx], 'r ≡ berthInOrder (h .settings) (berthAt h k)', 'use Rattle.rules.specs.Ranges.{berthInOrder, rxInRange, txInRange}\n',
-                 'The receive side of one berth is copied out from behind the `&` and tested; where it is in range, the send side decides.')
+    w = at_berth('order_at', 19, [test_rx, test_tx], 'r ≡ berthInOrder (h .settings) (berthAt h k)', 'use Rattle.rules.specs.Ranges.{berthInOrder, ownAllowed, rxInRange, txInRange}\n',
+                 'The settings and the receive side of one berth are copied out from behind the `&` and tested; where they are in range, the send side decides.')
     settings(w, '_3')
-    last(w, 7, 8, 9, 4)
-    rx(w, 7, 10, 11, 5)
+    own(w, 8, 9, 10, 4)
+    last(w, 8, 11, 12, 5)
+    rx(w, 8, 13, 14, 6)
     there = 'ap (berthInOrder (h .settings)) (sym (at-is h k))'
 
     def first(walk):
-        walk.source('if berth::ranges::rx_in_range(settings, last, rx) {')
-        walk.call(test_rx, [arg(walk, '_3', 'Settings', SETTINGS), arg(walk, '_4', 'u32', LAST), arg(walk, '_5', 'Rx', RX)], '_12', 'r', 'e', 'is')
+        walk.source('if berth::ranges::receive_in_order(settings, own, last, rx) {')
+        walk.call(test_rx, [arg(walk, '_3', 'Settings', SETTINGS), arg(walk, '_4', 'BerthSettings', OWN_SETTINGS), arg(walk, '_5', 'u32', LAST), arg(walk, '_6', 'Rx', RX)],
+                  '_15', 'r', 'e', 'is')
 
     def second(arm):
-        tx(arm, 13, 14, 15, 6)
+        tx(arm, 16, 17, 18, 7)
         arm.source('return berth::ranges::tx_in_range(settings, tx);')
-        arm.call(test_tx, [arg(arm, '_3', 'Settings', SETTINGS), arg(arm, '_6', 'Tx', TX)], '_0', 't', 'et', 't-is')
+        arm.call(test_tx, [arg(arm, '_3', 'Settings', SETTINGS), arg(arm, '_7', 'Tx', TX)], '_0', 't', 'et', 't-is')
 
-    return in_turn(w, '_12', first, second, True, lambda came: f'side-passes (h .settings) {BERTH} ({came}) et ∙ {there}',
-                   'false', lambda came: f'side-fails (h .settings) {BERTH} ({came}) ∙ {there}', 't-12', lambda arm: arm.close('h', 'was'))
+    return in_turn(w, '_15', first, second, True, lambda came: f'side-passes (h .settings) {BERTH} ({came}) et ∙ {there}',
+                   'false', lambda came: f'side-fails (h .settings) {BERTH} ({came}) ∙ {there}', 't-16', lambda arm: arm.close('h', 'was'))
 
 
 # ---- one side, where it lies
@@ -552,14 +564,14 @@ use Rattle.looks.proofs.DueBits.{due-fit, next-is-passed}
 # ---- the whole test
 
 def order():
-    front = of_looks('front_in_order', None, ['Settings', 'u8'], 'bool', lambda r, last, h, v: f'{r} ≡ all (settingsAllowed ({v[0]} .area) ({v[0]} .block) ({v[0]} .stmin) ∷ ltb {v[1]} berthCount ∷ [])', 1)
+    front = of_looks('front_in_order', None, ['Settings', 'u8'], 'bool', lambda r, last, h, v: f'{r} ≡ all (areaAllowed ({v[0]} .area) ∷ ltb {v[1]} berthCount ∷ [])', 1)
     counts = of_looks('idle_before', 'pass', [], 'usize', lambda r, last, h, v: f'Spared h {r}', 2)
     others = of_looks('rest_in_order', 'pass', ['usize'], 'bool', lambda r, last, h, v: f'{r} ≡ each (berthInOrder (h .settings)) (dropL {v[0]} (h .berths))', 3)
     w = looking('order', [], 'usize', 7, [front, counts, others], 'r ≡ orderOf h', '''use lib.Dec.{ltb}
 use lib.ListN.{drop as dropL}
 ''' + ORDER + '''use Rattle.looks.specs.Order.{Spared, orderOf}
 use Rattle.looks.proofs.Ordered.{front-fails, berths-fail, berths-pass}
-''', 'The settings and the berth served last go to a covered function; then the idle berths at the front are counted, and the others decide.')
+''', 'A and the berth served last go to a covered function; then the idle berths at the front are counted, and the others decide.')
     w.begin()
     w.open()
     w.source('if front_in_order(node.settings, node.served) {')

@@ -1,9 +1,9 @@
-"""The plans of the walks that store one side back (crates/berths/src/put.rt)."""
+"""The plans of the walks that store one side or the settings back (crates/berths/src/put.rt)."""
 from steps import Callee
 
-USES = '''use Rattle.rules.specs.Nodes.{withRx, withTx, withBerth}
+USES = '''use Rattle.rules.specs.Nodes.{withRx, withTx, withSettings, withBerth}
 use Rattle.rules.specs.Stores.{servedNode}
-use Rattle.berths.proofs.Stored.{byte-fits, tx-put, rx-put, served-rx, served-tx}
+use Rattle.berths.proofs.Stored.{byte-fits, tx-put, rx-put, own-put, served-rx, served-tx}
 '''
 K = [('j·', 'usize')]
 # function, parameters after the place, what the node is then, the plan
@@ -14,6 +14,8 @@ ALL = [
     ('rx', [('x·', 'Rx'), ('l·', 'u32')], 'withBerth {h} {j} (withRx (berthAt {h} {j}) {x} {l})',
      [RX, ('source', 'node.berths[at].last = last;', 4), UNIT, ('return', 'sym (rx-put h j· (subst (λ (m· : ℕ). j· < m·) (sym (ten-length h was)) within) x· l·)')]),
     ('tx', [('x·', 'Tx')], 'withBerth {h} {j} (withTx (berthAt {h} {j}) {x})', [TX, UNIT, ('return', 'sym (tx-put h j· x·)')]),
+    ('settings', [('x·', 'BerthSettings')], 'withBerth {h} {j} (withSettings (berthAt {h} {j}) {x})',
+     [('source', 'node.berths[at].settings = settings;', 4), UNIT, ('return', 'sym (own-put h j· x·)')]),
     ('served_rx', [('x·', 'Rx')], 'servedNode {h} {j} (withRx (berthAt {h} {j}) {x} (berthAt {h} {j} .last))', SERVED + [RX, UNIT, ('return', 'sym (served-rx h j· x·)')]),
     ('served_tx', [('x·', 'Tx')], 'servedNode {h} {j} (withTx (berthAt {h} {j}) {x})', SERVED + [TX, UNIT, ('return', 'sym (served-tx h j· x·)')]),
 ]

@@ -21,12 +21,15 @@ use mathlib.Core.Bool.{not}
 use Rattle.rules.specs.Numbers.{berthCount}
 use Rattle.rules.specs.Nodes.{fresh, berthAt}
 use Rattle.rules.specs.declared.Settings.{Settings}
+use Rattle.rules.specs.declared.BerthSettings.{BerthSettings}
 use Rattle.rules.specs.declared.Rx.{Rx}
 use Rattle.rules.specs.declared.Tx.{Tx}
 use Rattle.rules.specs.declared.Berth.{Berth}
 use Rattle.rules.specs.declared.Node.{Node}
 use Rattle.rules.proofs.Settings as G
 use Rattle.rules.proofs.Settings.Laws as G′
+use Rattle.rules.proofs.BerthSettings as O
+use Rattle.rules.proofs.BerthSettings.Laws as O′
 use Rattle.rules.proofs.Rx as R
 use Rattle.rules.proofs.Rx.Laws as R′
 use Rattle.rules.proofs.Tx as X
@@ -41,8 +44,8 @@ use Rattle.looks.proofs.Rest.{rest-of}
 use Rattle.looks.proofs.Bodies.{arm-of, env-of}
 use Rattle.rules.proofs.Cases.{is-true, is-false}
 use Rattle.looks.proofs.Ten.{FT, FB, FG, us, us-at, us-set, us-length, us-within, ten-length, valWith, at-is, berth-is, bytes-fit}
-use Rattle.looks.proofs.Sides.{FR, FX, see-parts}
-use Rattle.looks.proofs.Puts.{put-berth, put-berth-is, put-berth·berth, put-rx, put-rx-is, put-rx·berth, put-last, put-last-is, put-last·berth, put-tx, put-tx-is, put-tx·berth, put-served, put-served-is, put-settings, put-settings-is}
+use Rattle.looks.proofs.Sides.{FR, FX, FO, see-parts}
+use Rattle.looks.proofs.Puts.{put-berth, put-berth-is, put-berth·berth, put-rx, put-rx-is, put-rx·berth, put-last, put-last-is, put-last·berth, put-tx, put-tx-is, put-tx·berth, put-own, put-own-is, put-own·berth, put-served, put-served-is, put-settings, put-settings-is}
 '''
 COM = '{M : Type 1} (𝓤 : URA M) (H : Heap 𝓤) (A : Atoms 𝓤)'
 HERE_ = '(from ! (stop !))'
@@ -424,7 +427,7 @@ class Walk:
             inner = '(stop !)'
         else:
             lies = layout.field(s.types, 'Berth', path[0])
-            part, put = f'(sub ! {path[0]}{lies} refl {s.item(k)})', ('put-rx', 'put-last', 'put-tx')[path[0]]
+            part, put = f'(sub ! {path[0]}{lies} refl {s.item(k)})', ('put-rx', 'put-last', 'put-tx', 'put-own')[path[0]]
             inner = f'(fld !{lies} refl (stop !))'
         old, was = s.node, s.was
         s.e(f"{verb} ! (of-opd ! {step}) {s.behind(local, inner)} (store-in ! {s.p('cell')} {part} {typed}) $")

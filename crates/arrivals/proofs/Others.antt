@@ -6,7 +6,6 @@ use denote.Enum.Declared.{tagOf}
 use types.Run.{OneOf, miss}
 use Rattle.rules.specs.Numbers.{notAwaited}
 use Rattle.rules.specs.Arrivals.{ignored, consecutiveCame, flowIgnored, flowCame}
-use Rattle.rules.specs.declared.Settings.{Settings}
 use Rattle.rules.specs.declared.Rx.{Rx}
 use Rattle.rules.specs.declared.Tx.{Tx}
 use Rattle.rules.proofs.Rx as receiving
@@ -14,12 +13,12 @@ use Rattle.rules.proofs.Tx as sending
 use Rattle.arrivals.specs.Reading.{whyConsecutive}
 
 pub consecutive-not-awaited :
-    (s : Settings) (rx : Rx) (last : ℕ) (d : List ℕ) → OneOf (0 ∷ 1 ∷ 2 ∷ []) (tagOf receiving.the-type rx)
-    → consecutiveCame s rx last d ≡ ignored notAwaited rx last
-consecutive-not-awaited s Rx.Idle last d o = refl
-consecutive-not-awaited s (Rx.OwesOverflow t) last d o = refl
-consecutive-not-awaited s (Rx.OwesGo p t) last d o = refl
-consecutive-not-awaited s (Rx.Awaits p t) last d o = absurd (miss (0 ∷ 1 ∷ 2 ∷ []) 3 tt o)
+    (bs : ℕ) (rx : Rx) (last : ℕ) (d : List ℕ) → OneOf (0 ∷ 1 ∷ 2 ∷ []) (tagOf receiving.the-type rx)
+    → consecutiveCame bs rx last d ≡ ignored notAwaited rx last
+consecutive-not-awaited bs Rx.Idle last d o = refl
+consecutive-not-awaited bs (Rx.OwesOverflow t) last d o = refl
+consecutive-not-awaited bs (Rx.OwesGo p t) last d o = refl
+consecutive-not-awaited bs (Rx.Awaits p t) last d o = absurd (miss (0 ∷ 1 ∷ 2 ∷ []) 3 tt o)
 
 pub none-awaited : (rx : Rx) (d : List ℕ) → OneOf (0 ∷ 1 ∷ 2 ∷ []) (tagOf receiving.the-type rx) → whyConsecutive rx d ≡ notAwaited
 none-awaited Rx.Idle d o = refl

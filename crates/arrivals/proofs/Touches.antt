@@ -63,7 +63,7 @@ no-flow heard false false false false true n s f c o t e = absurd (true≢false 
 no-flow heard false false false false false n s f c o t e = refl
 
 -- ANY OTHER FRAME touches only the receive side
-pub came-heard : (s : Settings) (b : Berth) (d : List ℕ) → isFlow d ≡ false → frameCame s b d ≡ heardBy b (rxCame s (b .rx) (b .last) d)
+pub came-heard : (s : Settings) (b : Berth) (d : List ℕ) → isFlow d ≡ false → frameCame s b d ≡ heardBy b (rxCame s (b .settings .block) (b .rx) (b .last) d)
 unfolding frameCame byKind rxCame isFlow
 came-heard s b d e = no-flow (heardBy b) (eqb (length d) 0) (eqb (kind d) singleKind) (eqb (kind d) firstKind) (eqb (kind d) consecutiveKind) (eqb (kind d) flowKind) _ _ _ _ _ _ e
 
@@ -82,18 +82,18 @@ module _ (rx : Rx) (last : ℕ) where
   tested true why why′ h h′ r r′ = r
   tested false why why′ h h′ r r′ = r′
 
-consecutive : (s : Settings) (rx : Rx) (last : ℕ) (d : List ℕ) → Reason rx last (whyConsecutive rx d) (consecutiveCame s rx last d)
+consecutive : (bs : ℕ) (rx : Rx) (last : ℕ) (d : List ℕ) → Reason rx last (whyConsecutive rx d) (consecutiveCame bs rx last d)
 unfolding awaitedCame
-consecutive s Rx.Idle last d some = refl
-consecutive s (Rx.OwesOverflow t) last d some = refl
-consecutive s (Rx.OwesGo p t) last d some = refl
-consecutive s (Rx.Awaits p t) last d some = unless-fits (Rx.Awaits p t) last (consecutiveFits (missing p) d) _ some
+consecutive bs Rx.Idle last d some = refl
+consecutive bs (Rx.OwesOverflow t) last d some = refl
+consecutive bs (Rx.OwesGo p t) last d some = refl
+consecutive bs (Rx.Awaits p t) last d some = unless-fits (Rx.Awaits p t) last (consecutiveFits (missing p) d) _ some
 
 -- A REASON TO IGNORE is the rule's
-pub why-ignored : (s : Settings) (rx : Rx) (last : ℕ) (d : List ℕ) → (whyIgnored rx d ≡ 0 → ⊥) → rxCame s rx last d ≡ ignored (whyIgnored rx d) rx last
+pub why-ignored : (s : Settings) (bs : ℕ) (rx : Rx) (last : ℕ) (d : List ℕ) → (whyIgnored rx d ≡ 0 → ⊥) → rxCame s bs rx last d ≡ ignored (whyIgnored rx d) rx last
 unfolding rxCame whyIgnored singleCame firstCame
-why-ignored s rx last d =
+why-ignored s bs rx last d =
     tested rx last (eqb (length d) 0) noData _ _ _ (λ some. refl)
     (tested rx last (eqb (kind d) singleKind) _ _ _ _ (unless-fits rx last (singleFits d) _)
     (tested rx last (eqb (kind d) firstKind) _ _ _ _ (unless-fits rx last (firstFits d) _)
-    (tested rx last (eqb (kind d) consecutiveKind) _ otherKind _ _ (consecutive s rx last d) (λ some. refl))))
+    (tested rx last (eqb (kind d) consecutiveKind) _ otherKind _ _ (consecutive bs rx last d) (λ some. refl))))

@@ -41,12 +41,12 @@ unfoldable pub isFlow : List ℕ → Bool
 isFlow d = pick (eqb (length d) 0) false (eqb (kind d) flowKind)
 
 -- what any other frame makes of a receive side: I1 and I2 come first, then the tests of the kind
-unfoldable pub rxCame : Settings → Rx → ℕ → List ℕ → rule.Heard
-rxCame s rx last d =
+unfoldable pub rxCame : Settings → ℕ → Rx → ℕ → List ℕ → rule.Heard
+rxCame s bs rx last d =
     pick (eqb (length d) 0) (rule.ignored noData rx last)
     (pick (eqb (kind d) singleKind) (rule.singleCame rx last d)
     (pick (eqb (kind d) firstKind) (rule.firstCame s rx last d)
-    (pick (eqb (kind d) consecutiveKind) (rule.consecutiveCame s rx last d)
+    (pick (eqb (kind d) consecutiveKind) (rule.consecutiveCame bs rx last d)
     (rule.ignored otherKind rx last))))
 
 -- why such a frame is ignored: the number of I1 to I4, 0 where it is not

@@ -163,21 +163,21 @@ fn pieced(p: Taking, rx: Rx, last: u32, word: Word) -> Heard
     }
 }
 
-fn after_took(settings: Settings, p: Taking) -> Rx
-    requires { ⌜ TakingRange settings p ⌝ }
-    ensures { λ r. ⌜ r ≡ afterTook settings p ⌝ }
+fn after_took(block: u8, p: Taking) -> Rx
+    requires { ⌜ ((s : Settings) × TakingRange s block p) ⌝ }
+    ensures { λ r. ⌜ r ≡ afterTook block p ⌝ }
 {
-    if frames::fills_block(settings.block, p.taken) {
+    if frames::fills_block(block, p.taken) {
         let q = grown(p, 0);
         return Rx::OwesGo(q, 0);
     }
-    let q = grown(p, frames::counted(settings.block, p.taken));
+    let q = grown(p, frames::counted(block, p.taken));
     Rx::Awaits(q, 0)
 }
 
-fn awaited_came(settings: Settings, p: Taking, t: u16, last: u32, frame: &[u8]) -> Heard
-    requires { ⌜ (0 < length (now frame)) × TakingRange settings p ⌝ }
-    ensures { λ r. ⌜ Hears r (now (frame .entry)) (awaitedCame settings p t last (now (frame .entry))) ⌝ }
+fn awaited_came(block: u8, p: Taking, t: u16, last: u32, frame: &[u8]) -> Heard
+    requires { ⌜ (0 < length (now frame)) × ((s : Settings) × TakingRange s block p) ⌝ }
+    ensures { λ r. ⌜ Hears r (now (frame .entry)) (awaitedCame block p t last (now (frame .entry))) ⌝ }
 {
     let r = missing(p);
     if frames::consecutive_fits(r, frame) {
@@ -186,19 +186,19 @@ fn awaited_came(settings: Settings, p: Taking, t: u16, last: u32, frame: &[u8]) 
             if r <= rules::CONSECUTIVE_MOST {
                 return pieced(p, Rx::Idle, p.total, Word::Delivered(p.total));
             }
-            return pieced(p, after_took(settings, p), last, Word::Took);
+            return pieced(p, after_took(block, p), last, Word::Took);
         }
         return unstored(Rx::Idle, last, 0, Word::Failed(rules::N_WRONG_SN));
     }
     ignored(rules::WRONG_LENGTH, Rx::Awaits(p, t), last)
 }
 
-fn consecutive_came(settings: Settings, rx: Rx, last: u32, frame: &[u8]) -> Heard
-    requires { ⌜ (0 < length (now frame)) × RxRange settings last rx ⌝ }
-    ensures { λ r. ⌜ Hears r (now (frame .entry)) (consecutiveCame settings rx last (now (frame .entry))) ⌝ }
+fn consecutive_came(block: u8, rx: Rx, last: u32, frame: &[u8]) -> Heard
+    requires { ⌜ (0 < length (now frame)) × ((s : Settings) × RxRange s block last rx) ⌝ }
+    ensures { λ r. ⌜ Hears r (now (frame .entry)) (consecutiveCame block rx last (now (frame .entry))) ⌝ }
 {
     match rx {
-        Rx::Awaits(p, t) => awaited_came(settings, p, t, last, frame),
+        Rx::Awaits(p, t) => awaited_came(block, p, t, last, frame),
         _ => ignored(rules::NOT_AWAITED, rx, last),
     }
 }
@@ -297,7 +297,7 @@ fn unless_fits(fits: bool) -> u8
 }
 
 fn why_consecutive(rx: Rx, frame: &[u8]) -> u8
-    requires { ⌜ ((s : Settings) × ((last : ℕ) × RxRange s last rx)) ⌝ }
+    requires { ⌜ ((s : Settings) × ((block : ℕ) × ((last : ℕ) × RxRange s block last rx))) ⌝ }
     ensures { λ r. ⌜ r ≡ whyConsecutive rx (now (frame .entry)) ⌝ }
 {
     match rx {
@@ -308,7 +308,7 @@ fn why_consecutive(rx: Rx, frame: &[u8]) -> u8
 
 // Why a frame with data that is no flow control is ignored, 0 where it is not: a frame that changes nothing need not be taken to the side.
 pub fn why_ignored(rx: Rx, frame: &[u8]) -> u8
-    requires { ⌜ (0 < length (now frame)) × ((s : Settings) × ((last : ℕ) × RxRange s last rx)) ⌝ }
+    requires { ⌜ (0 < length (now frame)) × ((s : Settings) × ((block : ℕ) × ((last : ℕ) × RxRange s block last rx))) ⌝ }
     ensures { λ r. ⌜ r ≡ whyIgnored rx (now (frame .entry)) ⌝ }
 {
     let kind = frames::kind(frame);
@@ -324,10 +324,10 @@ pub fn why_ignored(rx: Rx, frame: &[u8]) -> u8
     rules::OTHER_KIND
 }
 
-// A frame with data that is no flow control, at a receive side.
-pub fn rx_came(settings: Settings, rx: Rx, last: u32, frame: &[u8]) -> Heard
-    requires { ⌜ (0 < length (now frame)) × RxRange settings last rx ⌝ }
-    ensures { λ r. ⌜ Hears r (now (frame .entry)) (rxCame settings rx last (now (frame .entry))) ⌝ }
+// A frame with data that is no flow control, at a receive side with this block size.
+pub fn rx_came(settings: Settings, block: u8, rx: Rx, last: u32, frame: &[u8]) -> Heard
+    requires { ⌜ (0 < length (now frame)) × RxRange settings block last rx ⌝ }
+    ensures { λ r. ⌜ Hears r (now (frame .entry)) (rxCame settings block rx last (now (frame .entry))) ⌝ }
 {
     let kind = frames::kind(frame);
     if kind == rules::SINGLE_KIND {
@@ -337,7 +337,7 @@ pub fn rx_came(settings: Settings, rx: Rx, last: u32, frame: &[u8]) -> Heard
         return first_came(settings, rx, last, frame);
     }
     if kind == rules::CONSECUTIVE_KIND {
-        return consecutive_came(settings, rx, last, frame);
+        return consecutive_came(block, rx, last, frame);
     }
     ignored(rules::OTHER_KIND, rx, last)
 }

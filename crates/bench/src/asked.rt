@@ -8,6 +8,7 @@ pub(crate) enum Call {
     Send,
     Turn,
     Show,
+    Change,
 }
 
 pub(crate) enum Situation {

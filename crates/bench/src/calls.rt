@@ -59,6 +59,17 @@ pub(crate) fn turn(node: Node, outgoing: &[u8], buffer: &mut [u8]) -> u64 {
     )
 }
 
+// The berth's STmin.
+pub(crate) fn change(node: Node, berth: u32) -> u64 {
+    let out = carumpek::local::change(node, berth, rules::STMIN_PARAMETER, 5);
+    let answer = out.answer;
+    let after = out.node;
+    sums::add(
+        sums::of_change(answer),
+        sums::add(sums::of_node(after), sums::of_settings(after)),
+    )
+}
+
 // The message now being sent.
 pub(crate) fn show<'a>(node: Node, incoming: &'a [u8], outgoing: &'a [u8], berth: u32) -> u64 {
     let part = carumpek::local::show(node, incoming, outgoing, berth, Choice::Sending);

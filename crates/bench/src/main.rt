@@ -33,6 +33,7 @@ fn made(
         Call::Send => calls::send(node, outgoing, number, message),
         Call::Turn => calls::turn(node, outgoing, buffer),
         Call::Show => calls::show(node, incoming, outgoing, number),
+        Call::Change => calls::change(node, number),
     }
 }
 

@@ -2,19 +2,21 @@
 // broken makes a berth out of order.
 // Each test guards the next by an early return, and what most sides pass is asked first: every call tests the ranges, and so a busy
 // side costs fewer instructions than with its tests joined by &. The two sendings share an arm for the same reason. The settings are
-// tested once a call, and joined.
+// joined: they mostly pass.
 ghost use mathlib.Core.Path.{_≡_};
 ghost use mathlib.Core.Logic.{_⊎_};
 ghost use mathlib.Core.Bool.{false, not, _||_};
 ghost use mathlib.Core.List.{[], _∷_};
 ghost use Prim.Native.Nat.{ℕ};
 ghost use lib.Dec.{eqb, ltb, leb};
-ghost use Rattle.rules.specs.Numbers.{timeout, longestGap};
+ghost use Rattle.rules.specs.Numbers.{largestBlock, timeout, longestGap};
 ghost use Rattle.rules.specs.Tests.{all};
-ghost use Rattle.rules.specs.Ranges.{stminAllowed, settingsAllowed, inBlock, underWayInRange, takingInRange, rxInRange, txInRange};
+ghost use Rattle.rules.specs.Ranges.{stminAllowed, areaAllowed, ownAllowed, settingsAllowed, inBlock, underWayInRange, takingInRange, rxInRange, txInRange};
+ghost use Rattle.rules.specs.Changes.{valueAllowed};
 ghost use Rattle.rules.specs.Turns.{busy};
 ghost use Rattle.rules.specs.declared.Tx.{Tx};
 ghost use Rattle.berth.specs.Idle.{receiving};
+use rules::BerthSettings;
 use rules::Rx;
 use rules::Sending;
 use rules::Settings;
@@ -28,13 +30,47 @@ fn stmin_allowed(stmin: u32) -> bool
         | ((rules::LEAST_FRACTION <= stmin) & (stmin <= rules::MOST_FRACTION))
 }
 
+fn block_allowed(block: u32) -> bool
+    ensures { λ r. ⌜ r ≡ leb block largestBlock ⌝ }
+{
+    block <= rules::LARGEST_BLOCK
+}
+
+pub fn area_allowed(area: u32) -> bool
+    ensures { λ r. ⌜ r ≡ areaAllowed area ⌝ }
+{
+    (rules::LEAST_AREA <= area) & (area <= rules::LARGEST_AREA)
+}
+
+// A berth's own settings, as they come in.
+fn own_allowed(block: u32, stmin: u32) -> bool
+    ensures { λ r. ⌜ r ≡ ownAllowed block stmin ⌝ }
+{
+    block_allowed(block) & stmin_allowed(stmin)
+}
+
+// The same of a berth.
+fn own_in_range(own: BerthSettings) -> bool
+    ensures { λ r. ⌜ r ≡ ownAllowed (own .block) (own .stmin) ⌝ }
+{
+    own_allowed(own.block as u32, own.stmin as u32)
+}
+
+// What set-up takes.
 pub fn settings_allowed(area: u32, block: u32, stmin: u32) -> bool
     ensures { λ r. ⌜ r ≡ settingsAllowed area block stmin ⌝ }
 {
-    (rules::LEAST_AREA <= area)
-        & (area <= rules::LARGEST_AREA)
-        & (block <= rules::LARGEST_BLOCK)
-        & stmin_allowed(stmin)
+    area_allowed(area) & own_allowed(block, stmin)
+}
+
+// What a change takes: the value's range is that of its parameter.
+pub fn value_allowed(parameter: u32, value: u32) -> bool
+    ensures { λ r. ⌜ r ≡ valueAllowed parameter value ⌝ }
+{
+    if parameter == rules::STMIN_PARAMETER {
+        return stmin_allowed(value);
+    }
+    block_allowed(value)
 }
 
 // A count of frames is 0, or below the block size.
@@ -76,8 +112,8 @@ fn under_way(area: u32, length: u32, done: u32, sn: u8) -> bool
 }
 
 // A reception under way, with the last length and the timer.
-fn taking_in_range(settings: Settings, last: u32, p: Taking, t: u16) -> bool
-    ensures { λ r. ⌜ r ≡ all (eqb last 0 ∷ takingInRange settings p ∷ ltb t timeout ∷ []) ⌝ }
+fn taking_in_range(settings: Settings, block: u8, last: u32, p: Taking, t: u16) -> bool
+    ensures { λ r. ⌜ r ≡ all (eqb last 0 ∷ takingInRange settings block p ∷ ltb t timeout ∷ []) ⌝ }
 {
     if last != 0 {
         return false;
@@ -87,7 +123,7 @@ fn taking_in_range(settings: Settings, last: u32, p: Taking, t: u16) -> bool
     }
     let sn = p.sn.0;
     if under_way(settings.area, p.total, p.got, sn) {
-        return p.taken < least_block(settings.block);
+        return p.taken < least_block(block);
     }
     false
 }
@@ -101,14 +137,24 @@ fn overflow_in_range(settings: Settings, last: u32, t: u16) -> bool
     t < rules::TIMEOUT
 }
 
-pub fn rx_in_range(settings: Settings, last: u32, rx: Rx) -> bool
-    ensures { λ r. ⌜ r ≡ rxInRange settings last rx ⌝ }
+fn rx_in_range(settings: Settings, block: u8, last: u32, rx: Rx) -> bool
+    ensures { λ r. ⌜ r ≡ rxInRange settings block last rx ⌝ }
 {
     match rx {
         Rx::Idle => last <= settings.area,
         Rx::OwesOverflow(t) => overflow_in_range(settings, last, t),
-        Rx::OwesGo(p, t) | Rx::Awaits(p, t) => taking_in_range(settings, last, p, t),
+        Rx::OwesGo(p, t) | Rx::Awaits(p, t) => taking_in_range(settings, block, last, p, t),
     }
+}
+
+// The berth's own settings, and the receive side by its own BS.
+pub fn receive_in_order(settings: Settings, own: BerthSettings, last: u32, rx: Rx) -> bool
+    ensures { λ r. ⌜ r ≡ all (ownAllowed (own .block) (own .stmin) ∷ rxInRange settings (own .block) last rx ∷ []) ⌝ }
+{
+    if own_in_range(own) {
+        return rx_in_range(settings, own.block, last, rx);
+    }
+    false
 }
 
 // A message that has yet to begin: its length between two bounds, and the timer.
@@ -195,14 +241,14 @@ pub fn tx_in_range(settings: Settings, tx: Tx) -> bool
     busy_in_range(settings, tx)
 }
 
-// Both sides idle, and the last length in range: such a berth is in order, and a tick leaves it as it is.
-pub fn idle(settings: Settings, last: u32, rx: Rx, tx: Tx) -> bool
-    ensures { λ r. ⌜ r ≡ all (not (receiving rx) ∷ not (busy tx) ∷ leb last (settings .area) ∷ []) ⌝ }
+// Both sides idle, and the berth's own settings and the last length in range: such a berth is in order, and a tick leaves it as it is.
+pub fn idle(settings: Settings, own: BerthSettings, last: u32, rx: Rx, tx: Tx) -> bool
+    ensures { λ r. ⌜ r ≡ all (not (receiving rx) ∷ not (busy tx) ∷ ownAllowed (own .block) (own .stmin) ∷ leb last (settings .area) ∷ []) ⌝ }
 {
     match rx {
         Rx::Idle => {
             if is_idle(tx) {
-                return last <= settings.area;
+                return own_in_range(own) & (last <= settings.area);
             }
             false
         }

@@ -9,6 +9,7 @@ ghost use Rattle.rules.specs.Numbers.{leastArea, largestArea, snCount, flowKind
 ghost use Rattle.rules.specs.Frames.{headed, singleFrame, firstFrame, consecutiveFrame, share};
 ghost use Rattle.rules.specs.Ranges.{SendingRange, TxRange};
 ghost use Rattle.rules.specs.Turns.{flowDue, messageDue, flowFrame, afterFlow, toGo, messageFrame, messageCode, opened, moved, afterConsecutive, afterMessage, beginsWith, lengthSending, busy};
+use rules::BerthSettings;
 use rules::Rx;
 use rules::Sending;
 use rules::Settings;
@@ -35,16 +36,14 @@ fn flow_control(status: u8, block: u8, stmin: u8, frame: &mut [u8])
 }
 
 // Flow control that is owed, into the frame.
-pub fn flow_frame(settings: Settings, rx: Rx, frame: &mut [u8])
+pub fn flow_frame(own: BerthSettings, rx: Rx, frame: &mut [u8])
     requires { ⌜ (flowDue rx ≡ true) × (length (now frame) ≡ frameSize) ⌝ }
-    ensures { λ _. ⌜ now (frame .exit) ≡ flowFrame settings rx ⌝ }
+    ensures { λ _. ⌜ now (frame .exit) ≡ flowFrame own rx ⌝ }
 {
     match rx {
         Rx::Idle => {}
         Rx::OwesOverflow(_) => flow_control(rules::OVERFLOW_STATUS, 0, 0, frame),
-        Rx::OwesGo(_, _) => {
-            flow_control(rules::GO_STATUS, settings.block, settings.stmin, frame)
-        }
+        Rx::OwesGo(_, _) => { flow_control(rules::GO_STATUS, own.block, own.stmin, frame) }
         Rx::Awaits(_, _) => {}
     }
 }

@@ -9,7 +9,7 @@ use lib.ListN.{length, getD, set, length-replicate}
 use lib.Seq.{set-getD}
 use lib.Dec.{T, ltb, nltb→le}
 use Rattle.rules.specs.Numbers.{berthCount}
-use Rattle.rules.specs.Nodes.{fresh, berthAt, withBerths, withBerth}
+use Rattle.rules.specs.Nodes.{fresh, berthAt, withRx, withTx, withBerths, withBerth}
 use Rattle.rules.specs.Ticks.{rxTicked, txTicked, ticked, codesOf}
 use Rattle.rules.specs.Calls.{done}
 use Rattle.rules.specs.declared.Rx.{Rx}
@@ -43,8 +43,8 @@ codesTo h i = record { refused = 0; codes = filled codesOf (h .berths) tenZeros 
 idle-stays : (b : Berth) → idle b ≡ true → ticked b ≡ b
 unfolding ticked
 idle-stays b e =
-    ap (λ (y : Rx). record { rx = y; last = b .last; tx = txTicked (b .tx) }) (ap rxTicked (rx-idle b e) ∙ sym (rx-idle b e))
-    ∙ ap (λ (y : Tx). record { rx = b .rx; last = b .last; tx = y }) (ap txTicked (tx-idle b e) ∙ sym (tx-idle b e))
+    ap (λ (y : Rx). withTx (withRx b y (b .last)) (txTicked (b .tx))) (ap rxTicked (rx-idle b e) ∙ sym (rx-idle b e))
+    ∙ ap (withTx b) (ap txTicked (tx-idle b e) ∙ sym (tx-idle b e))
 
 idle-codes : (b : Berth) → idle b ≡ true → codesOf b ≡ zeros
 unfolding codesOf

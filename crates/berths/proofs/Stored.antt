@@ -1,4 +1,4 @@
--- A side stored back is the berth with that side anew.
+-- A side stored back is the berth with that side anew, and so it is with the settings.
 use Prim.Native.Nat.{ℕ, zero, suc, _<_, _^_}
 use native.Mathlib.Omega.{arith}
 use mathlib.Core.Path.{_≡_, refl, ap}
@@ -6,12 +6,13 @@ use mathlib.Core.List.{List, [], _∷_}
 use lib.ListN.{length, getD, set}
 use lib.Seq.{getD-set-same}
 use Rattle.rules.specs.Numbers.{berthCount}
-use Rattle.rules.specs.Nodes.{fresh, berthAt, withRx, withTx, withBerth}
+use Rattle.rules.specs.Nodes.{fresh, berthAt, withRx, withTx, withSettings, withBerth}
 use Rattle.rules.specs.Stores.{servedNode}
+use Rattle.rules.specs.declared.BerthSettings.{BerthSettings}
 use Rattle.rules.specs.declared.Rx.{Rx}
 use Rattle.rules.specs.declared.Tx.{Tx}
 use Rattle.rules.specs.declared.Node.{Node}
-use Rattle.looks.proofs.Puts.{put-rx, put-last, put-tx, put-served}
+use Rattle.looks.proofs.Puts.{put-rx, put-last, put-tx, put-own, put-served}
 
 pub byte-fits : {j : ℕ} → j < berthCount → j < 2 ^ 8
 byte-fits l = omega (arith, l)
@@ -19,6 +20,10 @@ byte-fits l = omega (arith, l)
 pub tx-put : (h : Node) (k : ℕ) (y : Tx) → withBerth h k (withTx (berthAt h k) y) ≡ put-tx h k y
 unfolding withBerth berthAt
 tx-put h k y = refl
+
+pub own-put : (h : Node) (k : ℕ) (y : BerthSettings) → withBerth h k (withSettings (berthAt h k) y) ≡ put-own h k y
+unfolding withBerth berthAt
+own-put h k y = refl
 
 pub set-twice : {X : Type 0} (xs : List X) (k : ℕ) (x y : X) → set (set xs k x) k y ≡ set xs k y
 set-twice [] k x y = refl

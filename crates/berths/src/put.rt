@@ -1,13 +1,14 @@
-// One side of a berth stored back where it lies, and one card of the list.
+// One side of a berth stored back where it lies, its settings, and one card of the list.
 ghost use mathlib.Core.Path.{_≡_};
 ghost use Prim.Native.Nat.{ℕ, _<_};
 ghost use Rattle.rules.specs.Numbers.{berthCount};
-ghost use Rattle.rules.specs.Nodes.{berthAt, withRx, withTx, withBerth};
+ghost use Rattle.rules.specs.Nodes.{berthAt, withSettings, withRx, withTx, withBerth};
 ghost use Rattle.rules.specs.Stores.{servedNode};
 ghost use Rattle.rules.specs.Cards.{addedAt, frameAdds};
 ghost use Rattle.rules.specs.declared.Word.the-variants.{Delivered};
 ghost use lib.ListN.{length};
 use rules::Adds;
+use rules::BerthSettings;
 use rules::Card;
 use rules::Node;
 use rules::Rx;
@@ -27,6 +28,13 @@ pub fn tx(node: &mut Node, at: usize, tx: Tx)
     ensures { λ r. ⌜ now (node .exit) ≡ withBerth (now (node .entry)) at (withTx (berthAt (now (node .entry)) at) tx) ⌝ }
 {
     node.berths[at].tx = tx;
+}
+
+pub fn settings(node: &mut Node, at: usize, settings: BerthSettings)
+    requires { ⌜ at < berthCount ⌝ }
+    ensures { λ r. ⌜ now (node .exit) ≡ withBerth (now (node .entry)) at (withSettings (berthAt (now (node .entry)) at) settings) ⌝ }
+{
+    node.berths[at].settings = settings;
 }
 
 // A side of the berth that was served: it is the one served last now.

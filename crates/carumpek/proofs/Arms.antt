@@ -12,25 +12,26 @@ use Rattle.rules.specs.Numbers.{berthCount}
 use Rattle.rules.specs.Nodes.{fresh, berthAt}
 use Rattle.rules.specs.Ranges.{inOrder}
 use Rattle.rules.specs.Stores.{passedOver, reached}
-use Rattle.rules.specs.Answers.{frameSays, sendSays, turnSays}
-use Rattle.rules.specs.Events.{frame, send, turn, senderOf}
+use Rattle.rules.specs.Answers.{frameSays, sendSays, turnSays, changeSays}
+use Rattle.rules.specs.Events.{frame, send, turn, change, senderOf}
 use Rattle.rules.specs.Refusals.{refusal}
 use Rattle.rules.specs.declared.Node.{Node}
 use Rattle.rules.specs.declared.FrameAnswer.{FrameAnswer}
 use Rattle.rules.specs.declared.SendAnswer.{SendAnswer}
 use Rattle.rules.specs.declared.TurnAnswer.{TurnAnswer}
+use Rattle.rules.specs.declared.ChangeAnswer.{ChangeAnswer}
 use Rattle.rules.specs.declared.Card.{Card}
 use Rattle.rules.proofs.Cases.{is-true}
-use Rattle.rules.proofs.Answered.{frame-answered, send-answered, turn-answered}
+use Rattle.rules.proofs.Answered.{frame-answered, send-answered, turn-answered, change-answered}
 use Rattle.rules.proofs.Round.{passed-ten}
 use Rattle.looks.specs.Probes.{probeAt}
 use Rattle.looks.specs.Order.{unordered, orderOf}
 use Rattle.looks.proofs.Ordered.{ordered}
 use Rattle.looks.proofs.Bodies.{some, none}
-use Rattle.node.specs.Promises.{lent, FramePromise, SendPromise, TurnPromise}
-use Rattle.node.specs.Numbered.{frameRefusal, sendRefusal, turnRefusal, placeOf, placeOfSender}
-use Rattle.node.proofs.Numbered.{frame-found, send-found, turn-found, place-is, place-within, sender-is, sender-within, refused-frame, refused-send, refused-turn, none-due}
-use Rattle.sides.specs.Parts.{Arriving, Sends, Turning}
+use Rattle.node.specs.Promises.{lent, FramePromise, SendPromise, TurnPromise, ChangePromise}
+use Rattle.node.specs.Numbered.{frameRefusal, sendRefusal, turnRefusal, changeRefusal, placeOf, placeOfSender}
+use Rattle.node.proofs.Numbered.{frame-found, send-found, turn-found, change-found, place-is, place-within, sender-is, sender-within, refused-frame, refused-send, refused-turn, refused-change, none-due}
+use Rattle.sides.specs.Parts.{Arriving, Sends, Turning, Changing}
 
 -- ---- places
 
@@ -130,3 +131,28 @@ module _ (h : Node) {order : ℕ} (eo : order ≡ orderOf h) where
           some = leb-no few;
           place = ej ∙ ap (λ (p : ℕ). probeAt (h .served) p) ep;
         }
+
+  -- ---- a change
+
+  module _ {number j : ℕ} (k parameter value : ℕ) (ej : j ≡ placeOf k)
+      (en : number ≡ changeRefusal (ltb order unordered) (getD (h .berths) j fresh .rx) k parameter value) where
+    change-number : (cards : List Card) (incoming outgoing : List ℕ) → number ≡ refusal (lent h cards incoming outgoing) (change k parameter value)
+    unfolding berthAt
+    change-number cards incoming outgoing =
+        en ∙ ap (λ (t : Bool). changeRefusal t (getD (h .berths) j fresh .rx) k parameter value) test
+        ∙ change-found h (getD (h .berths) j fresh .rx) k parameter value (λ l. ap (λ (i : ℕ). getD (h .berths) i fresh .rx) (ej ∙ place-is k l)) cards incoming outgoing
+
+    pub change-refused : T (not (eqb number 0)) → ChangePromise h k parameter value (ChangeAnswer.Refused number) h
+    unfolding changeSays
+    change-refused found = refused-change h number (some number found) k parameter value change-number (ChangeAnswer.Refused number) refl
+
+    module _ (fine : T (not (not (eqb number 0)))) where
+      may-change : (cards : List Card) (incoming outgoing : List ℕ) → refusal (lent h cards incoming outgoing) (change k parameter value) ≡ 0
+      may-change cards incoming outgoing = sym (change-number cards incoming outgoing) ∙ none number fine
+
+      pub is-changed : j ≡ k
+      is-changed = ej ∙ place-is k (change-answered (lent h [] [] []) k parameter value (may-change [] [] []) .mine)
+
+      pub changing : Changing h (getD (h .berths) j fresh .settings) j parameter value
+      unfolding berthAt
+      changing = rw is-changed (record { may = may-change; own-settings = refl })

@@ -1,12 +1,13 @@
 // The calls that users make: the node struct and the cards, kept in one place, are lent by `&mut` to a few entries, and each works where
 // they lie. An entry tests the order behind the reference and its refusals on plain numbers, and then lends both on: for a frame to crate
-// hearing, for a turn to crate handing, for a tick to crate berths; a send stores its side back itself. What a call refuses it has not
-// touched. Each promise is over node and cards at entry and at exit.
+// hearing, for a turn to crate handing, for a tick to crate berths; a send stores its side back itself, a change the settings. What a call
+// refuses it has not touched. Each promise is over node and cards at entry and at exit.
 pub mod local;
 mod setting;
 
-ghost use Rattle.node.specs.Promises.{SetUpPromise, FramePromise, TickPromise, SendPromise, TurnPromise, ShowPromise, NeededPromise};
+ghost use Rattle.node.specs.Promises.{SetUpPromise, FramePromise, TickPromise, SendPromise, TurnPromise, ShowPromise, ChangePromise, NeededPromise};
 use rules::Card;
+use rules::ChangeAnswer;
 use rules::Choice;
 use rules::FrameAnswer;
 use rules::Node;
@@ -20,9 +21,10 @@ pub fn set_up(node: &mut Node, area: u32, block: u32, stmin: u32) -> SetUpAnswer
     ensures { λ r. ⌜ SetUpPromise (now (node .entry)) area block stmin r (now (node .exit)) ⌝ }
 {
     if berth::ranges::settings_allowed(area, block, stmin) {
-        node.settings = setting::settings_of(area, block, stmin);
+        node.settings = setting::settings_of(area);
         node.served = setting::SERVED_LAST;
-        berths::clear(&mut *node);
+        let own = setting::own_of(block, stmin);
+        berths::clear(&mut *node, own);
         return SetUpAnswer::Ready;
     }
     SetUpAnswer::Refused(rules::BAD_SETTING)
@@ -147,6 +149,24 @@ pub fn show<'a>(
         berth,
         choice,
     )
+}
+
+// Change one setting of a berth: its STmin or its block size.
+pub fn change(node: &mut Node, berth: u32, parameter: u32, value: u32) -> ChangeAnswer
+    ensures { λ r. ⌜ ChangePromise (now (node .entry)) berth parameter value r (now (node .exit)) ⌝ }
+{
+    let order = looks::order(&*node);
+    let ordered = order < looks::UNORDERED;
+    let at = node::places::of_berth(berth);
+    let rx = node.berths[at].rx;
+    let number = node::refusals::change(ordered, rx, berth, parameter, value);
+    if number != 0 {
+        return ChangeAnswer::Refused(number);
+    }
+    let own = node.berths[at].settings;
+    let changed = sides::changed(own, at, parameter, value);
+    berths::put::settings(&mut *node, at, changed.own);
+    changed.answer
 }
 
 // How many frames a message of a length needs.

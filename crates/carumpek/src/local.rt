@@ -4,8 +4,9 @@
 ghost use mathlib.Core.Path.{_≡_};
 ghost use lib.Dec.{ltb};
 ghost use Rattle.rules.specs.Tests.{pick};
-ghost use Rattle.node.specs.Promises.{SetUpPromise, FramePromise, TickPromise, SendPromise, TurnPromise, ShowPromise, OfFirst};
+ghost use Rattle.node.specs.Promises.{SetUpPromise, FramePromise, TickPromise, SendPromise, TurnPromise, ShowPromise, ChangePromise, OfFirst};
 use rules::Card;
+use rules::ChangeAnswer;
 use rules::Choice;
 use rules::FrameAnswer;
 use rules::Node;
@@ -126,6 +127,22 @@ pub fn turn(
         answer: answer,
         node: held,
         cards: counted,
+    }
+}
+
+pub struct ChangeOut {
+    pub answer: ChangeAnswer,
+    pub node: Node,
+}
+
+pub fn change(node: Node, berth: u32, parameter: u32, value: u32) -> ChangeOut
+    ensures { λ r. ⌜ ChangePromise node berth parameter value (r .answer) (r .node) ⌝ }
+{
+    let mut held = node;
+    let answer = crate::change(&mut held, berth, parameter, value);
+    ChangeOut {
+        answer: answer,
+        node: held,
     }
 }
 

@@ -2,18 +2,26 @@
 ghost use mathlib.Core.Path.{_≡_};
 ghost use mathlib.Core.Bool.{true};
 ghost use Rattle.rules.specs.Ranges.{settingsAllowed};
+ghost use Prim.Native.Nat.{ℕ};
+use rules::BerthSettings;
 use rules::Settings;
 
 // The berth served last of a node that is set up: the first call for a frame looks at berth 0 first.
 pub(crate) const SERVED_LAST: u8 = rules::BERTH_COUNT - 1;
 
-// Settings that are allowed fit their bytes.
-pub(crate) fn settings_of(area: u32, block: u32, stmin: u32) -> Settings
-    requires { ⌜ settingsAllowed area block stmin ≡ true ⌝ }
-    ensures { λ r. ⌜ r ≡ record { area = area; block = block; stmin = stmin } ⌝ }
+// The node's.
+pub(crate) fn settings_of(area: u32) -> Settings
+    ensures { λ r. ⌜ r ≡ record { area = area } ⌝ }
 {
-    Settings {
-        area: area,
+    Settings { area: area }
+}
+
+// The berths', alike. Settings that are allowed fit their bytes.
+pub(crate) fn own_of(block: u32, stmin: u32) -> BerthSettings
+    requires { ⌜ ((area : ℕ) × (settingsAllowed area block stmin ≡ true)) ⌝ }
+    ensures { λ r. ⌜ r ≡ record { block = block; stmin = stmin } ⌝ }
+{
+    BerthSettings {
         block: block as u8,
         stmin: stmin as u8,
     }

@@ -15,18 +15,22 @@ use Rattle.rules.specs.Calls.{outcome, answers, final}
 use Rattle.rules.specs.declared.Node.{Node}
 use Rattle.rules.specs.declared.Card.{Card}
 use Rattle.rules.specs.declared.Settings.{Settings}
+use Rattle.rules.specs.declared.BerthSettings.{BerthSettings}
 use Rattle.records.specs.Records.{recordOf, risingFrom}
 use Rattle.records.specs.declared.record.Record.{Record}
 use Rattle.text.specs.Building.{textOf}
 use Rattle.text.specs.Answers.{answerText, badText, shortText}
 use Rattle.text.specs.declared.building.Text.{Text}
 
--- A 1,000, BS 8, STmin 00
+-- A 1,000; BS 8, STmin 00 at every berth
 abbrev pub settings : Settings
-settings = record { area = 1000; block = 8; stmin = 0 }
+settings = record { area = 1000 }
+
+abbrev pub berthSettings : BerthSettings
+berthSettings = record { block = 8; stmin = 0 }
 
 unfoldable pub firstNode : Node
-firstNode = setUpNode settings
+firstNode = setUpNode settings berthSettings
 
 -- of the cards that it keeps those of the berths are lent, which start at zero
 abbrev pub lentCards : List Card → List Card

@@ -33,6 +33,10 @@ module _ {h : Node} {cards : List Card} {s : Settings} {j passed : ℕ} {outgoin
   unfolding berthAt
   no-flow {flow} ef other = sym ef ∙ is-false flow other
 
+pub own-settings : (h : Node) (k : ℕ) → getD (h .berths) k fresh .settings ≡ berthAt h k .settings
+unfolding berthAt
+own-settings h k = refl
+
 pub own-rx : (h : Node) (k : ℕ) → getD (h .berths) k fresh .rx ≡ berthAt h k .rx
 unfolding berthAt
 own-rx h k = refl

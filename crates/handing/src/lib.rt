@@ -22,7 +22,8 @@ pub fn hand_over(
 {
     let rx = node.berths[at].rx;
     if berth::turns::flow_due(rx) {
-        let handed = sides::flow_handed(settings, at, rx, passed, buffer);
+        let own = node.berths[at].settings;
+        let handed = sides::flow_handed(own, at, rx, passed, buffer);
         berths::put::served_rx(&mut *node, at, handed.rx);
         return handed.answer;
     }

@@ -8,7 +8,7 @@ use lib.ListN.{length, getD, set}
 use lib.Dec.{T, eqb, eqb→eq}
 use Rattle.rules.specs.Numbers.{berthCount, noData, N-UNEXP-PDU}
 use Rattle.rules.specs.Nodes.{fresh, berthAt}
-use Rattle.rules.specs.Answers.{Answer, refused, ready as ready-answer, heard, codes, sent, handed, none as none-answer, shown, frameSays}
+use Rattle.rules.specs.Answers.{Answer, refused, ready as ready-answer, heard, codes, sent, handed, none as none-answer, shown, changed, frameSays}
 use Rattle.rules.specs.declared.Node.{Node}
 use Rattle.rules.specs.declared.FrameAnswer.{FrameAnswer}
 use Rattle.rules.specs.declared.Word.the-variants.{Delivered, Ignored}
@@ -38,6 +38,7 @@ saysCounts (sent k) = false
 saysCounts (handed id f c p) = false
 saysCounts (none-answer p) = false
 saysCounts (shown part) = false
+saysCounts (changed k) = false
 
 ignored-uncounted : {j why : ℕ} (r : FrameAnswer) → frameSays r ≡ heard j 0 (Ignored why) → counts r ≡ false
 unfolding counts frameSays
@@ -68,9 +69,9 @@ module _ {h : Node} {cards : List Card} {id j : ℕ} {incoming d : List ℕ} (a 
         → FramePromise h cards incoming id d r h (answerAdded cards j d r) incoming
     unread empty = ignoring (sym (no-data _ d (eqb→eq (length d) 0 empty))) (λ z. omega (arith, z))
 
-    pub hearing : T (not (eqb (length d) 0)) → Hearing h cards id (h .settings) j (getD (h .berths) j fresh .rx) (getD (h .berths) j fresh .last) incoming d
+    pub hearing : T (not (eqb (length d) 0)) → Hearing h cards id (h .settings) (getD (h .berths) j fresh .settings) j (getD (h .berths) j fresh .rx) (getD (h .berths) j fresh .last) incoming d
     unfolding berthAt
-    hearing there = record { arriving = a; settings = refl; some = above-none there; side = refl; length = refl; kind = other }
+    hearing there = record { arriving = a; settings = refl; own-settings = refl; some = above-none there; side = refl; length = refl; kind = other }
 
 -- ---- what the answer to a frame counts
 

@@ -37,8 +37,9 @@ fn hear(node: &mut Node, at: usize, incoming: &mut [u8], payload: &[u8]) -> Fram
     if why != 0 {
         return sides::ignored(at, why);
     }
+    let own = node.berths[at].settings;
     let last = node.berths[at].last;
-    let heard = sides::heard(node.settings, at, rx, last, incoming, payload);
+    let heard = sides::heard(node.settings, own, at, rx, last, incoming, payload);
     berths::put::rx(&mut *node, at, heard.rx, heard.last);
     heard.answer
 }

@@ -10,12 +10,13 @@ use lib.ListN.{getD-replicate}
 use lib.Dec.{T}
 use Rattle.rules.specs.Numbers.{berthCount, N-TIMEOUT-A, N-TIMEOUT-Cr}
 use Rattle.rules.specs.Nodes.{Held}
-use Rattle.rules.specs.Events.{Call, Event, arrives, ticks, sends, turns}
+use Rattle.rules.specs.Events.{Call, Event, arrives, ticks, sends, turns, changes}
 use Rattle.rules.specs.Cards.{zeroCard, cardAt, frozen, plus, raised, added, frameAdds, underWay, tickAdds, turnAdds, adds}
 use Rattle.rules.specs.Refusals.{setUpRefusal}
 use Rattle.rules.specs.Calls.{outcome, final}
 use Rattle.rules.specs.Alone.{Part, partOf, partAfter, says, alone, AtEach}
 use Rattle.rules.specs.declared.Settings.{Settings}
+use Rattle.rules.specs.declared.BerthSettings.{BerthSettings}
 use Rattle.rules.specs.declared.Card.{Card}
 use Rattle.rules.specs.declared.Adds.{Adds}
 use Rattle.rules.proofs.Even.{one, event-even}
@@ -88,6 +89,7 @@ moment-adds s p (arrives d) = refl
 moment-adds s p ticks = refl
 moment-adds s p (sends m) = refl
 moment-adds s p turns = refl
+moment-adds s p (changes parameter value) = refl
 
 -- one count of the nine
 module _ (count : Card → ℕ) (add : Adds → Bool) (up : (c : Card) (a : Adds) → count (raised c a) ≡ plus (count c) (add a)) where
@@ -190,7 +192,7 @@ before-call k h (x ∷ cs) c f =
 
 -- ---- the law
 
--- THE LAW OF THE CARDS, in any run of the five calls from any start where berth k's card is zeros and it has no reception under way: after
+-- THE LAW OF THE CARDS, in any run of the six calls from any start where berth k's card is zeros and it has no reception under way: after
 -- every call up to and including the one that freezes the card, each count is that of the history, and begun equals delivered plus
 -- failed, plus one if the berth owes go or awaits.
 pub run-tallies : (k : ℕ) (h : Held) (cs : List Call) (c : Call) → UnbegunAt k h → frozenAt k (final h cs) ≡ false
@@ -208,18 +210,18 @@ unfolding partOf
 run-frozen-stays k h cs f = ap (λ (p : Part). p .card) (berth-alone k h cs) ∙ frozen-stays (h .node .settings) (partOf k h) (owns k h cs) f
 
 -- after a set-up with cards of zeros every berth starts so
-pub set-up-unbegun : (h : Held) (s : Settings) (k : ℕ) → k < berthCount → setUpRefusal (s .area) (s .block) (s .stmin) ≡ 0 → h .cards ≡ zeroCards
-    → UnbegunAt k (setUp h s)
+pub set-up-unbegun : (h : Held) (s : Settings) (set : BerthSettings) (k : ℕ) → k < berthCount → setUpRefusal (s .area) (set .block) (set .stmin) ≡ 0 → h .cards ≡ zeroCards
+    → UnbegunAt k (setUp h s set)
 unfolding partOf cardAt
-set-up-unbegun h s k l e z =
-    let part = set-up-part h s k l e in
+set-up-unbegun h s set k l e z =
+    let part = set-up-part h s set k l e in
     record {
       zeros = ap (λ (p : Part). p .card) part ∙ ap (λ (cards : List Card). cardAt cards k) z ∙ getD-replicate berthCount k zeroCard zeroCard l;
       idle = ap (λ (p : Part). underWay (p .berth .rx)) part;
     }
 
 -- THE LAW OF THE CARDS AFTER A SET-UP, from cards of zeros, of every berth.
-pub tallies-after-set-up : (h : Held) (s : Settings) (cs : List Call) (c : Call) (k : ℕ) → k < berthCount
-    → setUpRefusal (s .area) (s .block) (s .stmin) ≡ 0 → h .cards ≡ zeroCards → frozenAt k (final (setUp h s) cs) ≡ false
-    → TalliesAt k (final (setUp h s) (cs ++ c ∷ [])) (historyOf k (setUp h s) (cs ++ c ∷ []))
-tallies-after-set-up h s cs c k l e z f = run-tallies k (setUp h s) cs c (set-up-unbegun h s k l e z) f
+pub tallies-after-set-up : (h : Held) (s : Settings) (set : BerthSettings) (cs : List Call) (c : Call) (k : ℕ) → k < berthCount
+    → setUpRefusal (s .area) (set .block) (set .stmin) ≡ 0 → h .cards ≡ zeroCards → frozenAt k (final (setUp h s set) cs) ≡ false
+    → TalliesAt k (final (setUp h s set) (cs ++ c ∷ [])) (historyOf k (setUp h s set) (cs ++ c ∷ []))
+tallies-after-set-up h s set cs c k l e z f = run-tallies k (setUp h s set) cs c (set-up-unbegun h s set k l e z) f

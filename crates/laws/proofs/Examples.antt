@@ -8,21 +8,23 @@ use lib.ListN.{length, take, set, replicate}
 use lib.Dec.{lit<, lit≤}
 use Rattle.rules.specs.Tests.{all, each, firstUnmet}
 use Rattle.rules.specs.Numbers.{berthCount, N-TIMEOUT-A, N-TIMEOUT-Cr}
-use Rattle.rules.specs.Nodes.{fresh, withRx, withTx, berthAt, Held, withBerth}
+use Rattle.rules.specs.Nodes.{freshWith, fresh, withRx, withTx, berthAt, Held, withBerth}
 use Rattle.rules.specs.Ranges.{InOrder, settingsAllowed, inBlock, takingInRange, sendingInRange, berthInOrder, inOrder}
 use Rattle.rules.specs.Frames.{kind, low, singleFits, shortLength, escapeLength, announced, firstFits, consecutiveFits, flowFits, padded, singleFrame, firstFrame, consecutiveFrame, goFrame, firstSn, nextSn, counted, fillsBlock, ticksMeant, gapOf, share}
 use Rattle.rules.specs.Arrivals.{ignored, singleCame, begun, firstCame, piece, grown, completed, afterTook, took, wrongSn, awaitedCame, granted, byStatus, heardBy, toldBy, byKind, frameCame, turnedAway}
 use Rattle.rules.specs.Ticks.{ran, ticked, codesOf}
 use Rattle.rules.specs.Turns.{due, moved, afterConsecutive, handOver, beginsWith, sent as sentBerth}
+use Rattle.rules.specs.Changes.{valueAllowed, changedSettings, changed as changedBerth}
 use Rattle.rules.specs.Stores.{rightStore, areaOf, stored, tickedNode, servedNode, setUpNode, distance, leastDistance, passedOver, reached, cameAt, handedAt}
-use Rattle.rules.specs.Answers.{refused, heard, codes, sent, handed, shown, receive, send as sendSide, reported, failedSide, wordReports, codesReports, reports}
+use Rattle.rules.specs.Answers.{refused, heard, codes, sent, handed, shown, changed, receive, send as sendSide, reported, failedSide, wordReports, codesReports, reports}
 use Rattle.rules.specs.Cards.{rightCards, addedAt, tickedCards, zeroCard, cardAt, frozen, raised, added, isSingle, frameAdds, tickAdds, turnAdds, adds}
-use Rattle.rules.specs.Events.{Call, frame, tick, send, turn, show, Event, arrives, ticks, sends, turns}
+use Rattle.rules.specs.Events.{Call, frame, tick, send, turn, show, change, Event, arrives, ticks, sends, turns, changes}
 use Rattle.rules.specs.Refusals.{needs, refusal, setUpRefusal}
 use Rattle.rules.specs.Calls.{showable, shownLength, showing, afterFrame, afterTurn, done, reply, written, refusedOutcome, outcome, setUpOutcome, answers, final}
 use Rattle.rules.specs.Alone.{partOf, Part, withCard, Says, hears, expires, accepts, hands, stateAfter, partAfter, alone}
 use Rattle.rules.specs.Clocks.{Idle, timeLeft, mostTime, endCode}
 use Rattle.rules.specs.declared.Settings.{Settings}
+use Rattle.rules.specs.declared.BerthSettings.{BerthSettings}
 use Rattle.rules.specs.declared.Choice.{Choice}
 use Rattle.rules.specs.declared.Taking.{Taking}
 use Rattle.rules.specs.declared.Sending.{Sending}
@@ -39,7 +41,7 @@ use Rattle.laws.specs.Cards.{zeroCards, Tallies, TalliesAt, frozenAt}
 use Rattle.laws.specs.Gaps.{TwoFrames, Ticking, Spaced}
 use Rattle.laws.specs.Rounds.{served, turnOf, StaysDue, Fair}
 use Rattle.laws.specs.Sides.{frameSide, ofSide, handedSide, framesBy}
-use Rattle.laws.specs.Line.{there, back, deliveredIn, leftA, leftB, carriedA, carriedB, Deed, atA, atB, setUpB, carryA, carryB, acts, living, spares, AllApart, AtRest, begin, MayBegin, Arrived, blank}
+use Rattle.laws.specs.Line.{there, back, deliveredIn, begunIn, World, leftA, leftB, carriedA, carriedB, Deed, atA, atB, setUpB, carryA, carryB, acts, living, spares, AllApart, AtRest, begin, MayBegin, Arrived, blank}
 use Rattle.laws.specs.Free.{clockAt, reportsIn, cardAfter, LeftAlone, ComesFree, AllComeFree}
 use Rattle.laws.proofs.Isolation.{owns-append}
 use Rattle.laws.proofs.SetUp.{each-alone, each-alone-after-set-up, sound-run}
@@ -54,36 +56,41 @@ use Rattle.laws.proofs.Free.{ticks-owned, run-left-alone, run-comes-fre
 abbrev pairOf : ℕ → ℕ → Codes
 pairOf r s = record { receive = r; send = s }
 
+-- BS 2, STmin 0
+abbrev pub twoOwn : BerthSettings
+twoOwn = record { block = 2; stmin = 0 }
+
 abbrev waitingBerth : Berth
-waitingBerth = withRx fresh (Rx.Awaits (record { total = 8; got = 6; sn = firstSn; taken = 0 }) 998) 0
+waitingBerth = withRx (freshWith twoOwn) (Rx.Awaits (record { total = 8; got = 6; sn = firstSn; taken = 0 }) 998) 0
 
 abbrev pub two : Held
 two =
     record {
-      node = record { settings = record { area = 8; block = 2; stmin = 0 }; served = 9; berths = set (replicate berthCount fresh) 3 waitingBerth };
+      node = record { settings = record { area = 8 }; served = 9; berths = set (replicate berthCount (freshWith twoOwn)) 3 waitingBerth };
       incoming = replicate 80 0;
       outgoing = replicate 80 0;
       cards = zeroCards;
     }
 
--- a send, an ignored frame of kind 7, a turn with a buffer too short, a tick, a turn, a frame, the tick that ends berth 3's reception
+-- a send, a change of berth 3, which awaits, and one of berth 5, an ignored frame of kind 7, a turn with a buffer too short, a tick, a turn, a
+-- frame, the tick that ends berth 3's reception
 abbrev pub twoRun : List Call
 twoRun =
-    send 5 (1 ∷ 2 ∷ 3 ∷ []) ∷ frame 0x643 (0x70 ∷ []) ∷ turn (0 ∷ []) ∷ tick ∷ turn blank ∷ frame 0x645 (0x02 ∷ 0xAA ∷ 0xBB ∷ []) ∷ tick
-    ∷ show 5 Choice.Arrived ∷ []
+    send 5 (1 ∷ 2 ∷ 3 ∷ []) ∷ change 3 1 4 ∷ change 5 0 20 ∷ frame 0x643 (0x70 ∷ []) ∷ turn (0 ∷ []) ∷ tick ∷ turn blank
+    ∷ frame 0x645 (0x02 ∷ 0xAA ∷ 0xBB ∷ []) ∷ tick ∷ show 5 Choice.Arrived ∷ []
 
 pub two-sound : Sound two
-unfolding inOrder all each settingsAllowed berthInOrder takingInRange inBlock
+unfolding inOrder all each berthInOrder takingInRange inBlock
 two-sound = record { order = in-order-range (two .node) tt; incoming = refl; outgoing = refl; ten = refl }
 
--- the answers; what is berth 3's own, and what is berth 5's: the refused call is in neither
+-- the answers; what is berth 3's own, and what is berth 5's: the refused calls are in neither
 pub two-computed : (answers two twoRun
-    ≡ sent 5 ∷ heard 3 0 (Ignored 2) ∷ refused 9 ∷ codes (replicate 10 (pairOf 0 0))
+    ≡ sent 5 ∷ refused 15 ∷ changed 5 ∷ heard 3 0 (Ignored 2) ∷ refused 9 ∷ codes (replicate 10 (pairOf 0 0))
     ∷ handed 0x665 (0x03 ∷ 1 ∷ 2 ∷ 3 ∷ 0xCC ∷ 0xCC ∷ 0xCC ∷ 0xCC ∷ []) 1 5 ∷ heard 5 0 (Delivered 2)
     ∷ codes (set (replicate 10 (pairOf 0 0)) 3 (pairOf 4 0)) ∷ shown (0xAA ∷ 0xBB ∷ []) ∷ [])
     × (owns 3 two twoRun ≡ arrives (0x70 ∷ []) ∷ ticks ∷ ticks ∷ [])
-    × (owns 5 two twoRun ≡ sends (1 ∷ 2 ∷ 3 ∷ []) ∷ ticks ∷ turns ∷ arrives (0x02 ∷ 0xAA ∷ 0xBB ∷ []) ∷ ticks ∷ [])
-unfolding owns own ownDone answers final done reply written outcome refusedOutcome refusal needs firstUnmet rightStore rightCards addedAt tickedCards berthAt inOrder all each settingsAllowed berthInOrder takingInRange sendingInRange inBlock afterFrame afterTurn cameAt frameCame byKind kind low heardBy toldBy ignored singleCame singleFits withBerth stored tickedNode ticked ran codesOf sentBerth beginsWith passedOver leastDistance distance due reached servedNode handedAt handOver areaOf singleFrame padded showing showable shownLength
+    × (owns 5 two twoRun ≡ sends (1 ∷ 2 ∷ 3 ∷ []) ∷ changes 0 20 ∷ ticks ∷ turns ∷ arrives (0x02 ∷ 0xAA ∷ 0xBB ∷ []) ∷ ticks ∷ [])
+unfolding owns own ownDone answers final done reply written outcome refusedOutcome refusal needs firstUnmet rightStore rightCards addedAt tickedCards berthAt inOrder all each berthInOrder takingInRange sendingInRange inBlock afterFrame afterTurn cameAt frameCame byKind kind low heardBy toldBy ignored singleCame singleFits withBerth stored tickedNode ticked ran codesOf sentBerth beginsWith passedOver leastDistance distance due reached servedNode handedAt handOver areaOf singleFrame padded showing showable shownLength valueAllowed changedSettings changedBerth
 two-computed = (refl, refl, refl)
 
 -- so each is as it would be alone
@@ -91,21 +98,22 @@ pub two-alone : Alone (two .node .settings) (partOf 3 two) 3 two (owns 3 two two
     × Alone (two .node .settings) (partOf 5 two) 5 two (owns 5 two twoRun) (answers two twoRun) (final two twoRun)
 two-alone = (each-alone two twoRun 3 (lit< tt), each-alone two twoRun 5 (lit< tt))
 
--- the same calls after a set-up of the same node, A 8, BS 2, STmin 0: berth 3 awaits nothing, and no reception of it ends
+-- the same calls after a set-up of the same node, A 8, BS 2, STmin 0: berth 3 awaits nothing, so its change is answered, and no reception of it
+-- ends
 abbrev afresh : Held
-afresh = setUp two (two .node .settings)
+afresh = setUp two (two .node .settings) twoOwn
 
 pub afresh-computed : (setUpRefusal 8 2 0 ≡ 0)
     × (answers afresh twoRun
-    ≡ sent 5 ∷ heard 3 0 (Ignored 2) ∷ refused 9 ∷ codes (replicate 10 (pairOf 0 0))
+    ≡ sent 5 ∷ changed 3 ∷ changed 5 ∷ heard 3 0 (Ignored 2) ∷ refused 9 ∷ codes (replicate 10 (pairOf 0 0))
     ∷ handed 0x665 (0x03 ∷ 1 ∷ 2 ∷ 3 ∷ 0xCC ∷ 0xCC ∷ 0xCC ∷ 0xCC ∷ []) 1 5 ∷ heard 5 0 (Delivered 2)
     ∷ codes (replicate 10 (pairOf 0 0)) ∷ shown (0xAA ∷ 0xBB ∷ []) ∷ [])
-unfolding setUpRefusal setUpOutcome setUpNode answers final done reply written outcome refusedOutcome refusal needs firstUnmet rightStore rightCards addedAt tickedCards berthAt inOrder all each settingsAllowed berthInOrder takingInRange sendingInRange inBlock afterFrame afterTurn cameAt frameCame byKind kind low heardBy toldBy ignored singleCame singleFits withBerth stored tickedNode ticked ran codesOf sentBerth beginsWith passedOver leastDistance distance due reached servedNode handedAt handOver areaOf singleFrame padded showing showable shownLength
+unfolding setUpRefusal setUpOutcome setUpNode answers final done reply written outcome refusedOutcome refusal needs firstUnmet rightStore rightCards addedAt tickedCards berthAt inOrder all each settingsAllowed berthInOrder takingInRange sendingInRange inBlock afterFrame afterTurn cameAt frameCame byKind kind low heardBy toldBy ignored singleCame singleFits withBerth stored tickedNode ticked ran codesOf sentBerth beginsWith passedOver leastDistance distance due reached servedNode handedAt handOver areaOf singleFrame padded showing showable shownLength valueAllowed changedSettings changedBerth
 afresh-computed = (refl, refl)
 
 -- so each is as it would be alone from fresh
-pub afresh-alone : (k : ℕ) → k < berthCount → Alone (two .node .settings) (freshPart two (two .node .settings) k) k afresh (owns k afresh twoRun) (answers afresh twoRun) (final afresh twoRun)
-afresh-alone k l = each-alone-after-set-up two (two .node .settings) twoRun k l (afresh-computed .0)
+pub afresh-alone : (k : ℕ) → k < berthCount → Alone (two .node .settings) (freshPart two (two .node .settings) twoOwn k) k afresh (owns k afresh twoRun) (answers afresh twoRun) (final afresh twoRun)
+afresh-alone k l = each-alone-after-set-up two (two .node .settings) twoOwn twoRun k l (afresh-computed .0)
 
 -- ---- fairness: all ten are due, berth 4 was served last, and nine others are served before it
 
@@ -113,7 +121,7 @@ abbrev pub crowd : Held
 crowd =
     record {
       node = record {
-        settings = record { area = 8; block = 0; stmin = 0 };
+        settings = record { area = 8 };
         served = 4;
         berths = replicate berthCount (withTx fresh (Tx.SingleDue 1 0));
       };
@@ -128,7 +136,7 @@ crowdRun = replicate 10 (turn blank)
 pub crowd-computed : (over turnOf (answers crowd crowdRun)
     ≡ served 5 ∷ served 6 ∷ served 7 ∷ served 8 ∷ served 9 ∷ served 0 ∷ served 1 ∷ served 2 ∷ served 3 ∷ served 4 ∷ [])
     × StaysDue 4 crowd crowdRun
-unfolding StaysDue over turnOf answers final done reply written outcome refusedOutcome refusal needs firstUnmet rightStore rightCards addedAt tickedCards berthAt inOrder all each settingsAllowed berthInOrder takingInRange sendingInRange inBlock afterFrame afterTurn cameAt frameCame byKind kind low heardBy toldBy ignored singleCame singleFits withBerth stored tickedNode ticked ran codesOf sentBerth beginsWith passedOver leastDistance distance due reached servedNode handedAt handOver areaOf singleFrame padded showing showable shownLength
+unfolding StaysDue over turnOf answers final done reply written outcome refusedOutcome refusal needs firstUnmet rightStore rightCards addedAt tickedCards berthAt inOrder all each berthInOrder takingInRange sendingInRange inBlock afterFrame afterTurn cameAt frameCame byKind kind low heardBy toldBy ignored singleCame singleFits withBerth stored tickedNode ticked ran codesOf sentBerth beginsWith passedOver leastDistance distance due reached servedNode handedAt handOver areaOf singleFrame padded showing showable shownLength
 crowd-computed = (refl, ((λ e. tt), ((λ e. tt), ((λ e. tt), ((λ e. tt), ((λ e. tt), ((λ e. tt), ((λ e. tt), ((λ e. tt), ((λ e. tt), ((λ e. tt), tt)))))))))))
 
 pub crowd-fair : Fair 4 (over turnOf (answers crowd crowdRun))
@@ -140,7 +148,7 @@ crowd-fair = fair 4 (lit< tt) crowd crowdRun (crowd-computed .1)
 abbrev nodeOf : ℕ → ℕ → ℕ → Held
 nodeOf a bs stmin =
     record {
-      node = setUpNode (record { area = a; block = bs; stmin = stmin });
+      node = setUpNode (record { area = a }) (record { block = bs; stmin = stmin });
       incoming = replicate (10 * a) 0;
       outgoing = replicate (10 * a) 0;
       cards = zeroCards;
@@ -166,7 +174,7 @@ deeds =
     atA (turn blank) ∷ carryB ∷ []
 
 may-begin : MayBegin 2 7 programme scheduler mast
-unfolding setUpNode berthAt inOrder all each settingsAllowed berthInOrder
+unfolding setUpNode berthAt inOrder all each berthInOrder
 may-begin =
     record {
       small-i = lit< tt;
@@ -204,6 +212,55 @@ deeds-computed = (
 pub programme-arrived : Arrived 2 7 programme (living 2 7 (begin 2 programme scheduler mast) deeds)
 programme-arrived = line-law 2 7 programme scheduler mast may-begin deeds (deeds-computed .0) (deeds-computed .1)
 
+-- ---- the same message, and the taker's berth is changed to BS 4 and STmin 0 after the first frame was handed over and before it comes in: two
+-- blocks, and no gap. From Begun on a change of it is refused with 15, and after Delivered answered; the sender's berth is changed under way
+
+abbrev toBegun : List Deed
+toBegun = atA (turn blank) ∷ atB (change 7 1 4) ∷ atB (change 7 0 0) ∷ carryB ∷ []
+
+abbrev fromBegun : List Deed
+fromBegun =
+    atB (change 7 1 1) ∷ atA (change 2 1 3) ∷ atB (turn blank) ∷ carryA ∷ atA (turn blank) ∷ carryB ∷ atA (turn blank) ∷ carryB ∷
+    atA (turn blank) ∷ carryB ∷ atA (turn blank) ∷ carryB ∷ atB (turn blank) ∷ carryA ∷ atA (turn blank) ∷ carryB ∷ atB (change 7 1 1) ∷ []
+
+abbrev changing : List Deed → World
+changing ds = living 2 7 (begin 2 programme scheduler mast) ds
+
+pub changes-computed : AllApart 2 7 (begin 2 programme scheduler mast) (toBegun ++ fromBegun)
+    × AtRest 2 7 (changing (toBegun ++ fromBegun))
+    × (refusal (changing toBegun .b) (change 7 1 1) ≡ 15)
+    × (changing (toBegun ++ fromBegun) .begun ≡ record { block = 4; stmin = 0 } ∷ [])
+    × (berthAt (changing (toBegun ++ fromBegun) .b .node) 7 .settings ≡ record { block = 1; stmin = 0 })
+    × (changing (toBegun ++ fromBegun) .log
+    ≡ there (0x10 ∷ 36 ∷ 1 ∷ 2 ∷ 3 ∷ 4 ∷ 5 ∷ 6 ∷ [])
+    ∷ back (0x30 ∷ 4 ∷ 0 ∷ 0xCC ∷ 0xCC ∷ 0xCC ∷ 0xCC ∷ 0xCC ∷ [])
+    ∷ there (0x21 ∷ 7 ∷ 8 ∷ 9 ∷ 10 ∷ 11 ∷ 12 ∷ 13 ∷ [])
+    ∷ there (0x22 ∷ 14 ∷ 15 ∷ 16 ∷ 17 ∷ 18 ∷ 19 ∷ 20 ∷ [])
+    ∷ there (0x23 ∷ 21 ∷ 22 ∷ 23 ∷ 24 ∷ 25 ∷ 26 ∷ 27 ∷ [])
+    ∷ there (0x24 ∷ 28 ∷ 29 ∷ 30 ∷ 31 ∷ 32 ∷ 33 ∷ 34 ∷ [])
+    ∷ back (0x30 ∷ 4 ∷ 0 ∷ 0xCC ∷ 0xCC ∷ 0xCC ∷ 0xCC ∷ 0xCC ∷ [])
+    ∷ there (0x25 ∷ 35 ∷ 36 ∷ 0xCC ∷ 0xCC ∷ 0xCC ∷ 0xCC ∷ 0xCC ∷ [])
+    ∷ [])
+unfolding
+    AllApart spares living acts leftA leftB carriedA carriedB framesBy handedSide ofSide ofBerth only reports reported wordReports saysOf
+    deliveredIn begunIn over done reply outcome refusedOutcome refusal needs firstUnmet rightStore rightCards addedAt berthAt inOrder all each
+    berthInOrder takingInRange sendingInRange inBlock afterFrame afterTurn cameAt frameCame byKind kind low heardBy toldBy withBerth stored
+    sentBerth beginsWith passedOver leastDistance distance due reached servedNode handedAt handOver areaOf padded setUpNode firstCame
+    shortLength escapeLength announced firstFits begun awaitedCame consecutiveFits piece grown completed afterTook took counted fillsBlock
+    nextSn share flowFits byStatus granted ticksMeant gapOf goFrame firstFrame consecutiveFrame moved afterConsecutive valueAllowed
+    changedSettings changedBerth
+changes-computed = (
+  ((λ e. tt), ((λ e. tt), ((λ e. tt), (tt, ((λ e. tt), ((λ e. tt), ((λ e. tt), (tt, ((λ e. tt), (tt, ((λ e. tt), (tt, ((λ e. tt), (tt, ((λ e. tt), (tt, ((λ e. tt), (tt, ((λ e. tt), (tt, ((λ e. tt), tt))))))))))))))))))))),
+  record { none-there = refl; none-back = refl; none-due = refl; no-gap = refl; no-flow = refl },
+  refl,
+  refl,
+  refl,
+  refl,
+)
+
+pub changed-arrived : Arrived 2 7 programme (changing (toBegun ++ fromBegun))
+changed-arrived = line-law 2 7 programme scheduler mast may-begin (toBegun ++ fromBegun) (changes-computed .0) (changes-computed .1)
+
 -- ---- the law of the gaps: berth 6 asks for 5 ms, and a frame is called for after each tick
 
 abbrev asksFive : List ℕ
@@ -234,7 +291,7 @@ pub to-six-computed : historyOf 6 scheduler toSix
     ≡ beforeGoing ++ (moment (arrives asksFive) (hears 0 Going) ∷ [] ++ (firstOfTwo ∷ replicate 6 quietTick ++ secondOfTwo ∷ []))
 unfolding
     historyOf moments own ownDone saysOf outcome done reply refusal needs firstUnmet rightStore rightCards addedAt tickedCards
-    berthAt inOrder all each settingsAllowed berthInOrder sendingInRange inBlock afterFrame afterTurn cameAt frameCame byKind kind low
+    berthAt inOrder all each berthInOrder sendingInRange inBlock afterFrame afterTurn cameAt frameCame byKind kind low
     toldBy withBerth stored tickedNode ticked ran codesOf sentBerth beginsWith passedOver leastDistance distance due reached servedNode
     handedAt handOver areaOf padded setUpNode flowFits byStatus granted ticksMeant gapOf firstFrame consecutiveFrame counted fillsBlock
     nextSn share moved afterConsecutive
@@ -277,7 +334,7 @@ right-behind = (
 -- ---- all kinds of ends on one berth: A 8, BS 0, STmin 0
 
 abbrev eight : Settings
-eight = record { area = 8; block = 0; stmin = 0 }
+eight = record { area = 8 }
 
 abbrev newPart : Part
 newPart = record { berth = fresh; incoming = replicate 8 0; outgoing = replicate 8 0; card = zeroCard }
@@ -340,7 +397,7 @@ all-ends-computed = (refl, refl)
 pub all-ends-tallied : Tallies (alone eight newPart (allEnds ++ first ∷ []) .card) (alone eight newPart (allEnds ++ first ∷ []) .berth .rx) (history eight newPart (allEnds ++ first ∷ []))
 all-ends-tallied = card-tallies eight newPart allEnds first (record { zeros = refl; idle = refl }) (all-ends-computed .0)
 
--- ---- a run of the node: eight calls after a set-up, in which berth 5 sends a message and hears a single frame, and a tick
+-- ---- a run of the node: ten calls after a set-up, in which berth 5 sends a message and hears a single frame, and a tick
 
 pub afresh-cards : (frozenAt 5 (final afresh twoRun) ≡ false)
     × (cardAt (final afresh (twoRun ++ tick ∷ []) .cards) 5
@@ -350,11 +407,11 @@ unfolding
     tickedCards berthAt inOrder all each settingsAllowed berthInOrder takingInRange sendingInRange inBlock afterFrame
     afterTurn cameAt frameCame byKind kind low heardBy toldBy ignored singleCame singleFits withBerth stored tickedNode ticked ran
     sentBerth beginsWith passedOver leastDistance distance due reached servedNode handedAt handOver areaOf singleFrame padded cardAt
-    frozen added isSingle frameAdds tickAdds turnAdds
+    frozen added isSingle frameAdds tickAdds turnAdds valueAllowed changedSettings changedBerth
 afresh-cards = (refl, refl)
 
 pub afresh-tallied : TalliesAt 5 (final afresh (twoRun ++ tick ∷ [])) (historyOf 5 afresh (twoRun ++ tick ∷ []))
-afresh-tallied = tallies-after-set-up two (two .node .settings) twoRun tick 5 (lit< tt) (afresh-computed .0) refl (afresh-cards .0)
+afresh-tallied = tallies-after-set-up two (two .node .settings) twoOwn twoRun tick 5 (lit< tt) (afresh-computed .0) refl (afresh-cards .0)
 
 -- ---- the edge where a card freezes: begun is one below the most, and no reception is under way
 
@@ -385,19 +442,19 @@ abbrev sending : ℕ → Sending
 sending left = record { length = 8; position = 6; sn = firstSn; block = 0; sent = 0; gap = 128; left = left }
 
 abbrev berthOf : Rx → ℕ → Tx → Berth
-berthOf rx last tx = record { rx = rx; last = last; tx = tx }
+berthOf rx last tx = record { settings = twoOwn; rx = rx; last = last; tx = tx }
 
 abbrev pub stuck : Held
 stuck =
     record {
       node = record {
-        settings = record { area = 8; block = 2; stmin = 0 };
+        settings = record { area = 8 };
         served = 3;
         berths =
             berthOf (Rx.OwesOverflow 999) 5 Tx.Idle ∷ berthOf (Rx.OwesGo (taking 0) 0) 0 (Tx.SingleDue 3 999)
-            ∷ berthOf (Rx.Awaits (taking 1) 400) 0 (Tx.FirstDue 8 0) ∷ berthOf Rx.Idle 8 (Tx.AwaitsFlow (sending 0) 998) ∷ fresh
-            ∷ berthOf Rx.Idle 0 (Tx.Consecutive (sending 0) 500) ∷ berthOf (Rx.Awaits (taking 0) 0) 0 (Tx.Consecutive (sending 128) 0) ∷ fresh ∷ fresh
-            ∷ fresh ∷ [];
+            ∷ berthOf (Rx.Awaits (taking 1) 400) 0 (Tx.FirstDue 8 0) ∷ berthOf Rx.Idle 8 (Tx.AwaitsFlow (sending 0) 998) ∷ freshWith twoOwn
+            ∷ berthOf Rx.Idle 0 (Tx.Consecutive (sending 0) 500) ∷ berthOf (Rx.Awaits (taking 0) 0) 0 (Tx.Consecutive (sending 128) 0)
+            ∷ replicate 3 (freshWith twoOwn);
       };
       incoming = replicate 80 1;
       outgoing = replicate 80 2;
@@ -405,7 +462,7 @@ stuck =
     }
 
 pub stuck-sound : Sound stuck
-unfolding inOrder all each settingsAllowed berthInOrder takingInRange sendingInRange inBlock
+unfolding inOrder all each berthInOrder takingInRange sendingInRange inBlock
 stuck-sound = record { order = in-order-range (stuck .node) tt; incoming = refl; outgoing = refl; ten = refl }
 
 pub stuck-free : AllComeFree stuck (answers stuck (replicate mostTime tick)) (final stuck (replicate mostTime tick))
@@ -457,7 +514,7 @@ live-computed : (answers stuck live
     × (owns 6 stuck live ≡ ticks ∷ [])
 unfolding
     owns own ownDone answers done reply outcome refusal needs firstUnmet rightStore rightCards addedAt tickedCards berthAt inOrder all each
-    settingsAllowed berthInOrder takingInRange sendingInRange inBlock afterFrame afterTurn cameAt frameCame byKind kind low heardBy singleCame
+    berthInOrder takingInRange sendingInRange inBlock afterFrame afterTurn cameAt frameCame byKind kind low heardBy singleCame
     singleFits withBerth stored tickedNode ticked ran codesOf sentBerth beginsWith passedOver leastDistance distance due reached servedNode
     handedAt handOver areaOf consecutiveFrame share padded
 live-computed = (refl, refl)
@@ -482,7 +539,7 @@ dip = send 6 (take 20 programme) ∷ turn blank ∷ frame 0x646 (0x30 ∷ 0 ∷ 
 
 dipped-time : timeLeft (clockAt sendSide 6 (final scheduler dip)) ≡ mostTime
 unfolding
-    final outcome done reply refusal needs firstUnmet rightStore rightCards addedAt tickedCards berthAt inOrder all each settingsAllowed
+    final outcome done reply refusal needs firstUnmet rightStore rightCards addedAt tickedCards berthAt inOrder all each
     berthInOrder sendingInRange inBlock afterFrame afterTurn cameAt frameCame byKind kind low toldBy withBerth stored sentBerth beginsWith
     passedOver leastDistance distance due reached servedNode handedAt handOver areaOf padded setUpNode flowFits byStatus granted
     ticksMeant gapOf firstFrame consecutiveFrame counted fillsBlock nextSn share moved afterConsecutive

@@ -10,13 +10,13 @@ use lib.ListN.{length, replicate}
 use lib.Dec.{eqb}
 use Rattle.rules.specs.Tests.{pick}
 use Rattle.rules.specs.Frames.{goFrame, counted, fillsBlock}
-use Rattle.rules.specs.declared.Settings.{Settings}
+use Rattle.rules.specs.declared.BerthSettings.{BerthSettings}
 use Rattle.rules.proofs.Cases.{Tested, holds, fails, eqb-cases, eqb-not}
 use Rattle.rules.proofs.Order.{fills-cases}
 use Rattle.laws.specs.Line.{there, back, inBlocks, exchanged, thereOf, backOf, blocks}
 use Rattle.laws.proofs.Frames.{counted-on}
 
-there-blocks : (s : Settings) (count : ℕ) (fs : List (List ℕ)) → thereOf (inBlocks s count fs) ≡ fs
+there-blocks : (s : BerthSettings) (count : ℕ) (fs : List (List ℕ)) → thereOf (inBlocks s count fs) ≡ fs
 unfolding thereOf inBlocks
 there-blocks s count [] = refl
 there-blocks s count (f ∷ []) = refl
@@ -28,7 +28,7 @@ there-blocks s count (f ∷ g ∷ fs) = go (fillsBlock (s .block) count) (there-
     go false x y = ap (λ (r : List (List ℕ)). f ∷ r) y
 
 -- what is handed over there are the frames
-pub there-exchanged : (s : Settings) (fs : List (List ℕ)) → thereOf (exchanged s fs) ≡ fs
+pub there-exchanged : (s : BerthSettings) (fs : List (List ℕ)) → thereOf (exchanged s fs) ≡ fs
 unfolding thereOf exchanged
 there-exchanged s [] = refl
 there-exchanged s (f ∷ []) = refl
@@ -44,7 +44,7 @@ quotient block t r h e = go (eqb-cases block 0)
     go (holds q z) = rw z (div-zero (t + r))
     go (fails q ne) = let l : t < block = h (omega arith) in div-eq-of-lt (omega arith)
 
-back-blocks : (s : Settings) (t : ℕ) (f : List ℕ) (fs : List (List ℕ)) → (0 < s .block → t < s .block)
+back-blocks : (s : BerthSettings) (t : ℕ) (f : List ℕ) (fs : List (List ℕ)) → (0 < s .block → t < s .block)
     → backOf (inBlocks s t (f ∷ fs)) ≡ replicate ((t + length fs) / s .block) (goFrame s)
 unfolding backOf inBlocks
 back-blocks s t f [] h = ap (λ (k : ℕ). replicate k (goFrame s)) (sym (quotient (s .block) t 0 h refl))
@@ -88,7 +88,7 @@ block-count size r c e = go (eqb-cases size 0)
         rw (some, q) (sym d)
 
 -- what is handed over back is one go for each block
-pub back-exchanged : (s : Settings) (fs : List (List ℕ)) → backOf (exchanged s fs) ≡ replicate (blocks (s .block) (length fs - 1)) (goFrame s)
+pub back-exchanged : (s : BerthSettings) (fs : List (List ℕ)) → backOf (exchanged s fs) ≡ replicate (blocks (s .block) (length fs - 1)) (goFrame s)
 unfolding backOf exchanged blocks
 back-exchanged s [] = refl
 back-exchanged s (f ∷ []) = refl

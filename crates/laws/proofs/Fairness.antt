@@ -13,7 +13,7 @@ use Rattle.rules.specs.Nodes.{berthAt, Held, withBerth}
 use Rattle.rules.specs.Ranges.{InOrder}
 use Rattle.rules.specs.Turns.{due}
 use Rattle.rules.specs.Stores.{tickedNode, servedNode, distance, passedOver, reached}
-use Rattle.rules.specs.Events.{Call, frame, tick, send, turn, show}
+use Rattle.rules.specs.Events.{Call, frame, tick, send, turn, show, change}
 use Rattle.rules.specs.Answers.{forTaker}
 use Rattle.rules.specs.Refusals.{refusal}
 use Rattle.rules.specs.Calls.{afterFrame, afterTurn, done, reply, written, bufferOf, Outcome, refusedOutcome, outcome, answers}
@@ -54,6 +54,7 @@ module _ (k : ℕ) (small : k < berthCount) where
   served-done h (send j m) e t = no-turn refl refl
   served-done h (turn buffer) e t = served-turn h buffer (in-order-range (h .node) (turn-answered h buffer e .order)) (t e)
   served-done h (show j choice) e t = no-turn refl refl
+  served-done h (change j parameter value) e t = no-turn refl refl
 
   served-step : (h : Held) (c : Call) → DueAt k h c
       → Served (h .node .served) (outcome h c .held .node .served) (turnOf (outcome h c .answer))

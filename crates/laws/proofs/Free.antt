@@ -65,10 +65,10 @@ module _ (set : Settings) where
       omega (arith, time-aged s n (partAfter set p ticks) (timely-on (p .berth) t), time-ticked s (p .berth) (t s))
 
   -- what a tick does not touch
-  last-aged : (n : ℕ) (p : Part) → aged n p .berth .last ≡ p .berth .last
+  rest-aged : (n : ℕ) (p : Part) → (aged n p .berth .settings ≡ p .berth .settings) × (aged n p .berth .last ≡ p .berth .last)
   unfolding alone partAfter stateAfter ticked
-  last-aged zero p = refl
-  last-aged (suc n) p = last-aged n (partAfter set p ticks)
+  rest-aged zero p = (refl, refl)
+  rest-aged (suc n) p = rest-aged n (partAfter set p ticks)
 
   areas-aged : (n : ℕ) (p : Part) → (aged n p .incoming ≡ p .incoming) × (aged n p .outgoing ≡ p .outgoing)
   unfolding alone partAfter stateAfter
@@ -238,14 +238,16 @@ module _ (n k : ℕ) (h : Held) (cs : List Call) (order : InOrder (h .node)) (sm
   unfolding partOf
   keeps =
       let area : areaOf (final h cs .node .settings .area) ≡ areaOf (h .node .settings .area) = ap (λ (x : Settings). areaOf (x .area)) (settings-run h cs) in
+      let (settings, last) = rest-aged (h .node .settings) n (partOf k h) in
       let (incoming, outgoing) = areas-aged (h .node .settings) n (partOf k h) in
       record {
-        last = ap (λ (p : Part). p .berth .last) part-left ∙ last-aged (h .node .settings) n (partOf k h);
+        settings = ap (λ (p : Part). p .berth .settings) part-left ∙ settings;
+        last = ap (λ (p : Part). p .berth .last) part-left ∙ last;
         incoming = ap (λ (f : ℕ → List ℕ → List ℕ). f k (final h cs .incoming)) (sym area) ∙ ap (λ (p : Part). p .incoming) part-left ∙ incoming;
         outgoing = ap (λ (f : ℕ → List ℕ → List ℕ). f k (final h cs .outgoing)) (sym area) ∙ ap (λ (p : Part). p .outgoing) part-left ∙ outgoing;
       }
 
-  -- A BERTH LEFT ALONE. Take any run of the five calls on a node in order in which the own events of berth k are n ticks, whatever the other
+  -- A BERTH LEFT ALONE. Take any run of the six calls on a node in order in which the own events of berth k are n ticks, whatever the other
   -- berths do. Each of its sides has n ticks less left, or none, and is then idle; it says its code at the tick at which its time ends and at no
   -- other.
   pub run-left-alone : LeftAlone n k h (answers h cs) (final h cs)

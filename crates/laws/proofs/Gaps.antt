@@ -14,7 +14,8 @@ use Rattle.rules.specs.Nodes.{Held}
 use Rattle.rules.specs.Frames.{gapOf}
 use Rattle.rules.specs.Ticks.{txTicked, ticked}
 use Rattle.rules.specs.Turns.{sent}
-use Rattle.rules.specs.Events.{Call, Event, arrives, ticks, sends, turns}
+use Rattle.rules.specs.Changes.{changed}
+use Rattle.rules.specs.Events.{Call, Event, arrives, ticks, sends, turns, changes}
 use Rattle.rules.specs.Alone.{Part, partOf, stateAfter, partAfter, says, AtEach}
 use Rattle.rules.specs.declared.Settings.{Settings}
 use Rattle.rules.proofs.Even.{one}
@@ -38,7 +39,8 @@ module _ (s : Settings) (p : Part) where
   paced-after g m n (arrives d) small t q = rw zero-add (frame-paced g m n s (p .berth) d t q)
   paced-after g m n ticks small t q = subst (λ (l : ℕ). Paced g m l (txTicked (p .berth .tx))) (omega arith) (tick-paced g m n (p .berth .tx) q)
   paced-after g m n (sends l) small t q = rw zero-add (begins-paced g m n (length l))
-  paced-after g m n turns small t q = rw zero-add (turn-paced g m n s (p .berth) (p .outgoing) small q)
+  paced-after g m n turns small t q = rw zero-add (turn-paced g m n (p .berth) (p .outgoing) small q)
+  paced-after g m n (changes parameter value) small t q = unfold changed in (rw zero-add q)
 
   -- Going
   paced-going : (e : Event) → T (goes (momentOf e)) → Paced (gapOf (stminIn e)) 0 0 (partAfter s p e .berth .tx)
@@ -47,6 +49,7 @@ module _ (s : Settings) (p : Part) where
   paced-going ticks t = absurd t
   paced-going (sends m) t = absurd t
   paced-going turns t = absurd t
+  paced-going (changes parameter value) t = absurd t
 
   -- a consecutive frame handed over
   paced-frame : (g m n : ℕ) (e : Event) → Served s p e → T (handsConsecutive (momentOf e)) → Paced g m n (p .berth .tx)
@@ -56,6 +59,7 @@ module _ (s : Settings) (p : Part) where
   paced-frame g m n ticks r t q = absurd t
   paced-frame g m n (sends l) r t q = absurd t
   paced-frame g m n turns r t q = consecutive-paced g m n s (p .berth) (p .outgoing) (r .small) (r .range) (r .is-due) (eqb-yes t) q
+  paced-frame g m n (changes parameter value) r t q = absurd t
 
 -- ---- moments in which none is answered Going, up to a consecutive frame that is handed over
 
@@ -116,6 +120,7 @@ module _ (s : Settings) where
       not-sent (arrives d) u r none = refl
       not-sent ticks u r none = refl
       not-sent turns u r none = refl
+      not-sent (changes parameter value) u r none = refl
       not-sent (sends m) u r none =
           let g = howMany ticksAt ms + 1 in
           let begun : Paced g g 0 (partAfter s p (sends m) .berth .tx) = unfold partAfter stateAfter sent in (begins-paced g g 0 (length m)) in
@@ -178,7 +183,7 @@ spaced s p es v f =
       time = λ interval start end times same k. ticking interval start end times (asked f) (λ some. omega (arith, enough some, same)) k;
     }
 
--- THE LAW OF THE GAPS. Take any run of the five calls, from any start, and two consecutive frames that a berth hands over in it with no frame
+-- THE LAW OF THE GAPS. Take any run of the six calls, from any start, and two consecutive frames that a berth hands over in it with no frame
 -- answered Going between them. They are of one message. If the last Going carried an STmin that paper 01 reads as n > 0 ticks, at least
 -- n + 1 ticks are answered between the two; hence n whole tick intervals pass, whatever the moment of the first tick. A node out of order
 -- hands over no frame.

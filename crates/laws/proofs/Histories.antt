@@ -12,7 +12,7 @@ use Rattle.rules.specs.Nodes.{berthAt, Held}
 use Rattle.rules.specs.Ranges.{BerthRange}
 use Rattle.rules.specs.Turns.{due}
 use Rattle.rules.specs.Stores.{passedOver, reached}
-use Rattle.rules.specs.Events.{Call, frame, tick, send, turn, show, senderOf, Event, arrives, ticks, sends, turns}
+use Rattle.rules.specs.Events.{Call, frame, tick, send, turn, show, change, senderOf, Event, arrives, ticks, sends, turns, changes}
 use Rattle.rules.specs.Refusals.{refusal}
 use Rattle.rules.specs.Calls.{outcome}
 use Rattle.rules.specs.Alone.{Part, partOf, partAfter, says, alone, saysAll, AtEach}
@@ -39,6 +39,7 @@ Served s p (arrives d) = Unit {0}
 Served s p ticks = Unit {0}
 Served s p (sends m) = Unit {0}
 Served s p turns = ServedRight s p
+Served s p (changes parameter value) = Unit {0}
 
 -- a call is one event of berth k or none
 pub own-either : (P : List Event → Type 0) (k : ℕ) (h : Held) (c : Call) → P [] → ((e : Event) → Served (h .node .settings) (partOf k h) e → P (e ∷ []))
@@ -65,6 +66,7 @@ own-either P k h c none some = go (refusal h c) refl
     its (turn buffer) e =
         pick-either P (ltb (passedOver (h .node)) berthCount && eqb (reached (h .node)) k) _ _ (λ t. some turns (turned buffer e t)) (λ t. none)
     its (show j choice) e = none
+    its (change j parameter value) e = pick-either P (eqb j k) _ _ (λ t. some (changes parameter value) tt) (λ t. none)
 
     go : (n : ℕ) → refusal h c ≡ n → P (unless n (λ m. []) (ownDone k h c))
     go zero e = its c e

@@ -15,9 +15,10 @@ use Rattle.rules.specs.Nodes.{fresh, berthAt, Held, withBerth}
 use Rattle.rules.specs.Ranges.{inOrder}
 use Rattle.rules.specs.Ticks.{codesOf}
 use Rattle.rules.specs.Turns.{sent as sentBerth}
+use Rattle.rules.specs.Changes.{changed as changedBerth}
 use Rattle.rules.specs.Stores.{tickedNode, servedNode, passedOver, reached, cameAt, handedAt}
 use Rattle.rules.specs.Answers.{receive, forTaker}
-use Rattle.rules.specs.Events.{Call, frame, tick, send, turn, show, senderOf, Event}
+use Rattle.rules.specs.Events.{Call, frame, tick, send, turn, show, change, senderOf, Event}
 use Rattle.rules.specs.Cards.{cardAt, added, addedAt, adds}
 use Rattle.rules.specs.Refusals.{refusal}
 use Rattle.rules.specs.Calls.{afterFrame, afterTurn, done, reply, written, bufferOf, refusedOutcome, outcome, answers, final}
@@ -34,7 +35,7 @@ use Rattle.rules.proofs.Areas.{area-same, area-other}
 use Rattle.rules.proofs.Ranges.{in-order-range}
 use Rattle.rules.proofs.Order.{reached-small, berth-ticked}
 use Rattle.rules.proofs.Inside.{answered-inside}
-use Rattle.rules.proofs.Answered.{FrameAnswered, frame-answered, SendAnswered, send-answered, TurnAnswered, turn-answered, TickAnswered, tick-answered}
+use Rattle.rules.proofs.Answered.{FrameAnswered, frame-answered, SendAnswered, send-answered, TurnAnswered, turn-answered, TickAnswered, tick-answered, ChangeAnswered, change-answered}
 use Rattle.laws.specs.Own.{over, ownDone, own, owns, noCodes, saysOf}
 
 -- berth k's identifier is 660 hex + k
@@ -138,12 +139,25 @@ module _ (k : ℕ) where
       go (holds u l) (fails t ne) =
           rw (u, t) (part-path (berth-other k (h .node) (reached (h .node)) (handedAt h (reached (h .node)) .berth) ne) refl refl (card-other (h .cards) (reached (h .node)) k _ ne))
 
+  part-change : (h : Held) (j parameter value : ℕ) → ChangeAnswered h j parameter value
+      → partOf k (done h (change j parameter value)) ≡ alone (h .node .settings) (partOf k h) (ownDone k h (change j parameter value))
+  unfolding partOf done withBerth berthAt alone stateAfter partAfter adds ownDone
+  part-change h j parameter value ok = go (eqb-cases j k)
+    where
+      go : Tested (eqb j k) (j ≡ k) (j ≡ k → ⊥)
+          → partOf k (done h (change j parameter value)) ≡ alone (h .node .settings) (partOf k h) (ownDone k h (change j parameter value))
+      go (holds t e) =
+          rw t (part-path (berth-same k (h .node) j (changedBerth (berthAt (h .node) j) parameter value) (ten (h .node) (ok .order)) (ok .mine) e ∙ rw e)
+          refl refl (sym (added-nothing (cardAt (h .cards) k))))
+      go (fails t ne) = rw t (part-path (berth-other k (h .node) j (changedBerth (berthAt (h .node) j) parameter value) ne) refl refl refl)
+
   pub part-done : (h : Held) (c : Call) → refusal h c ≡ 0 → partOf k (done h c) ≡ alone (h .node .settings) (partOf k h) (ownDone k h c)
   part-done h (frame id d) e = part-frame h id d e
   part-done h tick e = part-tick h (tick-answered h e)
   part-done h (send j m) e = part-send h j m (send-answered h j m e)
   part-done h (turn buffer) e = part-turn h buffer (turn-answered h buffer e)
   part-done h (show j choice) e = unfold done ownDone alone in refl
+  part-done h (change j parameter value) e = part-change h j parameter value (change-answered h j parameter value e)
 
   pub part-step : (h : Held) (c : Call) → partOf k (outcome h c .held) ≡ alone (h .node .settings) (partOf k h) (own k h c)
   unfolding outcome refusedOutcome own alone
@@ -187,6 +201,12 @@ module _ (k : ℕ) where
       go (holds u l) (holds t e) = rw (u, said-to _ _ (reached (h .node)), t, e)
       go (holds u l) (fails t ne) = rw (u, said-to _ _ (reached (h .node)), t)
   says-done h (show j choice) = refl
+  says-done h (change j parameter value) = go (eqb-cases j k)
+    where
+      go : Tested (eqb j k) (j ≡ k) (j ≡ k → ⊥)
+          → saysOf k (reply h (change j parameter value)) ≡ saysAll (h .node .settings) (partOf k h) (ownDone k h (change j parameter value))
+      go (holds t e) = rw t
+      go (fails t ne) = rw t
 
   pub says-step : (h : Held) (c : Call) → saysOf k (outcome h c .answer) ≡ saysAll (h .node .settings) (partOf k h) (own k h c)
   unfolding outcome refusedOutcome own saysAll saysOf
@@ -198,7 +218,7 @@ module _ (k : ℕ) where
       go zero = says-done h c
       go (suc n) = refl
 
--- ---- the settings stay
+-- ---- the node's own settings stay
 
 settings-done : (h : Held) (c : Call) → done h c .node .settings ≡ h .node .settings
 unfolding done afterFrame afterTurn withBerth tickedNode servedNode
@@ -212,6 +232,7 @@ settings-done h (turn buffer) = go (ltb-cases (passedOver (h .node)) berthCount)
     go (holds u l) = rw u
     go (fails u l) = rw u
 settings-done h (show j choice) = refl
+settings-done h (change j parameter value) = refl
 
 pub settings-step : (h : Held) (c : Call) → outcome h c .held .node .settings ≡ h .node .settings
 unfolding outcome refusedOutcome
@@ -248,8 +269,9 @@ unfolding alone saysAll
 says-append s p [] fs = refl
 says-append s p (e ∷ es) fs = ap (λ (r : List Says). says s p e ∷ r) (says-append s (partAfter s p e) es fs)
 
--- EACH BERTH'S STATE, AREAS AND CARD. After any run of the five calls, from any start, berth k's state, its two areas and its card are
--- those that the rules give for that berth alone: its own frames and sends, all ticks, and the turns it received; refused calls left out.
+-- EACH BERTH'S STATE, AREAS AND CARD. After any run of the six calls, from any start, berth k's state, its two areas and its card are
+-- those that the rules give for that berth alone: its own frames, sends and changes, all ticks, and the turns it received; refused calls
+-- left out.
 pub berth-alone : (k : ℕ) (h : Held) (cs : List Call)
     → partOf k (final h cs) ≡ alone (h .node .settings) (partOf k h) (owns k h cs)
 unfolding final owns alone

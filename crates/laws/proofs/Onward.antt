@@ -15,6 +15,7 @@ use Rattle.rules.specs.Ticks.{ran, rxCode, closer, txCode}
 use Rattle.rules.specs.Turns.{flowDue, messageDue, afterFlow}
 use Rattle.rules.specs.Clocks.{rxClock, txClock, timeLeft, gapLeft}
 use Rattle.rules.specs.declared.Settings.{Settings}
+use Rattle.rules.specs.declared.BerthSettings.{BerthSettings}
 use Rattle.rules.specs.declared.Taking.{Taking}
 use Rattle.rules.specs.declared.Sending.{Sending}
 use Rattle.rules.specs.declared.Rx.{Rx}
@@ -55,7 +56,7 @@ flow-whole (Rx.OwesOverflow u) t = inl refl
 flow-whole (Rx.OwesGo p u) t = inr refl
 flow-whole (Rx.Awaits p u) t = absurd t
 
-module _ (i j : ℕ) (set : Settings) (n : ℕ) (out : List ℕ) (E : List Handed) where
+module _ (i j : ℕ) (set : Settings) (n : ℕ) (out : List ℕ) (E : BerthSettings → List Handed) where
   gap-most : (l : Line) (m : ℕ) → Phase i j set n out E l m → gapLeft (txClock (l .tx)) ≤ longestGap
   gap-most l m (single-ready t last ina a b e) = omega arith
   gap-most l m (single-sent last ina g a b e) = omega arith
@@ -66,7 +67,7 @@ module _ (i j : ℕ) (set : Settings) (n : ℕ) (out : List ℕ) (E : List Hande
   gap-most l m (in-block o t q p u last ina f c h g r) = r .left-most
   gap-most l m (block-full o t q p u last ina f c h g r) = omega arith
   gap-most l m (last-sent q p u last ina f c g r) = omega arith
-  gap-most l m (arrived ina g a e) = omega arith
+  gap-most l m (arrived begun ina g a b e) = omega arith
 
   pub young-handed : (l : Line) → Young (handS i j set n out E l)
   young-handed l z = absurd (snoc-some (l .toR) _ z)
@@ -80,35 +81,35 @@ module _ (i j : ℕ) (set : Settings) (n : ℕ) (out : List ℕ) (E : List Hande
         → Whole (tookR i j set n out E l q (frameCame set (takerBerth i j set n out E l) (frameAt n out k)) .rx)
     whole-more l q p u k e r m =
         subst (λ (x : Line). Whole (x .rx)) (sym (took-more i j set n out E fit l q p u k e r m))
-        (pick-either Whole (fillsBlock (set .block) (p .taken)) _ _ (λ t. inr refl) (λ t. inr refl))
+        (pick-either Whole (fillsBlock (l .own .block) (p .taken)) _ _ (λ t. inr refl) (λ t. inr refl))
 
     whole-there : (l : Line) (m : ℕ) (d : List ℕ) (q : List (List ℕ)) → l .toR ≡ d ∷ q → Phase i j set n out E l m
         → Whole (tookR i j set n out E l q (frameCame set (takerBerth i j set n out E l) d) .rx)
     unfolding span
     whole-there l m d q z (single-ready t last ina a b e) = absurd (nil≢cons z)
-    whole-there l m d q z (single-sent last ina g a b e) =
-        rw (← (head-eq-of-cons-eq z), heard-single i j set n out E fit some in-area small a last) (unfold tookR in (inl refl))
+    whole-there l m d q z (single-sent {own = own} last ina g a b e) =
+        rw (← (head-eq-of-cons-eq z), heard-single i j set n out E fit some in-area small a own last) (unfold tookR in (inl refl))
     whole-there l m d q z (first-ready t last ina h a b c e) = absurd (nil≢cons z)
-    whole-there l m d q z (first-sent o t last ina h g a b c x e) =
-        rw (← (head-eq-of-cons-eq z), heard-first i j set n out E fit some in-area small a last) (unfold tookR in (inr refl))
+    whole-there l m d q z (first-sent {own = own} o t last ina h g a b c x e) =
+        rw (← (head-eq-of-cons-eq z), heard-first i j set n out E fit some in-area small a own last) (unfold tookR in (inr refl))
     whole-there l m d q z (go-owed o t p u last ina f h g a b c e) = absurd (nil≢cons z)
     whole-there l m d q z (go-sent o t p u last ina f h g a b c x e) = absurd (nil≢cons z)
     whole-there l m d q z (in-block o t r p u last ina f zero h g s) = absurd (nil≢cons (sym (s .queued) ∙ z))
-    whole-there l m d q z (in-block o t r p u last ina f (suc c) h g s) =
+    whole-there l m d q z (in-block {own = own} o t r p u last ina f (suc c) h g s) =
         rw (← (head-eq-of-cons-eq (sym (s .queued) ∙ z)))
-        (whole-more (under-way i j set n out E (Tx.Consecutive o t) r [] g (Rx.Awaits p u) last ina) q p u f refl (s .taker) (unfold posAt in (omega (arith, s .sender .more))))
-    whole-there l m d q z (block-full o t r p u last ina f c h g s) =
+        (whole-more (under-way i j set n out E own (Tx.Consecutive o t) r [] g (Rx.Awaits p u) last ina) q p u f refl (s .taker) (unfold posAt in (omega (arith, s .sender .more))))
+    whole-there l m d q z (block-full {own = own} o t r p u last ina f c h g s) =
         rw (← (head-eq-of-cons-eq (sym (s .queued) ∙ z)))
-        (whole-more (under-way i j set n out E (Tx.AwaitsFlow o t) r [] g (Rx.Awaits p u) last ina) q p u f refl (s .taker) (unfold posAt in (omega (arith, s .sender .more))))
-    whole-there l m d q z (last-sent r p u last ina f zero g s) =
+        (whole-more (under-way i j set n out E own (Tx.AwaitsFlow o t) r [] g (Rx.Awaits p u) last ina) q p u f refl (s .taker) (unfold posAt in (omega (arith, s .sender .more))))
+    whole-there l m d q z (last-sent {own = own} r p u last ina f zero g s) =
         rw (← (head-eq-of-cons-eq (sym (s .queued) ∙ z)))
         (subst (λ (x : Line). Whole (x .rx))
-        (sym (took-last i j set n out E fit (all-sent i j set n out E r g (Rx.Awaits p u) last ina) q p u f refl (s .taker) (unfold posAt in (omega (arith, s .ahead .last)))))
+        (sym (took-last i j set n out E fit (all-sent i j set n out E own r g (Rx.Awaits p u) last ina) q p u f refl (s .taker) (unfold posAt in (omega (arith, s .ahead .last)))))
         (inl refl))
-    whole-there l m d q z (last-sent r p u last ina f (suc c) g s) =
+    whole-there l m d q z (last-sent {own = own} r p u last ina f (suc c) g s) =
         rw (← (head-eq-of-cons-eq (sym (s .queued) ∙ z)))
-        (whole-more (all-sent i j set n out E r g (Rx.Awaits p u) last ina) q p u f refl (s .taker) (unfold posAt in (omega (arith, s .ahead .more))))
-    whole-there l m d q z (arrived ina g a e) = absurd (nil≢cons z)
+        (whole-more (all-sent i j set n out E own r g (Rx.Awaits p u) last ina) q p u f refl (s .taker) (unfold posAt in (omega (arith, s .ahead .more))))
+    whole-there l m d q z (arrived begun ina g a b e) = absurd (nil≢cons z)
 
     pub young-there : (l : Line) (m : ℕ) (d : List ℕ) (q : List (List ℕ)) → l .toR ≡ d ∷ q → Phase i j set n out E l m
         → Young (tookR i j set n out E l q (frameCame set (takerBerth i j set n out E l) d))
@@ -123,14 +124,14 @@ module _ (i j : ℕ) (set : Settings) (n : ℕ) (out : List ℕ) (E : List Hande
     young-back setS l m d q z (first-ready t last ina h a b c e) y = absurd (nil≢cons z)
     young-back setS l m d q z (first-sent o t last ina h g a b c x e) y = absurd (nil≢cons z)
     young-back setS l m d q z (go-owed o t p u last ina f h g a b c e) y = absurd (nil≢cons z)
-    young-back setS l m d q z (go-sent o t p u last ina f h g a b c x e) y =
-        let (r, s, v, left) = granted-go i j set n out E o in
-        rw (← (head-eq-of-cons-eq z), went i j set n out E setS o t)
+    young-back setS l m d q z (go-sent {own = own} o t p u last ina f h g a b c x e) y =
+        let (r, s, v, left) = granted-go i j set n out E own o in
+        rw (← (head-eq-of-cons-eq z), went i j set n out E own setS o t)
         (unfold tookS in (λ w. inr (omega (arith, awaits-lasts 0 p u (y refl)))))
     young-back setS l m d q z (in-block o t r p u last ina f c h g s) y = absurd (nil≢cons z)
     young-back setS l m d q z (block-full o t r p u last ina f c h g s) y = absurd (nil≢cons z)
     young-back setS l m d q z (last-sent r p u last ina f c g s) y = absurd (nil≢cons z)
-    young-back setS l m d q z (arrived ina g a e) y = absurd (nil≢cons z)
+    young-back setS l m d q z (arrived begun ina g a b e) y = absurd (nil≢cons z)
 
     -- ---- what to do next
 
@@ -143,11 +144,11 @@ module _ (i j : ℕ) (set : Settings) (n : ℕ) (out : List ℕ) (E : List Hande
           → Young (tickR i j set n out E (tickS i j set n out E l)) → Next l m
       at-end : l .toR ≡ [] → l .toS ≡ [] → messageDue (l .tx) ≡ false → gapLeft (txClock (l .tx)) ≡ 0 → flowDue (l .rx) ≡ false → Next l m
 
-    waits : (o : Sending) (t : ℕ) (q : List (List ℕ)) (p : Taking) (u last : ℕ) (ina : List ℕ) (k l m : ℕ) (g : List Handed) → q ≡ []
-        → (o .left ≡ 0 → ⊥) → eqb (o .left) 0 ≡ false → Young (under-way i j set n out E (Tx.Consecutive o t) q [] g (Rx.Awaits p u) last ina)
-        → (Phase i j set n out E (under-way i j set n out E (Tx.Consecutive (closer o) t) q [] g (Rx.Awaits p (u + 1)) last ina) m)
+    waits : {own : BerthSettings} (o : Sending) (t : ℕ) (q : List (List ℕ)) (p : Taking) (u last : ℕ) (ina : List ℕ) (k l m : ℕ) (g : List Handed) → q ≡ []
+        → (o .left ≡ 0 → ⊥) → eqb (o .left) 0 ≡ false → Young (under-way i j set n out E own (Tx.Consecutive o t) q [] g (Rx.Awaits p u) last ina)
+        → (Phase i j set n out E (under-way i j set n out E own (Tx.Consecutive (closer o) t) q [] g (Rx.Awaits p (u + 1)) last ina) m)
         → (m′ : ℕ) → m < m′
-        → Next (under-way i j set n out E (Tx.Consecutive o t) q [] g (Rx.Awaits p u) last ina) m′
+        → Next (under-way i j set n out E own (Tx.Consecutive o t) q [] g (Rx.Awaits p u) last ina) m′
     unfolding ran
     waits o t q p u last ina k l m g empty ne left young ph m′ less =
         let lasts = awaits-lasts (o .left) p u (young empty) in
@@ -162,10 +163,10 @@ module _ (i j : ℕ) (set : Settings) (n : ℕ) (out : List ℕ) (E : List Hande
     next l m (first-sent o t last ina h g a b c x e) y = bring-there _ _ refl
     next l m (go-owed o t p u last ina f h g a b c e) y = hand-flow tt
     next l m (go-sent o t p u last ina f h g a b c x e) y = bring-back _ _ refl
-    next l m (in-block o t q p u last ina f zero h g s) y = go (eqb-cases (o .left) 0)
+    next l m (in-block {own = own} o t q p u last ina f zero h g s) y = go (eqb-cases (o .left) 0)
       where
         go : Tested (eqb (o .left) 0) (o .left ≡ 0) (o .left ≡ 0 → ⊥)
-            → Next (under-way i j set n out E (Tx.Consecutive o t) q [] g (Rx.Awaits p u) last ina) (pace * suc h + (o .left + 0))
+            → Next (under-way i j set n out E own (Tx.Consecutive o t) q [] g (Rx.Awaits p u) last ina) (pace * suc h + (o .left + 0))
         go (holds r c) = hand-message (rw r tt)
         go (fails r c) =
             waits o t q p u last ina f h (pace * suc h + (closer o .left + 0)) g (s .queued) c r y
@@ -174,4 +175,4 @@ module _ (i j : ℕ) (set : Settings) (n : ℕ) (out : List ℕ) (E : List Hande
     next l m (in-block o t q p u last ina f (suc c) h g s) y = bring-there _ _ (s .queued)
     next l m (block-full o t q p u last ina f c h g s) y = bring-there _ _ (s .queued)
     next l m (last-sent q p u last ina f c g s) y = bring-there _ _ (s .queued)
-    next l m (arrived ina g a e) y = at-end refl refl refl refl refl
+    next l m (arrived begun ina g a b e) y = at-end refl refl refl refl refl

@@ -14,7 +14,7 @@ use Rattle.rules.specs.Nodes.{berthAt, Held}
 use Rattle.rules.specs.Ranges.{inOrder}
 use Rattle.rules.specs.Turns.{lengthSending}
 use Rattle.rules.specs.Stores.{rightStore, areaOf}
-use Rattle.rules.specs.Answers.{Answer, refused, ready, heard, codes, sent, handed, none, shown, Side, receive, send, Report, reported, failedSide, wordReports, codesReports, reports}
+use Rattle.rules.specs.Answers.{Answer, refused, ready, heard, codes, sent, handed, none, shown, changed, Side, receive, send, Report, reported, failedSide, wordReports, codesReports, reports}
 use Rattle.rules.specs.Events.{Call}
 use Rattle.rules.specs.Calls.{answers, showable, chosen, shownLength, showing}
 use Rattle.rules.specs.Alone.{Says, partOf, saysAll}
@@ -113,6 +113,7 @@ module _ (k : ℕ) where
       go (fails l u) t = rw l
   reports-of (none passed) = refl
   reports-of (shown part) = refl
+  reports-of (changed j) = pick-either (λ (xs : List Says). [] ≡ over (saidReports k) xs) (eqb j k) _ _ (λ t. refl) (λ t. refl)
 
   reports-all : (rs : List Answer) → ofBerth k (over reports rs) ≡ over (saidReports k) (over (saysOf k) rs)
   unfolding over

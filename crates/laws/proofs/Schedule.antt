@@ -22,6 +22,7 @@ use Rattle.rules.specs.Refusals.{needs, refusal}
 use Rattle.rules.specs.Calls.{afterTurn, done, outcome}
 use Rattle.rules.specs.Alone.{Part, partOf, stateAfter, partAfter, alone}
 use Rattle.rules.specs.declared.Settings.{Settings}
+use Rattle.rules.specs.declared.BerthSettings.{BerthSettings}
 use Rattle.rules.specs.declared.Rx.{Rx}
 use Rattle.rules.proofs.Cases.{Tested, holds, fails, test-cases, eqb-cases, ltb-is, is-true}
 use Rattle.rules.proofs.Ranges.{range-in-order}
@@ -32,7 +33,7 @@ use Rattle.laws.specs.Line.{Handed, World, leftA, leftB, callA, callB, c
 use Rattle.laws.proofs.Isolation.{settings-step, part-step}
 use Rattle.laws.proofs.SetUp.{sound-step}
 use Rattle.laws.proofs.Round.{some-reached, nearer}
-use Rattle.laws.proofs.Touch.{SparedBy, TurnOf, whole-heard, own-is, held-is, own-k, turn-of-side, turn-of-other, other-berth, touch-tick, none-delivered, all-met, tick-met}
+use Rattle.laws.proofs.Touch.{SparedBy, TurnOf, whole-heard, own-is, held-is, own-k, turn-of-side, turn-of-other, other-berth, touch-tick, neither-said, all-met, tick-met}
 use Rattle.laws.proofs.Line.{Line, Phase, Nearer, tickS, tickR, hands-S, hands-R, there-whole, back-whole}
 use Rattle.laws.proofs.World.{lineIn, Alive, after-A, after-B, alive-carriedA, alive-carriedB, spared-A, tick-A, turn-A, spared-B, tick-B, turn-B, took-A, took-B, outA, setB, expected, fit-a, small-b, begun-alive, line-law}
 use Rattle.laws.proofs.Onward.{Young, young-start, young-handed, young-flow, young-there, young-back, Next, bring-there, bring-back, hand-message, hand-flow, wait, at-end, next}
@@ -134,7 +135,7 @@ module _ (s : Side) (k : ℕ) (h : Held) (sound : Sound h) (small : k < berthCou
           ap (λ (p : Part). pick (sameSide s (turnSide p)) 0 berthCount) part in
           inr (other-berth k h sound small s blank met some ne, omega arith)
 
-module _ (i j : ℕ) (small-i : i < berthCount) (small-j : j < berthCount) (set : Settings) (n : ℕ) (out : List ℕ) (E : List Handed)
+module _ (i j : ℕ) (small-i : i < berthCount) (small-j : j < berthCount) (set : Settings) (n : ℕ) (out : List ℕ) (E : BerthSettings → List Handed)
     (fit : n ≤ length out) (some-bytes : 1 ≤ n) (in-area : n ≤ set .area) (small : set .area ≤ shortMost) where
   abbrev Lives : World → Type 0
   Lives w = Alive i j small-i small-j set n out E w
@@ -223,10 +224,10 @@ module _ (i j : ℕ) (small-i : i < berthCount) (small-j : j < berthCount) (set 
   onto-flow : (w : World) (s : Lives w) → Young (lineIn i j w) → T (flowDue (lineIn i j w .rx)) → Onto w (s .steps) (acts i j w (atB (turn blank)))
   unfolding acts after-B
   onto-flow w s young t =
-      let none = none-delivered j (w .b) (s .sound-b) small-j (turn blank) (free-turn j receive (w .b)) in
+      let none = neither-said j (w .b) (s .sound-b) small-j (turn blank) (free-turn j receive (w .b)) in
       ⊎-elim
       (λ x.
-      let (d, line) = turn-B i j small-i small-j set n out E w (turn blank) (s .settings-b) none x in
+      let (d, line) = turn-B i j small-i small-j set n out E w (turn blank) none x in
       let (m, h, ph) = hands-R i j set n out E (lineIn i j w) (s .steps) t (s .phase) in
       record {
         alive = after-B i j small-i small-j set n out E w (turn blank) s m (subst (λ (l : Line). Phase i j set n out E l m) (sym line) ph);
@@ -261,7 +262,7 @@ module _ (i j : ℕ) (small-i : i < berthCount) (small-j : j < berthCount) (set 
   onto-tick w s za zb near young =
       let v : World = callA i w tick in
       let (x, line-a, o) = tick-A i j small-i small-j set n out E w tick (s .kept) (touch-tick i (w .a) sendSide (tick-met (w .a) (s .sound-a .order) (s .sound-a .ten)) (code-A w za)) in
-      let none = none-delivered j (w .b) (s .sound-b) small-j tick (λ e. code-B w zb) in
+      let none = neither-said j (w .b) (s .sound-b) small-j tick (λ e. code-B w zb) in
       let (y, line-b) = tick-B i j small-i small-j set n out E (callA i w tick) tick none (touch-tick j (w .b) receive (tick-met (w .b) (s .sound-b .order) (s .sound-b .ten)) (code-B w zb)) in
       let line : lineIn i j (ticked-both w) ≡ tickR i j set n out E (tickS i j set n out E (lineIn i j w)) = line-b ∙ ap (tickR i j set n out E) line-a in
       let (m, h, ph) = near in

@@ -9,14 +9,15 @@ use lib.Seq.{length-sets}
 use lib.Dec.{ltb}
 use Rattle.rules.specs.Tests.{unless}
 use Rattle.rules.specs.Numbers.{berthCount}
-use Rattle.rules.specs.Nodes.{fresh, berthAt, Held, withNode}
+use Rattle.rules.specs.Nodes.{freshWith, fresh, berthAt, Held, withNode}
 use Rattle.rules.specs.Stores.{stored, setUpNode, passedOver, reached}
 use Rattle.rules.specs.Answers.{Answer}
-use Rattle.rules.specs.Events.{Call, frame, tick, send, turn, show, senderOf}
+use Rattle.rules.specs.Events.{Call, frame, tick, send, turn, show, change, senderOf}
 use Rattle.rules.specs.Refusals.{refusal, setUpRefusal}
 use Rattle.rules.specs.Calls.{afterFrame, afterTurn, done, reply, written, bufferOf, refusedOutcome, outcome, setUpOutcome, answers, final}
 use Rattle.rules.specs.Alone.{Part, partOf}
 use Rattle.rules.specs.declared.Settings.{Settings}
+use Rattle.rules.specs.declared.BerthSettings.{BerthSettings}
 use Rattle.rules.proofs.Cases.{pick-either}
 use Rattle.rules.proofs.Cards.{added-at-length, ticked-cards-length}
 use Rattle.rules.proofs.Ranges.{range-in-order}
@@ -39,6 +40,7 @@ lengths-done h (send k m) = (refl, simp length-sets, refl)
 lengths-done h (turn buffer) = pick-either (SameLengths h) (ltb (passedOver (h .node)) berthCount) _ _
     (λ t. (refl, refl, added-at-length (h .cards) (reached (h .node)) _)) (λ t. (refl, refl, refl))
 lengths-done h (show k choice) = (refl, refl, refl)
+lengths-done h (change k parameter value) = (refl, refl, refl)
 
 pub lengths-step : (h : Held) (c : Call) → SameLengths h (outcome h c .held)
 unfolding outcome refusedOutcome
@@ -71,27 +73,27 @@ sound-run h (c ∷ cs) s = sound-run (outcome h c .held) cs (sound-step h c s)
 
 -- ---- after a set-up
 
-set-up-held : (h : Held) (s : Settings) → setUpRefusal (s .area) (s .block) (s .stmin) ≡ 0
-    → setUp h s ≡ withNode h (setUpNode s)
+set-up-held : (h : Held) (s : Settings) (own : BerthSettings) → setUpRefusal (s .area) (own .block) (own .stmin) ≡ 0
+    → setUp h s own ≡ withNode h (setUpNode s own)
 unfolding setUpOutcome
-set-up-held h s e =
+set-up-held h s own e =
     ap (λ (n : ℕ).
     unless n (refusedOutcome h [])
-    (record { answer = Answer.ready; held = withNode h (setUpNode s); buffer = [] }) .held)
+    (record { answer = Answer.ready; held = withNode h (setUpNode s own); buffer = [] }) .held)
     e
 
-pub set-up-part : (h : Held) (s : Settings) (k : ℕ) → k < berthCount → setUpRefusal (s .area) (s .block) (s .stmin) ≡ 0
-    → partOf k (setUp h s) ≡ freshPart h s k
+pub set-up-part : (h : Held) (s : Settings) (own : BerthSettings) (k : ℕ) → k < berthCount → setUpRefusal (s .area) (own .block) (own .stmin) ≡ 0
+    → partOf k (setUp h s own) ≡ freshPart h s own k
 unfolding partOf berthAt setUpNode
-set-up-part h s k l e =
-    ap (partOf k) (set-up-held h s e)
-    ∙ part-path (getD-replicate berthCount k fresh fresh l) refl refl refl
+set-up-part h s own k l e =
+    ap (partOf k) (set-up-held h s own e)
+    ∙ part-path (getD-replicate berthCount k (freshWith own) fresh l) refl refl refl
 
-set-up-settings : (h : Held) (s : Settings) → setUpRefusal (s .area) (s .block) (s .stmin) ≡ 0 → setUp h s .node .settings ≡ s
+set-up-settings : (h : Held) (s : Settings) (own : BerthSettings) → setUpRefusal (s .area) (own .block) (own .stmin) ≡ 0 → setUp h s own .node .settings ≡ s
 unfolding setUpNode
-set-up-settings h s e = ap (λ (g : Held). g .node .settings) (set-up-held h s e)
+set-up-settings h s own e = ap (λ (g : Held). g .node .settings) (set-up-held h s own e)
 
--- EACH BERTH ALONE, in any run of the five calls from any start.
+-- EACH BERTH ALONE, in any run of the six calls from any start.
 pub each-alone : (h : Held) (cs : List Call) (k : ℕ) → k < berthCount → Alone (h .node .settings) (partOf k h) k h (owns k h cs) (answers h cs) (final h cs)
 each-alone h cs k l =
     record {
@@ -104,22 +106,22 @@ each-alone h cs k l =
           ∙ ap (λ (p : Part). partShown p choice) (berth-alone k h cs);
     }
 
--- DEMAND 3, FIRST HALF. Take any run of the five calls after a set-up that was answered, the same node, the same two stores and the same
+-- DEMAND 3, FIRST HALF. Take any run of the six calls after a set-up that was answered, the same node, the same two stores and the same
 -- list of cards throughout. Each berth's state, areas, card, words, codes, frames and reports, and what is shown of it, are those that
--- the rules give for that berth alone, fresh at the start: its own frames and sends, all ticks, and the turns it received, refused calls
--- left out.
-pub each-alone-after-set-up : (h : Held) (s : Settings) (cs : List Call) (k : ℕ) → k < berthCount
-    → setUpRefusal (s .area) (s .block) (s .stmin) ≡ 0 → Alone s (freshPart h s k) k (setUp h s) (owns k (setUp h s) cs) (answers (setUp h s) cs) (final (setUp h s) cs)
-each-alone-after-set-up h s cs k l e = rw (set-up-settings h s e, set-up-part h s k l e) at (each-alone (setUp h s) cs k l)
+-- the rules give for that berth alone, fresh at the start: its own frames, sends and changes, all ticks, and the turns it received, refused
+-- calls left out.
+pub each-alone-after-set-up : (h : Held) (s : Settings) (own : BerthSettings) (cs : List Call) (k : ℕ) → k < berthCount
+    → setUpRefusal (s .area) (own .block) (own .stmin) ≡ 0 → Alone s (freshPart h s own k) k (setUp h s own) (owns k (setUp h s own) cs) (answers (setUp h s own) cs) (final (setUp h s own) cs)
+each-alone-after-set-up h s own cs k l e = rw (set-up-settings h s own e, set-up-part h s own k l e) at (each-alone (setUp h s own) cs k l)
 
 -- after it what is lent is sound, if the stores and the list of cards have their lengths
-pub set-up-sound : (h : Held) (s : Settings) → setUpRefusal (s .area) (s .block) (s .stmin) ≡ 0
-    → length (h .incoming) ≡ berthCount * s .area → length (h .outgoing) ≡ berthCount * s .area → length (h .cards) ≡ berthCount → Sound (setUp h s)
-set-up-sound h s e i o t =
-    let a : setUp h s .node .settings .area ≡ s .area = ap (λ (x : Settings). x .area) (set-up-settings h s e) in
-    let q = set-up-held h s e in
+pub set-up-sound : (h : Held) (s : Settings) (own : BerthSettings) → setUpRefusal (s .area) (own .block) (own .stmin) ≡ 0
+    → length (h .incoming) ≡ berthCount * s .area → length (h .outgoing) ≡ berthCount * s .area → length (h .cards) ≡ berthCount → Sound (setUp h s own)
+set-up-sound h s own e i o t =
+    let a : setUp h s own .node .settings .area ≡ s .area = ap (λ (x : Settings). x .area) (set-up-settings h s own e) in
+    let q = set-up-held h s own e in
     record {
-      order = set-up-in-order h (s .area) (s .block) (s .stmin) e;
+      order = set-up-in-order h (s .area) (own .block) (own .stmin) e;
       incoming = ap (λ (g : Held). length (g .incoming)) q ∙ i ∙ ap (λ (x : ℕ). berthCount * x) (sym a);
       outgoing = ap (λ (g : Held). length (g .outgoing)) q ∙ o ∙ ap (λ (x : ℕ). berthCount * x) (sym a);
       ten = ap (λ (g : Held). length (g .cards)) q ∙ t;

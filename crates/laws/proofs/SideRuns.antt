@@ -12,7 +12,7 @@ use Rattle.rules.specs.Nodes.{Held, berthAt}
 use Rattle.rules.specs.Turns.{due}
 use Rattle.rules.specs.Stores.{passedOver, reached, handedAt}
 use Rattle.rules.specs.Answers.{Answer, Side, receive, send as sendSide}
-use Rattle.rules.specs.Events.{Call, frame, tick, send, turn, show, senderOf, Event, arrives, sends, turns}
+use Rattle.rules.specs.Events.{Call, frame, tick, send, turn, show, change, senderOf, Event, arrives, sends, turns, changes}
 use Rattle.rules.specs.Refusals.{refusal}
 use Rattle.rules.specs.Calls.{done, reply, written, bufferOf, refusedOutcome, outcome, answers, final}
 use Rattle.rules.specs.Alone.{Part, partOf, Says, hands, partAfter, says, alone, saysAll}
@@ -71,6 +71,9 @@ module _ (s : Side) (k : ℕ) where
         let c = eqb (reached (h .node)) k in
         pick-either (SaidAlike (turn buffer)) (b && c) (turns ∷ []) [] (λ t. said-turn buffer e (ltb-yes (and-left b c t)) (eqb-yes (and-right b c t))) (λ t. refl)
     said-done (show j choice) e = refl
+    said-done (change j parameter value) e =
+        pick-either (SaidAlike (change j parameter value)) (eqb j k) (changes parameter value ∷ []) []
+        (λ t. alike (sameSide s receive) _ (changes parameter value)) (λ t. refl)
 
     side-step : (c : Call) → over (saysFor s c) (saysOf k (outcome h c .answer)) ≡ sideSays s set (partOf k h) (own k h c)
     unfolding own
@@ -112,6 +115,9 @@ module _ (s : Side) (k : ℕ) where
         go (holds u l) (fails t ne) = simp (u, said-to, t)
         go (fails u l) t = rw u
     frames-done (show j choice) = refl
+    frames-done (change j parameter value) =
+        pick-either (λ (xs : List Says). [] ≡ over handedIn (over (saysFor s (change j parameter value)) xs)) (eqb j k) _ _
+        (λ t. pick-either (λ (xs : List Says). [] ≡ over handedIn (xs ++ [])) (sameSide s receive) _ _ (λ u. refl) (λ u. refl)) (λ t. refl)
 
     frames-step : (c : Call) → FramesAlike c (outcome h c .answer)
     unfolding outcome refusedOutcome

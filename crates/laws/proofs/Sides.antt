@@ -10,14 +10,15 @@ use lib.Seq.{sets}
 use lib.Dec.{eqb}
 use Rattle.rules.specs.Tests.{pick}
 use Rattle.rules.specs.Numbers.{singleKind, firstKind, consecutiveKind, flowKind, goStatus, waitStatus, overflowStatus, noData, otherKind}
-use Rattle.rules.specs.Nodes.{fresh, withTx}
+use Rattle.rules.specs.Nodes.{withTx}
 use Rattle.rules.specs.Frames.{kind, low, singleFits, announced, firstFits, flowFits}
 use Rattle.rules.specs.Arrivals.{Heard, Told, Came, ignored, singleCame, firstCame, aboveArea, turnedAway, begun, completed, took, wrongSn, consecutiveCame, byStatus, flowIgnored, flowCame, heardBy, toldBy, byKind, frameCame}
 use Rattle.rules.specs.Ticks.{ticked, rxCode, txCode}
 use Rattle.rules.specs.Turns.{flowDue, handOver, sent}
+use Rattle.rules.specs.Changes.{changed}
 use Rattle.rules.specs.Answers.{Side, receive, send, Report, reported, failedSide, wordReports}
 use Rattle.rules.specs.Cards.{zeroCard}
-use Rattle.rules.specs.Events.{Event, arrives, ticks, sends, turns}
+use Rattle.rules.specs.Events.{Event, arrives, ticks, sends, turns, changes}
 use Rattle.rules.specs.Alone.{Part, Says, hears, hands, stateAfter, partAfter, says, alone, saysAll}
 use Rattle.rules.specs.Clocks.{tickCode}
 use Rattle.rules.specs.declared.Settings.{Settings}
@@ -39,7 +40,7 @@ cameWithTx tx c =
     record { berth = withTx (c .berth) tx; old = c .old; word = c .word; place = c .place; bytes = c .bytes }
 
 pub came-receive : (set : Settings) (b : Berth) (d : List ℕ) → (kind d ≡ flowKind → ⊥)
-    → frameCame set b d ≡ cameWithTx (b .tx) (frameCame set (withTx b (fresh .tx)) d)
+    → frameCame set b d ≡ cameWithTx (b .tx) (frameCame set (withTx b Tx.Idle) d)
 unfolding frameCame byKind heardBy cameWithTx
 came-receive set b d ne =
     rw (eqb-not (kind d) flowKind ne) (go (eqb (length d) 0) (eqb (kind d) singleKind) (eqb (kind d) firstKind) (eqb (kind d) consecutiveKind))
@@ -49,10 +50,10 @@ came-receive set b d ne =
         pick t (heardBy c (ignored noData (c .rx) (c .last)))
         (pick u (heardBy c (singleCame (c .rx) (c .last) d))
         (pick v (heardBy c (firstCame set (c .rx) (c .last) d))
-        (pick w (heardBy c (consecutiveCame set (c .rx) (c .last) d))
+        (pick w (heardBy c (consecutiveCame (c .settings .block) (c .rx) (c .last) d))
         (heardBy c (ignored otherKind (c .rx) (c .last))))))
 
-    go : (t u v w : Bool) → by b t u v w ≡ cameWithTx (b .tx) (by (withTx b (fresh .tx)) t u v w)
+    go : (t u v w : Bool) → by b t u v w ≡ cameWithTx (b .tx) (by (withTx b Tx.Idle) t u v w)
     go true u v w = refl
     go false true v w = refl
     go false false true w = refl
@@ -131,10 +132,10 @@ module _ (k : ℕ) where
       (λ t. pick-either HeardAll (aboveArea set (announced d)) _ _ (λ u. no-reports receive) (λ u. no-reports receive))
       (λ t. ignored-all 3 rx last)
 
-  consecutive-all : (set : Settings) (rx : Rx) (last : ℕ) (d : List ℕ) → HeardAll (consecutiveCame set rx last d)
+  consecutive-all : (bs : ℕ) (rx : Rx) (last : ℕ) (d : List ℕ) → HeardAll (consecutiveCame bs rx last d)
   unfolding completed took wrongSn wordReports failedSide
-  consecutive-all set rx last d =
-      consecutive-either HeardAll set rx last d (λ why. ignored-all why rx last) (λ p. reported-all receive 1) (λ p. no-reports receive) (reported-all receive 5)
+  consecutive-all bs rx last d =
+      consecutive-either HeardAll bs rx last d (λ why. ignored-all why rx last) (λ p. reported-all receive 1) (λ p. no-reports receive) (reported-all receive 5)
 
   abbrev ToldAll : Told → Type 0
   ToldAll t = AllOf send (wordReports k (t .word))
@@ -166,7 +167,7 @@ module _ (k : ℕ) where
       (pick-either (CameAll receive) (eqb (length d) 0) _ _ (λ u. heard-all b _ (ignored-all 1 (b .rx) (b .last)))
       (λ u. pick-either (CameAll receive) (eqb (kind d) singleKind) _ _ (λ v. heard-all b _ (single-all (b .rx) (b .last) d))
       (λ v. pick-either (CameAll receive) (eqb (kind d) firstKind) _ _ (λ w. heard-all b _ (first-all set (b .rx) (b .last) d))
-      (λ w. pick-either (CameAll receive) (eqb (kind d) consecutiveKind) _ _ (λ x. heard-all b _ (consecutive-all set (b .rx) (b .last) d))
+      (λ w. pick-either (CameAll receive) (eqb (kind d) consecutiveKind) _ _ (λ x. heard-all b _ (consecutive-all (b .settings .block) (b .rx) (b .last) d))
       (λ x. heard-all b _ (ignored-all 2 (b .rx) (b .last)))))))
 
   frame-all : (set : Settings) (b : Berth) (d : List ℕ) → CameAll (frameSide d) (frameCame set b d)
@@ -199,6 +200,7 @@ module _ (set : Settings) where
   uncounted-after p ticks = refl
   uncounted-after p (sends m) = refl
   uncounted-after p turns = refl
+  uncounted-after p (changes parameter value) = refl
 
   uncounted-alone : (p : Part) (es : List Event) → uncounted (alone set (uncounted p) es) ≡ uncounted (alone set p es)
   unfolding alone
@@ -214,6 +216,7 @@ module _ (set : Settings) where
   uncounted-said p ticks = refl
   uncounted-said p (sends m) = refl
   uncounted-said p turns = refl
+  uncounted-said p (changes parameter value) = refl
 
   uncounted-says : (p : Part) (es : List Event) → saysAll set (uncounted p) es ≡ saysAll set p es
   unfolding saysAll
@@ -252,6 +255,8 @@ module _ (set : Settings) where
       go send true e = unfold handOver in (rw e)
       go receive false e = unfold handOver in (rw e)
       go send false e = unfold handOver in (rw e)
+  side-after receive p (changes parameter value) = unfold changed in refl
+  side-after send p (changes parameter value) = unfold changed in refl
 
   -- what the berth says of it, for that side
   side-said : (s : Side) (p : Part) (e : Event)
@@ -278,6 +283,8 @@ module _ (set : Settings) where
       go send true e = rw e
       go receive false e = rw e
       go send false e = unfold handOver in (rw e)
+  side-said receive p (changes parameter value) = refl
+  side-said send p (changes parameter value) = refl
 
   -- ---- runs
 
@@ -327,12 +334,14 @@ module _ (set : Settings) where
   side-reported k s p turns = unfold handOver turnSide in (go s (flowDue (p .berth .rx)) refl)
     where
       go : (s : Side) (b : Bool) → flowDue (p .berth .rx) ≡ b
-          → ofSide s (reported k send (handOver set (p .berth) (p .outgoing) .code))
-          ≡ over (saidReports k) (map (λ x. hands (handOver set (p .berth) (p .outgoing) .frame) (handOver set (p .berth) (p .outgoing) .code)) (pick (sameSide s (pick b receive send)) (turns ∷ []) []))
+          → ofSide s (reported k send (handOver (p .berth) (p .outgoing) .code))
+          ≡ over (saidReports k) (map (λ x. hands (handOver (p .berth) (p .outgoing) .frame) (handOver (p .berth) (p .outgoing) .code)) (pick (sameSide s (pick b receive send)) (turns ∷ []) []))
       go receive true e = unfold handOver in (rw e (unfold reported ofSide only in refl))
       go send true e = unfold handOver in (rw e (unfold reported ofSide only in refl))
-      go receive false e = reported-all k send (handOver set (p .berth) (p .outgoing) .code) receive
-      go send false e = reported-all k send (handOver set (p .berth) (p .outgoing) .code) send ∙ sym (append-nil _)
+      go receive false e = reported-all k send (handOver (p .berth) (p .outgoing) .code) receive
+      go send false e = reported-all k send (handOver (p .berth) (p .outgoing) .code) send ∙ sym (append-nil _)
+  side-reported k receive p (changes parameter value) = unfold ofSide only in refl
+  side-reported k send p (changes parameter value) = unfold ofSide only in refl
 
   side-reports-said : (k : ℕ) (s : Side) (p : Part) (es : List Event)
       → ofSide s (over (saidReports k) (saysAll set p es)) ≡ over (saidReports k) (sideSays s set p es)
@@ -365,3 +374,4 @@ module _ (set : Settings) where
       for ticks t = unfold forSide in refl
       for (sends m) t = unfold forSide in refl
       for turns t = unfold forSide in (ap (λ (x : Side). pick (sameSide s x) (turns ∷ []) []) (t refl))
+      for (changes parameter value) t = unfold forSide in refl

@@ -1,6 +1,6 @@
 -- What one call does to one side of a berth, as the answers tell it: it spares the side, or it is a tick or a turn of that side alone,
--- or a frame for it.
-use mathlib.Core.Path.{_≡_, refl, sym, ap, ap₂, _∙_}
+-- or a frame for it; or it changes the settings, which go with the receive side.
+use mathlib.Core.Path.{_≡_, refl, sym, ap, ap₂, _∙_, subst}
 use Prim.Native.Nat.{ℕ, zero, suc, _+_, _≤_, _<_}
 use native.Mathlib.Omega.{arith}
 use mathlib.Core.Bool.{Bool, true, false, not, _&&_, _||_}
@@ -19,13 +19,14 @@ use Rattle.rules.specs.Arrivals.{Heard, Told, Came, ignored, singleCame, firstC
 use Rattle.rules.specs.Turns.{flowDue, due, handOver}
 use Rattle.rules.specs.Stores.{rightStore, passedOver, reached, cameAt, handedAt}
 use Rattle.rules.specs.Answers.{Side, receive, send as sendSide, Report, reported, wordReports}
-use Rattle.rules.specs.Cards.{rightCards, zeroCard}
-use Rattle.rules.specs.Events.{Call, frame, tick, send, turn, show, senderOf, Event, arrives, ticks, sends, turns}
+use Rattle.rules.specs.Cards.{rightCards, underWay, zeroCard}
+use Rattle.rules.specs.Events.{Call, frame, tick, send, turn, show, change, senderOf, Event, arrives, ticks, sends, turns, changes}
 use Rattle.rules.specs.Refusals.{needs, refusal}
 use Rattle.rules.specs.Calls.{done, reply, refusedOutcome, outcome}
-use Rattle.rules.specs.Alone.{Part, partOf, hears, stateAfter, partAfter, says, alone, saysAll}
+use Rattle.rules.specs.Alone.{Part, partOf, Says, hears, stateAfter, partAfter, says, alone, saysAll}
 use Rattle.rules.specs.Clocks.{tickCode}
 use Rattle.rules.specs.declared.Settings.{Settings}
+use Rattle.rules.specs.declared.BerthSettings.{BerthSettings}
 use Rattle.rules.specs.declared.Rx.{Rx}
 use Rattle.rules.specs.declared.Tx.{Tx}
 use Rattle.rules.specs.declared.Berth.{Berth}
@@ -33,12 +34,13 @@ use Rattle.rules.specs.declared.Word.{Word}
 use Rattle.rules.specs.declared.Word.the-variants.{Delivered, Begun, Failed, Ignored, TooLong, Took, Going, Waiting}
 use Rattle.rules.proofs.Cases.{Tested, holds, fails, test-cases, eqb-cases, ltb-cases, eqb-is, eqb-not, ltb-is, is-true, is-false, or-cases, or-left, or-right, pick-either}
 use Rattle.rules.proofs.Ranges.{range-in-order}
+use Rattle.rules.proofs.Answered.{change-answered}
 use Rattle.rules.proofs.Round.{reached-due}
 use Rattle.rules.proofs.Facts.{frame-either, told-either, ignored-leaves, consecutive-either}
 use Rattle.rules.proofs.Handed.{dueKind, flow-kind, message-kind}
 use Rattle.laws.specs.Own.{over, only, ownDone, own, saysOf, saidReports, Sound}
 use Rattle.laws.specs.Sides.{sameSide, uncounted, sideOf, frameSide, turnSide, forSide, sideEvents, ofSide, handedIn, handedSide, framesBy}
-use Rattle.laws.specs.Line.{reportsBy, deliveredIn, isIgnored, spares, Spares}
+use Rattle.laws.specs.Line.{reportsBy, deliveredIn, begunIn, isIgnored, spares, Spares}
 use Rattle.laws.proofs.Isolation.{said-to, part-step, says-step}
 use Rattle.laws.proofs.Reports.{reports-of}
 use Rattle.laws.proofs.Sides.{cameWithTx, came-receive, came-send, side-uncounted, uncounted-side, uncounted-after, side-alone, side-reports}
@@ -79,15 +81,15 @@ first-old set rx last d =
     pick-either NoOldHeard (firstFits d) _ _
     (λ u. pick-either NoOldHeard (aboveArea set (announced d)) _ _ (λ v t. absurd t) (λ v t. absurd t)) (λ u. ignored-old 3 rx last)
 
-consecutive-old : (set : Settings) (rx : Rx) (last : ℕ) (d : List ℕ) → NoOldHeard (consecutiveCame set rx last d)
+consecutive-old : (bs : ℕ) (rx : Rx) (last : ℕ) (d : List ℕ) → NoOldHeard (consecutiveCame bs rx last d)
 unfolding completed took wrongSn
-consecutive-old set rx last d = consecutive-either NoOldHeard set rx last d (λ why. ignored-old why rx last) (λ p t. refl) (λ p t. refl) (λ t. refl)
+consecutive-old bs rx last d = consecutive-either NoOldHeard bs rx last d (λ why. ignored-old why rx last) (λ p t. refl) (λ p t. refl) (λ t. refl)
 
 frame-old : (set : Settings) (b : Berth) (d : List ℕ) → NoOld (frameCame set b d)
 unfolding heardBy toldBy
 frame-old set b d =
     frame-either NoOld set b d (λ why. ignored-old why (b .rx) (b .last)) (single-old (b .rx) (b .last) d) (first-old set (b .rx) (b .last) d)
-    (consecutive-old set (b .rx) (b .last) d) (λ t. refl)
+    (consecutive-old (b .settings .block) (b .rx) (b .last) d) (λ t. refl)
 
 frame-nothing : (b : Berth) (set : Settings) (d : List ℕ) → T (isIgnored (frameCame set b d .word))
     → (frameCame set b d .berth ≡ b) × (frameCame set b d .old ≡ 0) × (frameCame set b d .bytes ≡ [])
@@ -108,22 +110,27 @@ pub noise-spares : (s : Side) (k : ℕ) (h : Held) (id : ℕ) (d : List ℕ) →
 unfolding spares cameAt
 noise-spares s k h id d n e = or-right (not (eqb (senderOf id) k)) _ (or-left (isIgnored (cameAt h k d .word)) _ (noise-ignored (h .node .settings) (berthAt (h .node) k) d n))
 
--- no report and no Delivered in an ignored frame's answer
+-- neither a Delivered nor a Begun is said
+abbrev pub Neither : List Says → Type 0
+Neither xs = (over deliveredIn xs ≡ []) × ((any : BerthSettings) → over (begunIn any) xs ≡ [])
+
+-- no report and neither of these in an ignored frame's answer
 ignored-reports : (k : ℕ) (w : Word) → T (isIgnored w) → wordReports k w ≡ []
 unfolding wordReports
 ignored-reports k w t = rw (ignored-why w t .1)
 
-ignored-delivers : (old : ℕ) (w : Word) → T (isIgnored w) → deliveredIn (hears old w) ≡ []
-unfolding deliveredIn
-ignored-delivers old w t = rw (ignored-why w t .1)
+ignored-neither : (old : ℕ) (w : Word) → T (isIgnored w) → Neither (hears old w ∷ [])
+unfolding over deliveredIn begunIn
+ignored-neither old w t = rw (ignored-why w t .1) (refl, λ any. refl)
 
--- flow control delivers nothing
-abbrev Undelivered : Told → Type 0
-Undelivered t = (old : ℕ) → deliveredIn (hears old (t .word)) ≡ []
+-- nor in that of flow control
+abbrev NeitherTold : Told → Type 0
+NeitherTold t = (old : ℕ) → Neither (hears old (t .word) ∷ [])
 
-flow-delivers : (tx : Tx) (d : List ℕ) → Undelivered (flowCame tx d)
-unfolding flowIgnored deliveredIn
-flow-delivers tx d = told-either Undelivered tx d (λ why old. refl) (λ o old. refl) (λ o old. refl) (λ code old. refl)
+flow-neither : (tx : Tx) (d : List ℕ) → NeitherTold (flowCame tx d)
+unfolding flowIgnored over deliveredIn begunIn
+flow-neither tx d =
+    told-either NeitherTold tx d (λ why old. (refl, λ any. refl)) (λ o old. (refl, λ any. refl)) (λ o old. (refl, λ any. refl)) (λ code old. (refl, λ any. refl))
 
 -- ---- the frame handed over says whose turn it was
 
@@ -135,13 +142,13 @@ due-not-flow (Tx.AwaitsFlow o u) e = omega arith
 due-not-flow (Tx.Consecutive o u) e = omega arith
 
 pub handed-side : (set : Settings) (p : Part) → set .area ≤ shortMost → BerthRange set (p .berth) → T (due (p .berth))
-    → handedSide (handOver set (p .berth) (p .outgoing) .frame) ≡ turnSide p
+    → handedSide (handOver (p .berth) (p .outgoing) .frame) ≡ turnSide p
 unfolding handedSide turnSide handOver due
 handed-side set p a r t = go (test-cases (flowDue (p .berth .rx)))
   where
     go : Tested (flowDue (p .berth .rx)) (T (flowDue (p .berth .rx))) (T (not (flowDue (p .berth .rx))))
-        → handedSide (handOver set (p .berth) (p .outgoing) .frame) ≡ turnSide p
-    go (holds e u) = rw (e, eqb-is _ _ (flow-kind set (p .berth .rx) u))
+        → handedSide (handOver (p .berth) (p .outgoing) .frame) ≡ turnSide p
+    go (holds e u) = rw (e, eqb-is _ _ (flow-kind (p .berth .settings) (p .berth .rx) u))
     go (fails e u) = rw (e, eqb-not _ _ (λ k. due-not-flow (p .berth .tx) (sym (message-kind set (p .berth .tx) (p .outgoing) a (r .send) (rw e at t)) ∙ k)))
 
 -- ---- which frames are flow control
@@ -242,7 +249,7 @@ module _ (k : ℕ) (h : Held) where
     ap (ofSide s) (reports-of k (outcome h c .answer) ∙ ap (over (saidReports k)) (says-step k h c ∙ ap (saysAll set (partOf k h)) o) ∙ ignored-said d t),
   )
 
-  -- what a call that spares the side does to it: nothing, a tick of it, or a turn of it
+  -- what a call that spares the side does to it: nothing, a tick of it, a turn of it, or a change of its settings while no reception is under way
   pub record SparedBy (s : Side) (c : Call) : Type 0 where
     pub part : sideOf s (partOf k (outcome h c .held)) ≡ sideOf s (partOf k h)
     pub reported : reportsBy s k (outcome h c .answer) ≡ []
@@ -260,10 +267,20 @@ module _ (k : ℕ) (h : Held) where
     pub reported : reportsBy s k (outcome h c .answer) ≡ saidReports k (says set (sideOf s (partOf k h)) turns)
     pub frames : framesBy s k (outcome h c .answer) ≡ handedIn (says set (sideOf s (partOf k h)) turns)
 
+  pub record ChangeOf (s : Side) (c : Call) : Type 0 where
+    pub its : T (sameSide s receive)
+    pub free : T (not (underWay (berthAt (h .node) k .rx)))
+    pub parameter : ℕ
+    pub value : ℕ
+    pub part : sideOf s (partOf k (outcome h c .held)) ≡ stateAfter set (sideOf s (partOf k h)) (changes parameter value)
+    pub reported : reportsBy s k (outcome h c .answer) ≡ saidReports k (says set (sideOf s (partOf k h)) (changes parameter value))
+    pub frames : framesBy s k (outcome h c .answer) ≡ []
+
   pub data TouchedBy (s : Side) (c : Call) : Type 0 where
     spared : SparedBy s c → TouchedBy s c
     clocked : TickOf s c → TouchedBy s c
     turned : TurnOf s c → TouchedBy s c
+    changed : ChangeOf s c → TouchedBy s c
 
   pub own-is : (c : Call) → refusal h c ≡ 0 → own k h c ≡ ownDone k h c
   unfolding own
@@ -314,6 +331,38 @@ module _ (k : ℕ) (h : Held) where
       go : Tested (eqb j k) (j ≡ k) (j ≡ k → ⊥) → TouchedBy s (send j m)
       go (holds u q) = let (x, y) = untouched s (send j m) (sends m ∷ []) (done-as true u) (not-its (rw u at t)) in spared (record { part = x; reported = y; frames = fs })
       go (fails u q) = let (x, y) = untouched s (send j m) [] (done-as false u) (unfold sideEvents in refl) in spared (record { part = x; reported = y; frames = fs })
+
+  touch-change : (s : Side) (j parameter value : ℕ) → refusal h (change j parameter value) ≡ 0 → TouchedBy s (change j parameter value)
+  touch-change s j parameter value e = go (eqb-cases j k) (test-cases (sameSide s receive))
+    where
+      c : Call
+      c = change j parameter value
+
+      fs : framesBy s k (outcome h c .answer) ≡ []
+      fs = ap (framesBy s k) (answer-is c e) ∙ unfold reply framesBy in refl
+
+      done-as : (b : Bool) → eqb j k ≡ b → own k h c ≡ pick b (changes parameter value ∷ []) []
+      done-as b u = own-is c e ∙ unfold ownDone in (rw u)
+
+      its-as : (b : Bool) → sameSide s receive ≡ b → sideEvents s set (partOf k h) (changes parameter value ∷ []) ≡ pick b (changes parameter value ∷ []) []
+      its-as true v = unfold sideEvents forSide in (rw v)
+      its-as false v = unfold sideEvents forSide in (rw v)
+
+      go : Tested (eqb j k) (j ≡ k) (j ≡ k → ⊥) → Tested (sameSide s receive) (T (sameSide s receive)) (T (not (sameSide s receive))) → TouchedBy s c
+      go (holds u q) (holds v t) =
+          let (x, y) = touched s c (changes parameter value) (done-as true u) (its-as true v) in
+          changed (record {
+            its = t;
+            free = rw q at (change-answered h j parameter value e .free);
+            parameter = parameter;
+            value = value;
+            part = x;
+            reported = y;
+            frames = fs;
+          })
+      go (holds u q) (fails v t) =
+          let (x, y) = untouched s c (changes parameter value ∷ []) (done-as true u) (its-as false v) in spared (record { part = x; reported = y; frames = fs })
+      go (fails u q) w = let (x, y) = untouched s c [] (done-as false u) (unfold sideEvents in refl) in spared (record { part = x; reported = y; frames = fs })
 
   side-code : (s : Side) → tickCode s (sideOf s (partOf k h) .berth) ≡ tickCode s (berthAt (h .node) k)
   unfolding sideOf partOf
@@ -367,7 +416,7 @@ module _ (k : ℕ) (h : Held) where
       own-k = own-is (turn buffer) e ∙ rw (ltb-is (passedOver (h .node)) berthCount l, eqb-is (reached (h .node)) k q)
 
       frames-turn : framesBy s k (reply h (turn buffer))
-          ≡ pick (sameSide s (turnSide (partOf k h))) (handOver set (partOf k h .berth) (partOf k h .outgoing) .frame ∷ []) []
+          ≡ pick (sameSide s (turnSide (partOf k h))) (handOver (partOf k h .berth) (partOf k h .outgoing) .frame ∷ []) []
       unfolding reply framesBy handedAt partOf
       frames-turn =
           rw (
@@ -379,7 +428,7 @@ module _ (k : ℕ) (h : Held) where
           )
 
       frames-own : framesBy s k (outcome h (turn buffer) .answer)
-          ≡ pick (sameSide s (turnSide (partOf k h))) (handOver set (partOf k h .berth) (partOf k h .outgoing) .frame ∷ []) []
+          ≡ pick (sameSide s (turnSide (partOf k h))) (handOver (partOf k h .berth) (partOf k h .outgoing) .frame ∷ []) []
       frames-own = ap (framesBy s k) (answer-is (turn buffer) e) ∙ frames-turn
 
       -- it is the side's own turn, or the other side's
@@ -393,7 +442,7 @@ module _ (k : ℕ) (h : Held) where
             part = x;
             reported = y;
             frames = frames-own
-                ∙ ap (λ (b : Bool). pick b (handOver set (partOf k h .berth) (partOf k h .outgoing) .frame ∷ []) []) v
+                ∙ ap (λ (b : Bool). pick b (handOver (partOf k h .berth) (partOf k h .outgoing) .frame ∷ []) []) v
                 ∙ sym (ap handedIn (said-turn s (partOf k h) t));
           }
 
@@ -444,6 +493,7 @@ module _ (k : ℕ) (h : Held) where
     touch-answered s (show j choice) e t =
         let (x, y) = untouched s (show j choice) [] (own-is (show j choice) e ∙ unfold ownDone in refl) (unfold sideEvents in refl) in
         spared (record { part = x; reported = y; frames = ap (framesBy s k) (answer-is (show j choice) e) ∙ unfold reply framesBy in refl })
+    touch-answered s (change j parameter value) e t = touch-change s j parameter value e
 
     -- what a call that spares side s of berth k does to that side
     pub touch : (s : Side) (c : Call) → Spares s k h c → TouchedBy s c
@@ -498,48 +548,49 @@ module _ (k : ℕ) (h : Held) where
         its receive e = unfold sideEvents forSide in (rw e)
         its sendSide e = unfold sideEvents forSide in (rw e)
 
-    -- ---- the Delivereds of the receive side
+    -- ---- the Beguns and Delivereds of the receive side
 
-    delivered-own : (c : Call) (es : List Event) → own k h c ≡ es
-        → over deliveredIn (saysOf k (outcome h c .answer)) ≡ over deliveredIn (saysAll set (partOf k h) es)
-    delivered-own c es o = ap (over deliveredIn) (says-step k h c ∙ ap (saysAll set (partOf k h)) o)
+    said-own : (c : Call) (es : List Event) → own k h c ≡ es → saysOf k (outcome h c .answer) ≡ saysAll set (partOf k h) es
+    said-own c es o = says-step k h c ∙ ap (saysAll set (partOf k h)) o
 
-    pub delivered-carried : (d : List ℕ) → length d ≤ mostData → frameSide d ≡ receive
-        → over deliveredIn (saysOf k (outcome h (frame (fromBerth + k) d) .answer)) ≡ deliveredIn (says set (sideOf receive (partOf k h)) (arrives d))
+    -- what is read off a carried frame's answer is that of the side alone
+    pub said-carried : {X : Type 0} (f : Says → List X) (d : List ℕ) → length d ≤ mostData → frameSide d ≡ receive
+        → over f (saysOf k (outcome h (frame (fromBerth + k) d) .answer)) ≡ f (says set (sideOf receive (partOf k h)) (arrives d))
     unfolding saysAll over says sideOf cameWithTx
-    delivered-carried d l e =
-        delivered-own (frame (fromBerth + k) d) (arrives d ∷ []) (own-carried d l)
+    said-carried f d l e =
+        ap (over f) (said-own (frame (fromBerth + k) d) (arrives d ∷ []) (own-carried d l))
         ∙ append-nil _
-        ∙ ap (λ (c : Came). deliveredIn (hears (c .old) (c .word))) (came-receive set (partOf k h .berth) d (not-flow d e))
+        ∙ ap (λ (c : Came). f (hears (c .old) (c .word))) (came-receive set (partOf k h .berth) d (not-flow d e))
 
-    frame-delivers : (d : List ℕ) → T (isIgnored (cameAt h k d .word) || not (sameSide receive (frameSide d)))
-        → deliveredIn (says set (partOf k h) (arrives d)) ≡ []
+    frame-neither : (d : List ℕ) → T (isIgnored (cameAt h k d .word) || not (sameSide receive (frameSide d)))
+        → Neither (says set (partOf k h) (arrives d) ∷ [])
     unfolding says partOf cameAt
-    frame-delivers d t = by (or-cases (isIgnored (cameAt h k d .word)) _ t)
+    frame-neither d t = by (or-cases (isIgnored (cameAt h k d .word)) _ t)
       where
-        by : T (isIgnored (cameAt h k d .word)) ⊎ T (not (sameSide receive (frameSide d))) → deliveredIn (says set (partOf k h) (arrives d)) ≡ []
-        by (inl u) = ignored-delivers _ _ u
-        by (inr u) = rw (came-send set (berthAt (h .node) k) d (is-flow d u)) (unfold toldBy in (flow-delivers (berthAt (h .node) k .tx) d 0))
+        by : T (isIgnored (cameAt h k d .word)) ⊎ T (not (sameSide receive (frameSide d))) → Neither (says set (partOf k h) (arrives d) ∷ [])
+        by (inl u) = ignored-neither _ _ u
+        by (inr u) = rw (came-send set (berthAt (h .node) k) d (is-flow d u)) (unfold toldBy in (flow-neither (berthAt (h .node) k .tx) d 0))
 
-    delivers : (c : Call) → T (spares receive k h c) → over deliveredIn (saysAll set (partOf k h) (ownDone k h c)) ≡ []
-    unfolding ownDone saysAll over spares
-    delivers (frame id d) t = go (eqb-cases (senderOf id) k)
-      where
-        go : Tested (eqb (senderOf id) k) (senderOf id ≡ k) (senderOf id ≡ k → ⊥) → over deliveredIn (saysAll set (partOf k h) (ownDone k h (frame id d))) ≡ []
-        go (holds u e) = rw u (append-nil _ ∙ frame-delivers d (rw u at t))
-        go (fails u e) = rw u
-    delivers tick t = unfold says deliveredIn in refl
-    delivers (send j m) t =
-        pick-either (λ es. over deliveredIn (saysAll set (partOf k h) es) ≡ []) (eqb j k) (sends m ∷ []) [] (λ u. unfold says deliveredIn in refl) (λ u. refl)
-    delivers (turn buffer) t =
-        pick-either (λ es. over deliveredIn (saysAll set (partOf k h) es) ≡ []) (ltb (passedOver (h .node)) berthCount && eqb (reached (h .node)) k) (turns ∷ []) []
-        (λ u. unfold says deliveredIn in refl) (λ u. refl)
-    delivers (show j choice) t = refl
+    neither-done : (c : Call) → T (spares receive k h c) → Neither (saysAll set (partOf k h) (ownDone k h c))
+    unfolding ownDone saysAll over spares says deliveredIn begunIn
+    neither-done (frame id d) t =
+        pick-either (λ es. Neither (saysAll set (partOf k h) es)) (eqb (senderOf id) k) (arrives d ∷ []) []
+        (λ u. frame-neither d (rw (is-true (eqb (senderOf id) k) u) at t)) (λ u. (refl, λ any. refl))
+    neither-done tick t = (refl, λ any. refl)
+    neither-done (send j m) t =
+        pick-either (λ es. Neither (saysAll set (partOf k h) es)) (eqb j k) (sends m ∷ []) [] (λ u. (refl, λ any. refl)) (λ u. (refl, λ any. refl))
+    neither-done (turn buffer) t =
+        pick-either (λ es. Neither (saysAll set (partOf k h) es)) (ltb (passedOver (h .node)) berthCount && eqb (reached (h .node)) k) (turns ∷ []) []
+        (λ u. (refl, λ any. refl)) (λ u. (refl, λ any. refl))
+    neither-done (show j choice) t = (refl, λ any. refl)
+    neither-done (change j parameter value) t =
+        pick-either (λ es. Neither (saysAll set (partOf k h) es)) (eqb j k) (changes parameter value ∷ []) []
+        (λ u. (refl, λ any. refl)) (λ u. (refl, λ any. refl))
 
-    -- a call that spares the receive side delivers nothing
-    pub none-delivered : (c : Call) → Spares receive k h c → over deliveredIn (saysOf k (outcome h c .answer)) ≡ []
-    none-delivered c t = go (refusal h c) refl
+    -- a call that spares the receive side is answered with neither
+    pub neither-said : (c : Call) → Spares receive k h c → Neither (saysOf k (outcome h c .answer))
+    neither-said c t = go (refusal h c) refl
       where
-        go : (n : ℕ) → refusal h c ≡ n → over deliveredIn (saysOf k (outcome h c .answer)) ≡ []
-        go zero e = delivered-own c (ownDone k h c) (own-is c e) ∙ delivers c (t e)
-        go (suc n) e = delivered-own c [] (unfold own in (rw e)) ∙ unfold saysAll over in refl
+        go : (n : ℕ) → refusal h c ≡ n → Neither (saysOf k (outcome h c .answer))
+        go zero e = subst Neither (sym (said-own c (ownDone k h c) (own-is c e))) (neither-done c (t e))
+        go (suc n) e = subst Neither (sym (said-own c [] (unfold own in (rw e)))) (unfold saysAll over in (refl, λ any. refl))

@@ -1,31 +1,35 @@
 -- THE LINE'S LAW over two nodes. Every deed that keeps apart is, for the two sides and the line between them, nothing, a tick, a
--- hand-over or a frame that comes in; so a transfer goes from phase to phase, and at rest only the last is left.
-use mathlib.Core.Path.{_≡_, refl, sym, ap, _∙_, subst}
+-- hand-over, a change of the taker's settings while no reception is under way, or a frame that comes in; so a transfer goes from phase
+-- to phase, and at rest only the last is left.
+use mathlib.Core.Path.{_≡_, refl, sym, ap, ap₂, _∙_, subst}
 use Prim.Native.Nat.{ℕ, _+_, _-_, _≤_, _<_}
 use native.Mathlib.Omega.{arith}
 use native.Mathlib.Nat.{zero-add}
 use mathlib.Core.Bool.{true, false, not}
 use mathlib.Core.List.{List, [], _∷_, _++_, map, append-nil}
 use mathlib.Core.Logic.{⊎-elim}
-use lib.ListN.{length, take, replicate}
+use lib.ListN.{length, take}
 use lib.Seq.{sets, length-sets}
 use lib.Dec.{T}
 use mir.Facts.{yes-eqb, yes-leb, yes-ltb}
 use Rattle.rules.specs.Numbers.{berthCount, fromBerth, mostData, flowKind, shortMost}
-use Rattle.rules.specs.Nodes.{fresh, withRx, withTx, berthAt, Held}
+use Rattle.rules.specs.Nodes.{fresh, withTx, berthAt, Held}
 use Rattle.rules.specs.Ranges.{inOrder}
-use Rattle.rules.specs.Frames.{kind, goFrame, framesOf}
+use Rattle.rules.specs.Frames.{kind, framesOf}
 use Rattle.rules.specs.Arrivals.{Came, frameCame}
 use Rattle.rules.specs.Ticks.{rxTicked, rxCode, txTicked, txCode, ticked}
 use Rattle.rules.specs.Turns.{flowDue, messageDue, due, flowFrame, afterFlow, messageFrame, messageCode, afterMessage, handOver, beginsWith, sent as sentBerth, busy}
+use Rattle.rules.specs.Changes.{changed as changedBerth}
 use Rattle.rules.specs.Stores.{rightStore, areaOf}
+use Rattle.rules.specs.Cards.{underWay}
 use Rattle.rules.specs.Answers.{receive, send as sendSide, Report, reported, wordReports, reports}
-use Rattle.rules.specs.Events.{Call, frame, send, arrives, ticks, sends, turns}
+use Rattle.rules.specs.Events.{Call, frame, send, arrives, ticks, sends, turns, changes}
 use Rattle.rules.specs.Refusals.{needs, refusal, setUpRefusal}
 use Rattle.rules.specs.Calls.{refusedOutcome, outcome}
 use Rattle.rules.specs.Alone.{Part, partOf, hears, stateAfter, partAfter, says, alone}
 use Rattle.rules.specs.Clocks.{tickCode}
 use Rattle.rules.specs.declared.Settings.{Settings}
+use Rattle.rules.specs.declared.BerthSettings.{BerthSettings}
 use Rattle.rules.specs.declared.Choice.{Choice}
 use Rattle.rules.specs.declared.Rx.{Rx}
 use Rattle.rules.specs.declared.Tx.{Tx}
@@ -36,14 +40,14 @@ use Rattle.rules.proofs.Ranges.{range-in-order}
 use Rattle.rules.proofs.Facts.{set-up-refusal-leaves}
 use Rattle.laws.specs.Own.{over, only, ofBerth, ownDone, own, saysOf, saidReports, partShown, Sound}
 use Rattle.laws.specs.Sides.{sideOf, frameSide, ofSide, handedIn, framesBy}
-use Rattle.laws.specs.Line.{Handed, there, back, World, endA, endB, reportsBy, deliveredIn, leftA, leftB, callA, callB, carriedA, carriedB, Deed, atA, atB, setUpA, setUpB, carryA, carryB, acts, living, Spares, Apart, AllApart, AtRest, exchanged, thereOf, backOf, blocks, begin, MayBegin, Arrived}
+use Rattle.laws.specs.Line.{Handed, there, back, World, endA, endB, reportsBy, deliveredIn, begunIn, leftA, leftB, callA, callB, carriedA, carriedB, Deed, atA, atB, setUpA, setUpB, carryA, carryB, acts, living, Spares, Apart, AllApart, AtRest, exchanged, thereOf, backOf, begin, MayBegin, agreed, Arrived}
 use Rattle.laws.proofs.Isolation.{settings-step, part-step}
 use Rattle.laws.proofs.Reports.{berth-shown}
 use Rattle.laws.proofs.SetUp.{sound-step}
-use Rattle.laws.proofs.Touch.{SparedBy, TickOf, TurnOf, TouchedBy, spared, clocked, turned, whole-heard, touch, carry, delivered-carried, none-delivered, own-is, all-met}
+use Rattle.laws.proofs.Touch.{Neither, SparedBy, TickOf, TurnOf, ChangeOf, TouchedBy, spared, clocked, turned, changed, whole-heard, touch, carry, said-carried, neither-said, own-is, all-met}
 use Rattle.laws.proofs.Frames.{extended}
 use Rattle.laws.proofs.Exchanged.{there-exchanged, back-exchanged}
-use Rattle.laws.proofs.Line.{Line, atSender, atTaker, Phase, under-way, handS, handR, tickS, tickR, tookR, tookS, takerBerth, senderBerth, ticks-S, ticks-R, hands-S, hands-R, carries-S, carries-R, there-whole, back-whole, starts, Landed, at-rest}
+use Rattle.laws.proofs.Line.{Line, atSender, atTaker, Phase, under-way, handS, handR, tickS, tickR, changeR, tookR, tookS, takerBerth, senderBerth, ticks-S, ticks-R, changes-R, hands-S, hands-R, carries-S, carries-R, there-whole, back-whole, starts, Landed, at-rest}
 
 -- the two sides and the line between them
 unfoldable pub lineIn : (i j : ℕ) → World → Line
@@ -54,10 +58,12 @@ lineIn i j w =
       toS = w .toA;
       log = w .log;
       said = w .said;
+      own = berthAt (w .b .node) j .settings;
       rx = berthAt (w .b .node) j .rx;
       last = berthAt (w .b .node) j .last;
       ina = partOf j (w .b) .incoming;
       heard = w .heard;
+      begun = w .begun;
       delivered = w .delivered;
     }
 
@@ -65,36 +71,37 @@ lineIn i j w =
 unfoldable fromA : Line → Tx → List (List ℕ) → List Report → Line
 fromA l tx fs rs = atSender l tx (l .toR ++ fs) (l .toS) (l .log ++ map there fs) (l .said ++ rs)
 
-unfoldable fromB : Line → Rx → ℕ → List ℕ → List (List ℕ) → List Report → List ℕ → Line
-fromB l rx last ina fs rs ds =
-    atTaker l rx last ina (l .toR) (l .toS ++ fs) (l .log ++ map back fs) (l .heard ++ rs) (l .delivered ++ ds)
+unfoldable fromB : Line → BerthSettings → Rx → ℕ → List ℕ → List (List ℕ) → List Report → List BerthSettings → List ℕ → Line
+fromB l own rx last ina fs rs bs ds =
+    atTaker l own rx last ina (l .toR) (l .toS ++ fs) (l .log ++ map back fs) (l .heard ++ rs) (l .begun ++ bs) (l .delivered ++ ds)
 
 path-A : (l : Line) {tx tx′ : Tx} {fs fs′ : List (List ℕ)} {rs rs′ : List Report} → tx ≡ tx′ → fs ≡ fs′ → rs ≡ rs′ → fromA l tx fs rs ≡ fromA l tx′ fs′ rs′
 path-A l p q r = λ i. fromA l (p i) (q i) (r i)
 
-path-B : (l : Line) {rx rx′ : Rx} {last last′ : ℕ} {ina ina′ : List ℕ} {fs fs′ : List (List ℕ)} {rs rs′ : List Report} {ds ds′ : List ℕ}
-    → rx ≡ rx′ → last ≡ last′ → ina ≡ ina′ → fs ≡ fs′ → rs ≡ rs′ → ds ≡ ds′ → fromB l rx last ina fs rs ds ≡ fromB l rx′ last′ ina′ fs′ rs′ ds′
-path-B l p q r s t u = λ i. fromB l (p i) (q i) (r i) (s i) (t i) (u i)
+path-B : (l : Line) {own own′ : BerthSettings} {rx rx′ : Rx} {last last′ : ℕ} {ina ina′ : List ℕ} {fs fs′ : List (List ℕ)} {rs rs′ : List Report} {bs bs′ : List BerthSettings} {ds ds′ : List ℕ}
+    → own ≡ own′ → rx ≡ rx′ → last ≡ last′ → ina ≡ ina′ → fs ≡ fs′ → rs ≡ rs′ → bs ≡ bs′ → ds ≡ ds′
+    → fromB l own rx last ina fs rs bs ds ≡ fromB l own′ rx′ last′ ina′ fs′ rs′ bs′ ds′
+path-B l o p q r s t u v = λ i. fromB l (o i) (p i) (q i) (r i) (s i) (t i) (u i) (v i)
 
 -- no frame and no report: only the side has moved
 only-A : (l : Line) (tx : Tx) → fromA l tx [] [] ≡ atSender l tx (l .toR) (l .toS) (l .log) (l .said)
 unfolding fromA
 only-A l tx = λ i. atSender l tx (append-nil (l .toR) i) (l .toS) (append-nil (l .log) i) (append-nil (l .said) i)
 
-only-B : (l : Line) (rx : Rx) (last : ℕ) (ina : List ℕ) → fromB l rx last ina [] [] []
-    ≡ atTaker l rx last ina (l .toR) (l .toS) (l .log) (l .heard) (l .delivered)
+only-B : (l : Line) (own : BerthSettings) (rx : Rx) (last : ℕ) (ina : List ℕ) → fromB l own rx last ina [] [] [] []
+    ≡ atTaker l own rx last ina (l .toR) (l .toS) (l .log) (l .heard) (l .begun) (l .delivered)
 unfolding fromB
-only-B l rx last ina =
-    λ i. atTaker l rx last ina (l .toR) (append-nil (l .toS) i) (append-nil (l .log) i) (append-nil (l .heard) i) (append-nil (l .delivered) i)
+only-B l own rx last ina =
+    λ i. atTaker l own rx last ina (l .toR) (append-nil (l .toS) i) (append-nil (l .log) i) (append-nil (l .heard) i) (append-nil (l .begun) i) (append-nil (l .delivered) i)
 
 -- flow control, and no report
-flow-B : (l : Line) (rx : Rx) (f : List ℕ) → fromB l rx (l .last) (l .ina) (f ∷ []) [] []
-    ≡ atTaker l rx (l .last) (l .ina) (l .toR) (l .toS ++ (f ∷ [])) (l .log ++ (back f ∷ [])) (l .heard) (l .delivered)
+flow-B : (l : Line) (rx : Rx) (f : List ℕ) → fromB l (l .own) rx (l .last) (l .ina) (f ∷ []) [] [] []
+    ≡ atTaker l (l .own) rx (l .last) (l .ina) (l .toR) (l .toS ++ (f ∷ [])) (l .log ++ (back f ∷ [])) (l .heard) (l .begun) (l .delivered)
 unfolding fromB
 flow-B l rx f =
-    λ i. atTaker l rx (l .last) (l .ina) (l .toR) (l .toS ++ (f ∷ [])) (l .log ++ (back f ∷ [])) (append-nil (l .heard) i) (append-nil (l .delivered) i)
+    λ i. atTaker l (l .own) rx (l .last) (l .ina) (l .toR) (l .toS ++ (f ∷ [])) (l .log ++ (back f ∷ [])) (append-nil (l .heard) i) (append-nil (l .begun) i) (append-nil (l .delivered) i)
 
-module _ (i j : ℕ) (small-i : i < berthCount) (small-j : j < berthCount) (set : Settings) (n : ℕ) (out : List ℕ) (E : List Handed) where
+module _ (i j : ℕ) (small-i : i < berthCount) (small-j : j < berthCount) (set : Settings) (n : ℕ) (out : List ℕ) (E : BerthSettings → List Handed) where
   -- ---- what a step is for the line
 
   data StepS (l l′ : Line) : Type 0 where
@@ -106,6 +113,7 @@ module _ (i j : ℕ) (small-i : i < berthCount) (small-j : j < berthCount) (set 
     idle-R : l′ ≡ l → StepR l l′
     tick-R : rxCode (l .rx) ≡ 0 → l′ ≡ tickR i j set n out E l → StepR l l′
     hand-R : T (flowDue (l .rx)) → l′ ≡ handR i j set n out E l → StepR l l′
+    change-R : (own : BerthSettings) → T (not (underWay (l .rx))) → l′ ≡ changeR i j set n out E l own → StepR l l′
 
   -- the send side of berth i in a node
   abbrev sideA : Held → Part
@@ -120,8 +128,9 @@ module _ (i j : ℕ) (small-i : i < berthCount) (small-j : j < berthCount) (set 
   line-A w c = refl
 
   line-B : (w : World) (c : Call) → lineIn i j (callB j w c)
-      ≡ fromB (lineIn i j w) (berthAt (outcome (w .b) c .held .node) j .rx) (berthAt (outcome (w .b) c .held .node) j .last) (partOf j (outcome (w .b) c .held) .incoming)
-      (framesBy receive j (outcome (w .b) c .answer)) (reportsBy receive j (outcome (w .b) c .answer)) (over deliveredIn (saysOf j (outcome (w .b) c .answer)))
+      ≡ fromB (lineIn i j w) (berthAt (outcome (w .b) c .held .node) j .settings) (berthAt (outcome (w .b) c .held .node) j .rx) (berthAt (outcome (w .b) c .held .node) j .last) (partOf j (outcome (w .b) c .held) .incoming)
+      (framesBy receive j (outcome (w .b) c .answer)) (reportsBy receive j (outcome (w .b) c .answer))
+      (over (begunIn (berthAt (outcome (w .b) c .held .node) j .settings)) (saysOf j (outcome (w .b) c .answer))) (over deliveredIn (saysOf j (outcome (w .b) c .answer)))
   unfolding lineIn leftB fromB
   line-B w c = refl
 
@@ -131,9 +140,11 @@ module _ (i j : ℕ) (small-i : i < berthCount) (small-j : j < berthCount) (set 
   tx-of h p e = (ap (λ (q : Part). q .berth .tx) e, ap (λ (q : Part). q .outgoing) e)
 
   rx-of : (h : Held) (p : Part) → sideB h ≡ p
-      → (berthAt (h .node) j .rx ≡ p .berth .rx) × (berthAt (h .node) j .last ≡ p .berth .last) × (partOf j h .incoming ≡ p .incoming)
+      → (berthAt (h .node) j .settings ≡ p .berth .settings) × (berthAt (h .node) j .rx ≡ p .berth .rx) × (berthAt (h .node) j .last ≡ p .berth .last)
+      × (partOf j h .incoming ≡ p .incoming)
   unfolding sideOf partOf
-  rx-of h p e = (ap (λ (q : Part). q .berth .rx) e, ap (λ (q : Part). q .berth .last) e, ap (λ (q : Part). q .incoming) e)
+  rx-of h p e =
+      (ap (λ (q : Part). q .berth .settings) e, ap (λ (q : Part). q .berth .rx) e, ap (λ (q : Part). q .berth .last) e, ap (λ (q : Part). q .incoming) e)
 
   -- a tick and a turn of the send side alone
   ticked-A : (h : Held) → (stateAfter (h .node .settings) (sideA h) ticks .berth .tx ≡ txTicked (berthAt (h .node) i .tx))
@@ -190,69 +201,91 @@ module _ (i j : ℕ) (small-i : i < berthCount) (small-j : j < berthCount) (set 
   step-A w c kept (spared s) = let (e, o) = spared-A w c kept s in (idle-S e, o)
   step-A w c kept (clocked s) = let (z, e, o) = tick-A w c kept s in (tick-S z e, o)
   step-A w c kept (turned s) = let (t, e, o) = turn-A w c kept s in (hand-S t e, o)
+  step-A w c kept (changed s) = absurd (s .its)
 
   -- a tick and a turn of the receive side alone
-  ticked-B : (h : Held) → (stateAfter (h .node .settings) (sideB h) ticks .berth .rx ≡ rxTicked (berthAt (h .node) j .rx))
+  ticked-B : (h : Held) → (stateAfter (h .node .settings) (sideB h) ticks .berth .settings ≡ berthAt (h .node) j .settings)
+      × (stateAfter (h .node .settings) (sideB h) ticks .berth .rx ≡ rxTicked (berthAt (h .node) j .rx))
       × (stateAfter (h .node .settings) (sideB h) ticks .berth .last ≡ berthAt (h .node) j .last)
       × (stateAfter (h .node .settings) (sideB h) ticks .incoming ≡ partOf j h .incoming)
       × (saidReports j (says (h .node .settings) (sideB h) ticks) ≡ reported j receive (rxCode (berthAt (h .node) j .rx)) ++ [])
       × (tickCode receive (sideB h .berth) ≡ rxCode (berthAt (h .node) j .rx))
   unfolding stateAfter sideOf partOf ticked says saidReports reported
-  ticked-B h = (refl, refl, refl, refl, refl)
+  ticked-B h = (refl, refl, refl, refl, refl, refl)
 
   due-B : (h : Held) → T (due (sideB h .berth)) → flowDue (berthAt (h .node) j .rx) ≡ true
   unfolding due sideOf partOf
   due-B h t = is-true (flowDue (berthAt (h .node) j .rx)) (⊎-elim (λ u. u) (λ u. absurd u) (or-cases (flowDue (berthAt (h .node) j .rx)) false t))
 
   turned-B : (h : Held) → flowDue (berthAt (h .node) j .rx) ≡ true
-      → (stateAfter (h .node .settings) (sideB h) turns .berth .rx ≡ afterFlow (berthAt (h .node) j .rx))
+      → (stateAfter (h .node .settings) (sideB h) turns .berth .settings ≡ berthAt (h .node) j .settings)
+      × (stateAfter (h .node .settings) (sideB h) turns .berth .rx ≡ afterFlow (berthAt (h .node) j .rx))
       × (stateAfter (h .node .settings) (sideB h) turns .berth .last ≡ berthAt (h .node) j .last)
       × (stateAfter (h .node .settings) (sideB h) turns .incoming ≡ partOf j h .incoming)
       × (saidReports j (says (h .node .settings) (sideB h) turns) ≡ [])
-      × (handedIn (says (h .node .settings) (sideB h) turns) ≡ flowFrame (h .node .settings) (berthAt (h .node) j .rx) ∷ [])
+      × (handedIn (says (h .node .settings) (sideB h) turns) ≡ flowFrame (berthAt (h .node) j .settings) (berthAt (h .node) j .rx) ∷ [])
   unfolding stateAfter sideOf partOf handOver says saidReports handedIn reported
-  turned-B h e = (rw e, rw e, refl, rw e, rw e)
+  turned-B h e = (rw e, rw e, rw e, refl, rw e, rw e)
+
+  -- and a change of it
+  changed-B : (h : Held) (parameter value : ℕ) → (stateAfter (h .node .settings) (sideB h) (changes parameter value) .berth .rx ≡ berthAt (h .node) j .rx)
+      × (stateAfter (h .node .settings) (sideB h) (changes parameter value) .berth .last ≡ berthAt (h .node) j .last)
+      × (stateAfter (h .node .settings) (sideB h) (changes parameter value) .incoming ≡ partOf j h .incoming)
+      × (saidReports j (says (h .node .settings) (sideB h) (changes parameter value)) ≡ [])
+  unfolding stateAfter sideOf partOf changedBerth says saidReports
+  changed-B h parameter value = (refl, refl, refl, refl)
 
   abbrev NoneB : World → Call → Type 0
-  NoneB w c = over deliveredIn (saysOf j (outcome (w .b) c .answer)) ≡ []
+  NoneB w c = Neither (saysOf j (outcome (w .b) c .answer))
 
   pub spared-B : (w : World) (c : Call) → NoneB w c → SparedBy j (w .b) receive c → lineIn i j (callB j w c) ≡ lineIn i j w
   unfolding lineIn sideOf partOf
-  spared-B w c ds s =
-      let (rx, last, ina) = rx-of (outcome (w .b) c .held) (sideB (w .b)) (s .part) in
-      line-B w c ∙ path-B (lineIn i j w) rx last ina (s .frames) (s .reported) ds ∙ only-B (lineIn i j w) (lineIn i j w .rx) (lineIn i j w .last) (lineIn i j w .ina)
+  spared-B w c (ds, bs) s =
+      let (own, rx, last, ina) = rx-of (outcome (w .b) c .held) (sideB (w .b)) (s .part) in
+      line-B w c ∙ path-B (lineIn i j w) own rx last ina (s .frames) (s .reported) (bs _) ds
+      ∙ only-B (lineIn i j w) (lineIn i j w .own) (lineIn i j w .rx) (lineIn i j w .last) (lineIn i j w .ina)
 
   pub tick-B : (w : World) (c : Call) → NoneB w c → TickOf j (w .b) receive c
       → (rxCode (lineIn i j w .rx) ≡ 0) × (lineIn i j (callB j w c) ≡ tickR i j set n out E (lineIn i j w))
   unfolding lineIn sideOf partOf
-  tick-B w c ds s =
-      let (rx, last, ina) = rx-of (outcome (w .b) c .held) (stateAfter (w .b .node .settings) (sideB (w .b)) ticks) (s .part) in
-      let (a, b, v, r, d) = ticked-B (w .b) in
+  tick-B w c (ds, bs) s =
+      let (own, rx, last, ina) = rx-of (outcome (w .b) c .held) (stateAfter (w .b .node .settings) (sideB (w .b)) ticks) (s .part) in
+      let (z, a, b, v, r, d) = ticked-B (w .b) in
       let code : rxCode (berthAt (w .b .node) j .rx) ≡ 0 = sym d ∙ s .none in
       let none : reported j receive (rxCode (berthAt (w .b .node) j .rx)) ++ [] ≡ [] = ap (λ (m : ℕ). reported j receive m ++ []) code ∙ unfold reported in refl in (
         code,
-        line-B w c ∙ path-B (lineIn i j w) (rx ∙ a) (last ∙ b) (ina ∙ v) (s .frames) (s .reported ∙ r ∙ none) ds
-            ∙ only-B (lineIn i j w) (rxTicked (lineIn i j w .rx)) (lineIn i j w .last) (lineIn i j w .ina),
+        line-B w c ∙ path-B (lineIn i j w) (own ∙ z) (rx ∙ a) (last ∙ b) (ina ∙ v) (s .frames) (s .reported ∙ r ∙ none) (bs _) ds
+            ∙ only-B (lineIn i j w) (lineIn i j w .own) (rxTicked (lineIn i j w .rx)) (lineIn i j w .last) (lineIn i j w .ina),
       )
 
-  pub turn-B : (w : World) (c : Call) → w .b .node .settings ≡ set → NoneB w c → TurnOf j (w .b) receive c
+  pub turn-B : (w : World) (c : Call) → NoneB w c → TurnOf j (w .b) receive c
       → T (flowDue (lineIn i j w .rx)) × (lineIn i j (callB j w c) ≡ handR i j set n out E (lineIn i j w))
   unfolding lineIn sideOf partOf
-  turn-B w c same ds s =
-      let (rx, last, ina) = rx-of (outcome (w .b) c .held) (stateAfter (w .b .node .settings) (sideB (w .b)) turns) (s .part) in
+  turn-B w c (ds, bs) s =
+      let (own, rx, last, ina) = rx-of (outcome (w .b) c .held) (stateAfter (w .b .node .settings) (sideB (w .b)) turns) (s .part) in
       let e = due-B (w .b) (s .is-due) in
-      let (a, b, v, r, d) = turned-B (w .b) e in
-      let f : flowFrame (w .b .node .settings) (berthAt (w .b .node) j .rx) ∷ [] ≡ flowFrame set (berthAt (w .b .node) j .rx) ∷ [] =
-      ap (λ (x : Settings). flowFrame x (berthAt (w .b .node) j .rx) ∷ []) same in (
+      let (z, a, b, v, r, d) = turned-B (w .b) e in (
         rw e tt,
-        line-B w c ∙ path-B (lineIn i j w) (rx ∙ a) (last ∙ b) (ina ∙ v) (s .frames ∙ d ∙ f) (s .reported ∙ r) ds
-            ∙ flow-B (lineIn i j w) (afterFlow (lineIn i j w .rx)) (flowFrame set (lineIn i j w .rx)),
+        line-B w c ∙ path-B (lineIn i j w) (own ∙ z) (rx ∙ a) (last ∙ b) (ina ∙ v) (s .frames ∙ d) (s .reported ∙ r) (bs _) ds
+            ∙ flow-B (lineIn i j w) (afterFlow (lineIn i j w .rx)) (flowFrame (lineIn i j w .own) (lineIn i j w .rx)),
       )
 
-  step-B : (w : World) (c : Call) → w .b .node .settings ≡ set → NoneB w c → TouchedBy j (w .b) receive c → StepR (lineIn i j w) (lineIn i j (callB j w c))
-  step-B w c same ds (spared s) = idle-R (spared-B w c ds s)
-  step-B w c same ds (clocked s) = let (z, e) = tick-B w c ds s in tick-R z e
-  step-B w c same ds (turned s) = let (t, e) = turn-B w c same ds s in hand-R t e
+  change-B : (w : World) (c : Call) → NoneB w c → ChangeOf j (w .b) receive c
+      → T (not (underWay (lineIn i j w .rx))) × (lineIn i j (callB j w c) ≡ changeR i j set n out E (lineIn i j w) (lineIn i j (callB j w c) .own))
+  unfolding lineIn sideOf partOf leftB
+  change-B w c (ds, bs) s =
+      let (own, rx, last, ina) = rx-of (outcome (w .b) c .held) (stateAfter (w .b .node .settings) (sideB (w .b)) (changes (s .parameter) (s .value))) (s .part) in
+      let (a, b, v, r) = changed-B (w .b) (s .parameter) (s .value) in (
+        s .free,
+        line-B w c ∙ path-B (lineIn i j w) refl (rx ∙ a) (last ∙ b) (ina ∙ v) (s .frames) (s .reported ∙ r) (bs _) ds
+            ∙ only-B (lineIn i j w) (lineIn i j (callB j w c) .own) (lineIn i j w .rx) (lineIn i j w .last) (lineIn i j w .ina),
+      )
+
+  step-B : (w : World) (c : Call) → NoneB w c → TouchedBy j (w .b) receive c → StepR (lineIn i j w) (lineIn i j (callB j w c))
+  step-B w c none (spared s) = idle-R (spared-B w c none s)
+  step-B w c none (clocked s) = let (z, e) = tick-B w c none s in tick-R z e
+  step-B w c none (turned s) = let (t, e) = turn-B w c none s in hand-R t e
+  step-B w c none (changed s) = let (t, e) = change-B w c none s in change-R (lineIn i j (callB j w c) .own) t e
 
   -- ---- a frame that is carried
 
@@ -266,7 +299,7 @@ module _ (i j : ℕ) (small-i : i < berthCount) (small-j : j < berthCount) (set 
 
   -- a frame at the send side of berth i alone
   abbrev cameA : Held → List ℕ → Came
-  cameA h d = frameCame (h .node .settings) (withRx (berthAt (h .node) i) (fresh .rx) (fresh .last)) d
+  cameA h d = frameCame (h .node .settings) (withTx fresh (berthAt (h .node) i .tx)) d
 
   came-A : (h : Held) (d : List ℕ)
       → (stateAfter (h .node .settings) (sideA h) (arrives d) .berth .tx ≡ cameA h d .berth .tx)
@@ -291,7 +324,7 @@ module _ (i j : ℕ) (small-i : i < berthCount) (small-j : j < berthCount) (set 
   -- a frame at the receive side of berth j alone
   abbrev cameB : Held → List ℕ → Came
   cameB h d =
-      frameCame (h .node .settings) (withTx (berthAt (h .node) j) (fresh .tx)) d
+      frameCame (h .node .settings) (withTx (berthAt (h .node) j) Tx.Idle) d
 
   came-B : (h : Held) (d : List ℕ)
       → (stateAfter (h .node .settings) (sideB h) (arrives d) .berth ≡ cameB h d .berth)
@@ -305,13 +338,16 @@ module _ (i j : ℕ) (small-i : i < berthCount) (small-j : j < berthCount) (set 
   unfolding lineIn carriedB leftB tookR saidReports
   took-B w d q s same l ne =
       let r = carry j (w .b) s small-j receive d l (side-of-other d ne) in
-      let (rx, last, ina) = rx-of (outcome (w .b) (frame (fromBerth + j) d) .held) (stateAfter (w .b .node .settings) (sideB (w .b)) (arrives d)) (r .part) in
+      let (own, rx, last, ina) = rx-of (outcome (w .b) (frame (fromBerth + j) d) .held) (stateAfter (w .b .node .settings) (sideB (w .b)) (arrives d)) (r .part) in
       let (a, b, c) = came-B (w .b) d in
-      let ds = delivered-carried j (w .b) s small-j d l (side-of-other d ne) in
-      (λ k. atTaker (lineIn i j w) ((rx ∙ ap (λ (x : Berth). x .rx) a) k) ((last ∙ ap (λ (x : Berth). x .last) a) k) ((ina ∙ b) k) q
+      let now = berthAt (outcome (w .b) (frame (fromBerth + j) d) .held .node) j .settings in
+      let bs = said-carried j (w .b) s small-j (begunIn now) d l (side-of-other d ne) in
+      let ds = said-carried j (w .b) s small-j deliveredIn d l (side-of-other d ne) in
+      let set-is = own ∙ ap (λ (x : Berth). x .settings) a in
+      (λ k. atTaker (lineIn i j w) (set-is k) ((rx ∙ ap (λ (x : Berth). x .rx) a) k) ((last ∙ ap (λ (x : Berth). x .last) a) k) ((ina ∙ b) k) q
       ((ap (λ (fs : List (List ℕ)). w .toA ++ fs) (r .frames) ∙ append-nil (w .toA)) k)
       ((ap (λ (fs : List (List ℕ)). w .log ++ map back fs) (r .frames) ∙ append-nil (w .log)) k)
-      (w .heard ++ (r .reported ∙ ap (saidReports j) c) k) (w .delivered ++ (ds ∙ ap deliveredIn c) k))
+      (w .heard ++ (r .reported ∙ ap (saidReports j) c) k) (w .begun ++ (bs ∙ ap₂ begunIn set-is c) k) (w .delivered ++ (ds ∙ ap deliveredIn c) k))
       ∙ ap (λ (x : Settings). tookR i j set n out E (lineIn i j w) q (frameCame x (takerBerth i j set n out E (lineIn i j w)) d)) same
 
   -- ---- the two nodes stay sound, the message stays in its area, and the transfer is in one of its phases
@@ -356,6 +392,7 @@ module _ (i j : ℕ) (small-i : i < berthCount) (small-j : j < berthCount) (set 
     phased-R l l′ m (idle-R e) ph = rw e (m, ph)
     phased-R l l′ m (tick-R k e) ph = let (m′, h, ph′) = ticks-R i j set n out E l m k ph in rw e (m′, ph′)
     phased-R l l′ m (hand-R t e) ph = let (m′, h, ph′) = hands-R i j set n out E l m t ph in rw e (m′, ph′)
+    phased-R l l′ m (change-R own t e) ph = rw e (m, changes-R i j set n out E l m own t ph)
 
     alive-A : (w : World) (c : Call) → Spares sendSide i (w .a) c → Alive w → Alive (callA i w c)
     alive-A w c t s =
@@ -365,7 +402,7 @@ module _ (i j : ℕ) (small-i : i < berthCount) (small-j : j < berthCount) (set 
 
     alive-B : (w : World) (c : Call) → Spares receive j (w .b) c → Alive w → Alive (callB j w c)
     alive-B w c t s =
-        let step = step-B w c (s .settings-b) (none-delivered j (w .b) (s .sound-b) small-j c t) (touch j (w .b) (s .sound-b) small-j receive c t) in
+        let step = step-B w c (neither-said j (w .b) (s .sound-b) small-j c t) (touch j (w .b) (s .sound-b) small-j receive c t) in
         let (m, ph) = phased-R (lineIn i j w) (lineIn i j (callB j w c)) (s .steps) step (s .phase) in
         after-B w c s m ph
 
@@ -434,7 +471,7 @@ module _ (i j : ℕ) (small-i : i < berthCount) (small-j : j < berthCount) (set 
     refused-B : (w : World) (number : ℕ) → leftB j w (refusedOutcome (w .b) [] number) ≡ w
     unfolding leftB refusedOutcome framesBy reports ofBerth ofSide only over saysOf
     refused-B w number =
-        λ k. endB w (w .b) (w .toB) (append-nil (w .toA) k) (append-nil (w .log) k) (append-nil (w .heard) k) (append-nil (w .delivered) k)
+        λ k. endB w (w .b) (w .toB) (append-nil (w .toA) k) (append-nil (w .log) k) (append-nil (w .heard) k) (append-nil (w .begun) k) (append-nil (w .delivered) k)
 
     alive-acts : (w : World) (d : Deed) → Apart i j w d → Alive w → Alive (acts i j w d)
     unfolding acts
@@ -484,8 +521,11 @@ module _ (i j : ℕ) (m : List ℕ) (a b : Held) (may : MayBegin i j m a b) wher
   abbrev pub setB : Settings
   setB = b .node .settings
 
-  abbrev pub expected : List Handed
-  expected = exchanged setB (framesOf m)
+  abbrev pub expected : BerthSettings → List Handed
+  expected own = exchanged own (framesOf m)
+
+  abbrev ownB : BerthSettings
+  ownB = berthAt (b .node) j .settings
 
   idle-free : busy (berthAt (a .node) i .tx) ≡ false
   idle-free = rw (may .idle-a)
@@ -514,15 +554,16 @@ module _ (i j : ℕ) (m : List ℕ) (a b : Held) (may : MayBegin i j m a b) wher
   unfolding partOf
   room-b = omega (arith, area-length (setB .area) j (b .incoming) (may .small-j) (may .sound-b .incoming), may .fits-b)
 
-  first-line : lineIn i j (begin i m a b) ≡ under-way i j setB (length m) outA expected (beginsWith (length m)) [] [] [] Rx.Idle (berthAt (b .node) j .last) (partOf j b .incoming)
+  first-line : lineIn i j (begin i m a b) ≡ under-way i j setB (length m) outA expected ownB (beginsWith (length m)) [] [] [] Rx.Idle (berthAt (b .node) j .last) (partOf j b .incoming)
   unfolding lineIn
   first-line =
-      λ k. under-way i j setB (length m) outA expected (sent-facts .0 k) [] [] [] (may .idle-b k) (berthAt (b .node) j .last) (partOf j b .incoming)
+      λ k. atTaker (under-way i j setB (length m) outA expected ownB (sent-facts .0 k) [] [] [] Rx.Idle (berthAt (b .node) j .last) (partOf j b .incoming))
+      ownB (may .idle-b k) (berthAt (b .node) j .last) (partOf j b .incoming) [] [] [] [] [] []
 
   pub begun-alive : Alive i j (may .small-i) (may .small-j) setB (length m) outA expected (begin i m a b)
   begun-alive =
-      let (k, ph) = starts i j setB (length m) outA expected fit-a (may .some) (may .fits-b) small-b (ap (λ (x : List ℕ). exchanged setB (framesOf x)) message)
-      (berthAt (b .node) j .last) (partOf j b .incoming) room-b in
+      let (k, ph) = starts i j setB (length m) outA expected fit-a (may .some) (may .fits-b) small-b (λ own. ap (λ (x : List ℕ). exchanged own (framesOf x)) message)
+      ownB (berthAt (b .node) j .last) (partOf j b .incoming) room-b in
       record {
         sound-a = sound-step a (send i m) (may .sound-a);
         sound-b = may .sound-b;
@@ -541,14 +582,14 @@ module _ (i j : ℕ) (m : List ℕ) (a b : Held) (may : MayBegin i j m a b) wher
         bytes = bytes;
         shown = berth-shown j (w .b) Choice.Arrived (may .small-j) o (s .sound-b .incoming) (s .sound-b .outgoing)
             ∙ ap (λ (k : ℕ). take k (areaOf (w .b .node .settings .area) j (w .b .incoming))) (l .last) ∙ bytes;
+        begun = l .begun;
         delivered = l .delivered;
         last = l .last;
         sender = l .said ∙ unfold reported in refl;
         taker = l .heard ∙ unfold reported in refl;
-        handed = l .log ∙ ap (λ (x : Settings). exchanged x (framesOf m)) (sym (s .settings-b));
-        frames = ap thereOf (l .log) ∙ there-exchanged setB (framesOf m);
-        flow = ap backOf (l .log) ∙ back-exchanged setB (framesOf m)
-            ∙ ap (λ (x : Settings). replicate (blocks (x .block) (length (framesOf m) - 1)) (goFrame x)) (sym (s .settings-b));
+        handed = l .log;
+        frames = ap thereOf (l .log) ∙ there-exchanged (agreed w) (framesOf m);
+        flow = ap backOf (l .log) ∙ back-exchanged (agreed w) (framesOf m);
         idle-a = l .tx;
         idle-b = l .rx;
       }
@@ -557,7 +598,8 @@ module _ (i j : ℕ) (m : List ℕ) (a b : Held) (may : MayBegin i j m a b) wher
   -- nodes are in order, every store has its length and every list ten cards. Then any calls on both nodes, each node's own ticks too,
   -- with each frame of A's berth i carried to B's berth j and its flow control back, under the identifiers expected, once and in order.
   -- No other frame, send or set-up touches these two sides (one that is refused or ignored touches nothing), and no timer of theirs
-  -- reaches 1,000. When none is on the way and neither has one due or a gap left, the same bytes have arrived and the sender reports 1.
+  -- reaches 1,000; settings may be changed at any berth. When none is on the way and neither has one due or a gap left, the same bytes
+  -- have arrived and the sender reports 1, and the frames both ways are those of the settings that the taker had at Begun.
   pub line-law : (ds : List Deed) → AllApart i j (begin i m a b) ds → AtRest i j (living i j (begin i m a b) ds)
       → Arrived i j m (living i j (begin i m a b) ds)
   unfolding lineIn

@@ -8,9 +8,9 @@ use lib.Dec.{eqb}
 use Rattle.rules.specs.Tests.{pick}
 use Rattle.rules.specs.Numbers.{berthCount, N-OK, N-TIMEOUT-A, N-TIMEOUT-Cr, N-WRONG-SN, N-INVALID-FS, N-UNEXP-PDU, N-BUFFER-OVFLW}
 use Rattle.rules.specs.Nodes.{berthAt, Held}
-use Rattle.rules.specs.Events.{Event, arrives, ticks, sends, turns}
+use Rattle.rules.specs.Events.{Event, arrives, ticks, sends, turns, changes}
 use Rattle.rules.specs.Cards.{zeroCard, cardAt, frozen, isDelivered, isBegun, isTooLong, isFailed, isSingle, underWay}
-use Rattle.rules.specs.Alone.{Says, hears, expires, accepts, hands}
+use Rattle.rules.specs.Alone.{Says, hears, expires, accepts, hands, adopts}
 use Rattle.rules.specs.declared.Rx.{Rx}
 use Rattle.rules.specs.declared.Card.{Card}
 use Rattle.laws.specs.Histories.{Moment, wordIs, howMany}
@@ -27,6 +27,7 @@ singleFrameCame (arrives d) = isSingle d
 singleFrameCame ticks = false
 singleFrameCame (sends m) = false
 singleFrameCame turns = false
+singleFrameCame (changes parameter value) = false
 
 -- a reception begun: Begun, or a single frame's Delivered
 abbrev pub begins : Moment → Bool
@@ -42,6 +43,7 @@ expiresWith n rx (hears old w) = false
 expiresWith n rx (expires receive send) = underWay rx && eqb receive n
 expiresWith n rx accepts = false
 expiresWith n rx (hands frame code) = false
+expiresWith n rx adopts = false
 
 abbrev pub timesOut : ℕ → Moment → Bool
 timesOut n m = expiresWith n (m .before) (m .said)
@@ -56,6 +58,7 @@ oldIs n (hears old w) = eqb old n
 oldIs n (expires receive send) = false
 oldIs n accepts = false
 oldIs n (hands frame code) = false
+oldIs n adopts = false
 
 abbrev pub endsOld : Moment → Bool
 endsOld m = oldIs N-UNEXP-PDU (m .said)
@@ -70,6 +73,7 @@ handsWith n (hears old w) = false
 handsWith n (expires receive send) = false
 handsWith n accepts = false
 handsWith n (hands frame code) = eqb code n
+handsWith n adopts = false
 
 abbrev pub endsSending : Moment → Bool
 endsSending m = handsWith N-OK (m .said)
@@ -80,6 +84,7 @@ sendingFails (hears old w) = isFailed N-INVALID-FS w || isFailed N-BUFFER-OVFLW 
 sendingFails (expires receive send) = not (eqb send 0)
 sendingFails accepts = false
 sendingFails (hands frame code) = false
+sendingFails adopts = false
 
 abbrev pub failsSending : Moment → Bool
 failsSending m = sendingFails (m .said)

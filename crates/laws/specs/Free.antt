@@ -24,9 +24,10 @@ clockAt s k h = clockOf s (berthAt (h .node) k)
 abbrev pub reportsIn : Side → ℕ → List Answer → List Report
 reportsIn s k said = ofSide s (ofBerth k (over reports said))
 
--- ---- what ticks leave as it was: the last length and the two areas of berth k
+-- ---- what ticks leave as it was: the settings, the last length and the two areas of berth k
 
 pub record Keeps (k : ℕ) (h end : Held) : Type 0 where
+  pub settings : berthAt (end .node) k .settings ≡ berthAt (h .node) k .settings
   pub last : berthAt (end .node) k .last ≡ berthAt (h .node) k .last
   pub incoming : areaOf (h .node .settings .area) k (end .incoming) ≡ areaOf (h .node .settings .area) k (h .incoming)
   pub outgoing : areaOf (h .node .settings .area) k (end .outgoing) ≡ areaOf (h .node .settings .area) k (h .outgoing)
@@ -41,8 +42,8 @@ cardAfter (suc n) b card =
 -- ---- the law: after 1,128 ticks, or more
 
 -- both sides are idle; each side that was not idle has reported exactly one code, that of its state, and an idle one none; the card counts these
--- reports as they come, so that one that is not frozen has grown by exactly them, but for a code 2 after an overflow owed; last length and areas
--- stay
+-- reports as they come, so that one that is not frozen has grown by exactly them, but for a code 2 after an overflow owed; settings, last length
+-- and areas stay
 pub record ComesFree (k : ℕ) (h : Held) (said : List Answer) (end : Held) : Type 0 where
   pub idle : (s : Side) → Idle s (berthAt (end .node) k)
   pub one-code : (s : Side) → (Idle s (berthAt (h .node) k) → ⊥)
@@ -54,8 +55,8 @@ pub record ComesFree (k : ℕ) (h : Held) (said : List Answer) (end : Held) : Ty
       ≡ raised (cardAt (h .cards) k) (tickAdds (underWay (berthAt (h .node) k .rx)) (endCode (clockAt receive k h)) (endCode (clockAt send k h)))
   pub kept : Keeps k h end
 
--- where no other call comes between: none of the ticks is refused, all ten berths come free, and the settings, the berth served last and both
--- stores stay
+-- where no other call comes between: none of the ticks is refused, all ten berths come free, and A, the berth served last and both stores
+-- stay
 pub record AllComeFree (h : Held) (said : List Answer) (end : Held) : Type 0 where
   pub answered : (number : ℕ) → List·Memᴰ (refused number) said → ⊥
   pub each : (k : ℕ) → k < berthCount → ComesFree k h said end
@@ -64,11 +65,11 @@ pub record AllComeFree (h : Held) (said : List Answer) (end : Held) : Type 0 whe
   pub incoming : end .incoming ≡ h .incoming
   pub outgoing : end .outgoing ≡ h .outgoing
 
--- ---- tick by tick: after n answered ticks with no frame, send or turn of berth k's own between them
+-- ---- tick by tick: after n answered ticks with no frame, send, turn or change of berth k's own between them
 
 -- each side has n ticks less left, or none, and is idle if it had n at most; of the berth the answers say just the two codes of each tick, those of
 -- tick i + 1 at place i; so in all a side has reported its code if its time ended within the n, and nothing else; the card counts what is reported;
--- last length and areas stay
+-- settings, last length and areas stay
 pub record LeftAlone (n k : ℕ) (h : Held) (said : List Answer) (end : Held) : Type 0 where
   pub left : (s : Side) → timeLeft (clockAt s k end) ≡ timeLeft (clockAt s k h) - n
   pub idle : (s : Side) → timeLeft (clockAt s k h) ≤ n → Idle s (berthAt (end .node) k)

@@ -8,8 +8,8 @@ use lib.Dec.{T, eqb}
 use Rattle.rules.specs.Numbers.{consecutiveKind}
 use Rattle.rules.specs.Frames.{byteAt, kind, ticksMeant}
 use Rattle.rules.specs.Arrivals.{isGoing}
-use Rattle.rules.specs.Events.{Event, arrives, ticks, sends, turns}
-use Rattle.rules.specs.Alone.{Says, hears, expires, accepts, hands}
+use Rattle.rules.specs.Events.{Event, arrives, ticks, sends, turns, changes}
+use Rattle.rules.specs.Alone.{Says, hears, expires, accepts, hands, adopts}
 use Rattle.laws.specs.Histories.{Moment, wordIs, howMany}
 
 -- ---- the moments of a berth's history that the law speaks of
@@ -24,6 +24,7 @@ stminIn (arrives d) = byteAt d 2
 stminIn ticks = 0
 stminIn (sends m) = 0
 stminIn turns = 0
+stminIn (changes parameter value) = 0
 
 -- a consecutive frame is handed over
 abbrev pub isConsecutive : Says → Bool
@@ -31,6 +32,7 @@ isConsecutive (hears old w) = false
 isConsecutive (expires receive send) = false
 isConsecutive accepts = false
 isConsecutive (hands f code) = eqb (kind f) consecutiveKind
+isConsecutive adopts = false
 
 abbrev pub handsConsecutive : Moment → Bool
 handsConsecutive m = isConsecutive (m .said)
@@ -41,6 +43,7 @@ isTick (arrives d) = false
 isTick ticks = true
 isTick (sends m) = false
 isTick turns = false
+isTick (changes parameter value) = false
 
 abbrev pub ticksAt : Moment → Bool
 ticksAt m = isTick (m .event)
@@ -51,6 +54,7 @@ isSend (arrives d) = false
 isSend ticks = false
 isSend (sends m) = true
 isSend turns = false
+isSend (changes parameter value) = false
 
 abbrev pub sendsAt : Moment → Bool
 sendsAt m = isSend (m .event)

@@ -6,7 +6,7 @@ use Rattle.rules.specs.Tests.{pick}
 use Rattle.rules.specs.Nodes.{berthAt, Held}
 use Rattle.rules.specs.Events.{Call, Event}
 use Rattle.rules.specs.Calls.{outcome}
-use Rattle.rules.specs.Alone.{Part, partAfter, says, Says, hears, expires, accepts, hands}
+use Rattle.rules.specs.Alone.{Part, partAfter, says, Says, hears, expires, accepts, hands, adopts}
 use Rattle.rules.specs.declared.Settings.{Settings}
 use Rattle.rules.specs.declared.Rx.{Rx}
 use Rattle.rules.specs.declared.Word.{Word}
@@ -44,6 +44,7 @@ wordIs f (hears old w) = f w
 wordIs f (expires receive send) = false
 wordIs f accepts = false
 wordIs f (hands frame code) = false
+wordIs f adopts = false
 
 -- how many of these moments pass a test
 unfoldable pub howMany : (Moment → Bool) → List Moment → ℕ

@@ -4,21 +4,21 @@ use Prim.Native.Nat.{ℕ, _+_, _-_, _≤_, _<_}
 use mathlib.Core.Path.{_≡_}
 use mathlib.Core.Bool.{Bool, true, false, not, _||_}
 use mathlib.Core.List.{List, [], _∷_, _++_, map}
-use lib.ListN.{length, take, replicate}
-use lib.Dec.{T, eqb}
+use lib.ListN.{length, getD, take, replicate}
+use lib.Dec.{T, leb, eqb}
 use Rattle.rules.specs.Tests.{pick}
-use Rattle.rules.specs.Numbers.{berthCount, fromBerth, frameSize, N-OK}
-use Rattle.rules.specs.Nodes.{berthAt, Held}
+use Rattle.rules.specs.Numbers.{berthCount, fromBerth, frameSize, singleMost, N-OK}
+use Rattle.rules.specs.Nodes.{zeroSettings, berthAt, Held}
 use Rattle.rules.specs.Frames.{counted, fillsBlock, goFrame, roundedUp, framesOf}
 use Rattle.rules.specs.Turns.{flowDue, messageDue}
 use Rattle.rules.specs.Stores.{areaOf, cameAt}
 use Rattle.rules.specs.Answers.{Answer, Side, receive, send as sendSide, Report, reports}
-use Rattle.rules.specs.Events.{Call, frame, tick, send, turn, show, senderOf}
+use Rattle.rules.specs.Events.{Call, frame, tick, send, turn, show, change, senderOf}
 use Rattle.rules.specs.Refusals.{refusal, setUpRefusal}
 use Rattle.rules.specs.Calls.{Outcome, outcome, setUpOutcome, showing}
-use Rattle.rules.specs.Alone.{Says, hears, expires, accepts, hands}
+use Rattle.rules.specs.Alone.{Says, hears, expires, accepts, hands, adopts}
 use Rattle.rules.specs.Clocks.{Idle, txClock, gapLeft, tickCode}
-use Rattle.rules.specs.declared.Settings.{Settings}
+use Rattle.rules.specs.declared.BerthSettings.{BerthSettings}
 use Rattle.rules.specs.declared.Choice.{Choice}
 use Rattle.rules.specs.declared.Word.{Word}
 use Rattle.rules.specs.declared.Word.the-variants.{Delivered, Begun, Failed, Ignored, TooLong, Took, Going, Waiting}
@@ -33,7 +33,7 @@ pub data Handed : Type 0 where
   back : List ℕ → Handed
 
 -- the nodes with their stores and cards; the frames on the way; what was handed over, both ways, in order; what the two sides
--- reported; the lengths that the taker answered with Delivered
+-- reported; the settings that the taker had when it answered Begun, and the lengths that it answered with Delivered
 pub record World : Type 0 where
   pub a : Held
   pub b : Held
@@ -42,6 +42,7 @@ pub record World : Type 0 where
   pub log : List Handed
   pub said : List Report
   pub heard : List Report
+  pub begun : List BerthSettings
   pub delivered : List ℕ
 
 -- the reports in an answer of side s of berth k
@@ -61,16 +62,32 @@ deliveredIn (hears old Waiting) = []
 deliveredIn (expires r c) = []
 deliveredIn accepts = []
 deliveredIn (hands f c) = []
+deliveredIn adopts = []
+
+-- the settings, where it is a Begun
+unfoldable pub begunIn : BerthSettings → Says → List BerthSettings
+begunIn own (hears old (Delivered n)) = []
+begunIn own (hears old (Begun n)) = own ∷ []
+begunIn own (hears old (Failed c)) = []
+begunIn own (hears old (Ignored why)) = []
+begunIn own (hears old TooLong) = []
+begunIn own (hears old Took) = []
+begunIn own (hears old Going) = []
+begunIn own (hears old Waiting) = []
+begunIn own (expires r c) = []
+begunIn own accepts = []
+begunIn own (hands f c) = []
+begunIn own adopts = []
 
 -- the world with A's end anew, and with B's: the node with stores and cards, the frames on the way there and back, what was handed over,
--- what the side reported, and the Delivereds of the taker's. It is built here and at the beginning and nowhere else
+-- what the side reported, and the Beguns and Delivereds of the taker's. It is built here and at the beginning and nowhere else
 abbrev pub endA : World → Held → (toB toA : List (List ℕ)) → List Handed → List Report → World
 endA w held toB toA log said =
-    record { a = held; b = w .b; toB = toB; toA = toA; log = log; said = said; heard = w .heard; delivered = w .delivered }
+    record { a = held; b = w .b; toB = toB; toA = toA; log = log; said = said; heard = w .heard; begun = w .begun; delivered = w .delivered }
 
-abbrev pub endB : World → Held → (toB toA : List (List ℕ)) → List Handed → List Report → List ℕ → World
-endB w held toB toA log heard delivered =
-    record { a = w .a; b = held; toB = toB; toA = toA; log = log; said = w .said; heard = heard; delivered = delivered }
+abbrev pub endB : World → Held → (toB toA : List (List ℕ)) → List Handed → List Report → List BerthSettings → List ℕ → World
+endB w held toB toA log heard begun delivered =
+    record { a = w .a; b = held; toB = toB; toA = toA; log = log; said = w .said; heard = heard; begun = begun; delivered = delivered }
 
 -- after a call on A: the frames of berth i's message go on the way, and the send side's reports are noted
 unfoldable pub leftA : ℕ → World → Outcome → World
@@ -78,11 +95,12 @@ leftA i w o =
     endA w (o .held) (w .toB ++ framesBy sendSide i (o .answer)) (w .toA) (w .log ++ map there (framesBy sendSide i (o .answer)))
     (w .said ++ reportsBy sendSide i (o .answer))
 
--- after a call on B: the flow control of berth j goes on the way back, and the receive side's reports and Delivereds are noted
+-- after a call on B: the flow control of berth j goes on the way back, and the receive side's reports, Beguns and Delivereds are noted
 unfoldable pub leftB : ℕ → World → Outcome → World
 leftB j w o =
     endB w (o .held) (w .toB) (w .toA ++ framesBy receive j (o .answer)) (w .log ++ map back (framesBy receive j (o .answer)))
-    (w .heard ++ reportsBy receive j (o .answer)) (w .delivered ++ over deliveredIn (saysOf j (o .answer)))
+    (w .heard ++ reportsBy receive j (o .answer))
+    (w .begun ++ over (begunIn (berthAt (o .held .node) j .settings)) (saysOf j (o .answer))) (w .delivered ++ over deliveredIn (saysOf j (o .answer)))
 
 abbrev pub callA : ℕ → World → Call → World
 callA i w c = leftA i w (outcome (w .a) c)
@@ -95,7 +113,7 @@ abbrev pub stillToA : World → List (List ℕ) → World
 stillToA w q = endA w (w .a) (w .toB) q (w .log) (w .said)
 
 abbrev pub stillToB : World → List (List ℕ) → World
-stillToB w q = endB w (w .b) q (w .toA) (w .log) (w .heard) (w .delivered)
+stillToB w q = endB w (w .b) q (w .toA) (w .log) (w .heard) (w .begun) (w .delivered)
 
 -- the first frame on the way comes in under the identifier that is expected there; with none on the way nothing happens
 unfoldable pub carriedA : ℕ → World → List (List ℕ) → World
@@ -137,13 +155,15 @@ isIgnored Going = false
 isIgnored Waiting = false
 
 -- an answered call spares side s of berth k: a frame is another berth's, or ignored, or for the other side; a send is to another
--- berth or s is the receive side; a tick ends no timer of s. Turns and shows are free.
+-- berth or s is the receive side; a tick ends no timer of s. Turns and shows are free, and so are changes: one at the taker's berth is
+-- refused from Begun to Delivered.
 unfoldable pub spares : Side → ℕ → Held → Call → Bool
 spares s k h (frame id d) = not (eqb (senderOf id) k) || (isIgnored (cameAt h k d .word) || not (sameSide s (frameSide d)))
 spares s k h tick = eqb (tickCode s (berthAt (h .node) k)) 0
 spares s k h (send j m) = not (eqb j k) || not (sameSide s sendSide)
 spares s k h (turn buffer) = true
 spares s k h (show j choice) = true
+spares s k h (change j parameter value) = true
 
 -- a refused call spares every side
 abbrev pub Spares : Side → ℕ → Held → Call → Type 0
@@ -173,14 +193,14 @@ pub record AtRest (i j : ℕ) (w : World) : Type 0 where
 
 -- ---- what is handed over both ways: one go after the first frame, and one after each full block with frames still to come
 
-unfoldable pub inBlocks : Settings → ℕ → List (List ℕ) → List Handed
+unfoldable pub inBlocks : BerthSettings → ℕ → List (List ℕ) → List Handed
 inBlocks s n [] = []
 inBlocks s n (f ∷ []) = there f ∷ []
 inBlocks s n (f ∷ g ∷ fs) =
     there f
     ∷ pick (fillsBlock (s .block) n) (back (goFrame s) ∷ inBlocks s 0 (g ∷ fs)) (inBlocks s (counted (s .block) n) (g ∷ fs))
 
-unfoldable pub exchanged : Settings → List (List ℕ) → List Handed
+unfoldable pub exchanged : BerthSettings → List (List ℕ) → List Handed
 exchanged s [] = []
 exchanged s (f ∷ []) = there f ∷ []
 exchanged s (f ∷ g ∷ fs) = there f ∷ back (goFrame s) ∷ inBlocks s 0 (g ∷ fs)
@@ -205,7 +225,7 @@ blocks size count = pick (eqb count 0) 0 (pick (eqb size 0) 1 (roundedUp count s
 
 -- nothing is on the way and nothing was handed over or reported
 abbrev pub quiet : Held → Held → World
-quiet a b = record { a = a; b = b; toB = []; toA = []; log = []; said = []; heard = []; delivered = [] }
+quiet a b = record { a = a; b = b; toB = []; toA = []; log = []; said = []; heard = []; begun = []; delivered = [] }
 
 -- node A has taken the message for berth i
 abbrev pub begin : ℕ → List ℕ → Held → Held → World
@@ -224,19 +244,25 @@ pub record MayBegin (i j : ℕ) (m : List ℕ) (a b : Held) : Type 0 where
   pub fits-a : length m ≤ a .node .settings .area
   pub fits-b : length m ≤ b .node .settings .area
 
--- the same bytes have arrived in the taker's area and are shown; Delivered was answered once, with the length, and is the last length;
--- the sender has reported one code, 1, and so has the taker; the frames handed over both ways, in order; the frames there are
--- those of the message, and those back one go for each block; both sides are idle again
+-- the settings that the taker had when it answered Begun; a message in one frame has none, and no flow control
+abbrev pub agreed : World → BerthSettings
+agreed w = getD (w .begun) 0 zeroSettings
+
+-- the same bytes have arrived in the taker's area and are shown; Begun was answered once, or never for a message in one frame, and
+-- Delivered once, with the length, which is the last length; the sender has reported one code, 1, and so has the taker; the frames handed
+-- over both ways, in order, are those of the settings that the taker had at Begun; the frames there are those of the message, and those back
+-- one go for each block; both sides are idle again
 pub record Arrived (i j : ℕ) (m : List ℕ) (w : World) : Type 0 where
   pub bytes : take (length m) (areaOf (w .b .node .settings .area) j (w .b .incoming)) ≡ m
   pub shown : showing (w .b) j Choice.Arrived ≡ m
+  pub begun : length (w .begun) ≡ pick (leb (length m) singleMost) 0 1
   pub delivered : w .delivered ≡ length m ∷ []
   pub last : berthAt (w .b .node) j .last ≡ length m
   pub sender : w .said ≡ record { berth = i; side = sendSide; code = N-OK } ∷ []
   pub taker : w .heard ≡ record { berth = j; side = receive; code = N-OK } ∷ []
-  pub handed : w .log ≡ exchanged (w .b .node .settings) (framesOf m)
+  pub handed : w .log ≡ exchanged (agreed w) (framesOf m)
   pub frames : thereOf (w .log) ≡ framesOf m
-  pub flow : backOf (w .log) ≡ replicate (blocks (w .b .node .settings .block) (length (framesOf m) - 1)) (goFrame (w .b .node .settings))
+  pub flow : backOf (w .log) ≡ replicate (blocks (agreed w .block) (length (framesOf m) - 1)) (goFrame (agreed w))
   pub idle-a : Idle sendSide (berthAt (w .a .node) i)
   pub idle-b : Idle receive (berthAt (w .b .node) j)
 

@@ -8,16 +8,17 @@ use lib.Dec.{ltb, eqb}
 use Rattle.rules.specs.Tests.{pick, unless}
 use Rattle.rules.specs.Numbers.{berthCount}
 use Rattle.rules.specs.Turns.{lengthSending}
-use Rattle.rules.specs.Nodes.{fresh, Held}
+use Rattle.rules.specs.Nodes.{freshWith, Held}
 use Rattle.rules.specs.Ranges.{InOrder}
 use Rattle.rules.specs.Stores.{areaOf, passedOver, reached}
 use Rattle.rules.specs.Cards.{cardAt}
-use Rattle.rules.specs.Answers.{Answer, refused, ready, heard, codes, sent, handed, none, shown, receive, send as sendSide, Report, reported, wordReports, forTaker, reports}
-use Rattle.rules.specs.Events.{Call, frame, tick, send, turn, show, senderOf, Event, arrives, ticks, sends, turns}
+use Rattle.rules.specs.Answers.{Answer, refused, ready, heard, codes, sent, handed, none, shown, changed, receive, send as sendSide, Report, reported, wordReports, forTaker, reports}
+use Rattle.rules.specs.Events.{Call, frame, tick, send, turn, show, change, senderOf, Event, arrives, ticks, sends, turns, changes}
 use Rattle.rules.specs.Refusals.{refusal}
 use Rattle.rules.specs.Calls.{chosen, outcome, setUpOutcome, showing}
-use Rattle.rules.specs.Alone.{partOf, alone, saysAll, Part, Says, hears, expires, accepts, hands}
+use Rattle.rules.specs.Alone.{partOf, alone, saysAll, Part, Says, hears, expires, accepts, hands, adopts}
 use Rattle.rules.specs.declared.Settings.{Settings}
+use Rattle.rules.specs.declared.BerthSettings.{BerthSettings}
 use Rattle.rules.specs.declared.Choice.{Choice}
 use Rattle.rules.specs.declared.Codes.{Codes}
 
@@ -26,7 +27,7 @@ unfoldable pub over : {X Y : Type 0} → (X → List Y) → List X → List Y
 over f [] = []
 over f (x ∷ xs) = f x ++ over f xs
 
--- ---- berth k's own events: its frames and sends, all ticks, and the turns it received
+-- ---- berth k's own events: its frames, sends and changes, all ticks, and the turns it received
 
 unfoldable pub ownDone : ℕ → Held → Call → List Event
 ownDone k h (frame id d) = pick (eqb (senderOf id) k) (arrives d ∷ []) []
@@ -34,6 +35,7 @@ ownDone k h tick = ticks ∷ []
 ownDone k h (send j m) = pick (eqb j k) (sends m ∷ []) []
 ownDone k h (turn buffer) = pick (ltb (passedOver (h .node)) berthCount && eqb (reached (h .node)) k) (turns ∷ []) []
 ownDone k h (show j choice) = []
+ownDone k h (change j parameter value) = pick (eqb j k) (changes parameter value ∷ []) []
 
 -- calls that the paper refuses are left out
 unfoldable pub own : ℕ → Held → Call → List Event
@@ -57,6 +59,7 @@ saysOf k (sent j) = pick (eqb j k) (accepts ∷ []) []
 saysOf k (handed id f c passed) = forTaker id (λ j. pick (eqb j k) (hands f c ∷ []) []) []
 saysOf k (none passed) = []
 saysOf k (shown part) = []
+saysOf k (changed j) = pick (eqb j k) (adopts ∷ []) []
 
 -- ---- reports
 
@@ -75,6 +78,7 @@ saidReports k (hears old w) = reported k receive old ++ wordReports k w
 saidReports k (expires r s) = reported k receive r ++ reported k sendSide s
 saidReports k accepts = []
 saidReports k (hands f c) = reported k sendSide c
+saidReports k adopts = []
 
 -- ---- show, from a berth's own part: the last message arrived, or the message now being sent
 
@@ -92,15 +96,15 @@ pub record Sound (h : Held) : Type 0 where
 
 -- ---- after a set-up
 
--- what a set-up leaves
-abbrev pub setUp : Held → Settings → Held
-setUp h s = setUpOutcome h (s .area) (s .block) (s .stmin) .held
+-- what a set-up with these settings leaves, all ten berths with the same
+abbrev pub setUp : Held → Settings → BerthSettings → Held
+setUp h s own = setUpOutcome h (s .area) (own .block) (own .stmin) .held
 
--- berth k fresh, its areas as the stores have them, and its card as the list has it
-abbrev pub freshPart : Held → Settings → ℕ → Part
-freshPart h s k =
+-- berth k fresh with its settings, its areas as the stores have them, and its card as the list has it
+abbrev pub freshPart : Held → Settings → BerthSettings → ℕ → Part
+freshPart h s own k =
     record {
-      berth = fresh;
+      berth = freshWith own;
       incoming = areaOf (s .area) k (h .incoming);
       outgoing = areaOf (s .area) k (h .outgoing);
       card = cardAt (h .cards) k;

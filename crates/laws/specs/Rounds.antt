@@ -9,8 +9,8 @@ use lib.Dec.{T, eqb}
 use Rattle.rules.specs.Tests.{pick}
 use Rattle.rules.specs.Nodes.{berthAt, Held}
 use Rattle.rules.specs.Turns.{due}
-use Rattle.rules.specs.Answers.{Answer, refused, ready, heard, codes, sent, handed, none, shown, forTaker}
-use Rattle.rules.specs.Events.{Call, frame, tick, send, turn, show}
+use Rattle.rules.specs.Answers.{Answer, refused, ready, heard, codes, sent, handed, none, shown, changed, forTaker}
+use Rattle.rules.specs.Events.{Call, frame, tick, send, turn, show, change}
 use Rattle.rules.specs.Refusals.{refusal}
 use Rattle.rules.specs.Calls.{outcome}
 
@@ -28,6 +28,7 @@ turnOf (sent j) = []
 turnOf (handed id f c passed) = forTaker id served nobody ∷ []
 turnOf (none passed) = nobody ∷ []
 turnOf (shown part) = []
+turnOf (changed j) = []
 
 -- berth k has a frame due at an answered call for a frame
 abbrev pub DueAt : ℕ → Held → Call → Type 0
@@ -36,6 +37,7 @@ DueAt k h tick = Unit {0}
 DueAt k h (send j m) = Unit {0}
 DueAt k h (turn buffer) = refusal h (turn buffer) ≡ 0 → T (due (berthAt (h .node) k))
 DueAt k h (show j choice) = Unit {0}
+DueAt k h (change j parameter value) = Unit {0}
 
 -- at each of a run
 unfoldable pub StaysDue : ℕ → Held → List Call → Type 0

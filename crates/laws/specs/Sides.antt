@@ -7,14 +7,16 @@ use mathlib.Core.List.{List, [], _∷_, _++_, map}
 use lib.Dec.{eqb}
 use Rattle.rules.specs.Tests.{pick}
 use Rattle.rules.specs.Numbers.{flowKind}
-use Rattle.rules.specs.Nodes.{fresh, withRx, withTx, Held}
+use Rattle.rules.specs.Nodes.{zeroSettings, withSettings, withRx, withTx, Held}
 use Rattle.rules.specs.Frames.{kind}
 use Rattle.rules.specs.Turns.{flowDue}
 use Rattle.rules.specs.Cards.{zeroCard}
-use Rattle.rules.specs.Answers.{Answer, refused, ready, heard, codes, sent, handed, none, shown, Side, receive, send, Report, forTaker, reports}
-use Rattle.rules.specs.Events.{Call, frame, tick, send as sendTo, turn, show, Event, arrives, ticks, sends, turns}
-use Rattle.rules.specs.Alone.{Part, partOf, Says, hears, expires, accepts, hands, withCard, partAfter, says, alone, saysAll}
+use Rattle.rules.specs.Answers.{Answer, refused, ready, heard, codes, sent, handed, none, shown, changed, Side, receive, send, Report, forTaker, reports}
+use Rattle.rules.specs.Events.{Call, frame, tick, send as sendTo, turn, show, change, Event, arrives, ticks, sends, turns, changes}
+use Rattle.rules.specs.Alone.{Part, partOf, Says, hears, expires, accepts, hands, adopts, withCard, partAfter, says, alone, saysAll}
 use Rattle.rules.specs.declared.Settings.{Settings}
+use Rattle.rules.specs.declared.Rx.{Rx}
+use Rattle.rules.specs.declared.Tx.{Tx}
 use Rattle.laws.specs.Own.{over, saysOf, only, ofBerth, saidReports}
 
 abbrev pub sameSide : Side → Side → Bool
@@ -27,12 +29,12 @@ sameSide send send = true
 abbrev pub uncounted : Part → Part
 uncounted p = withCard p zeroCard
 
--- one side of a berth with its area: the other side fresh, the other area left out, and no counts
+-- one side of a berth with its area: the other side idle, the other area left out, and no counts. The berth's own settings go with the
+-- receive side, which grants by them (paper 02, W3)
 unfoldable pub sideOf : Side → Part → Part
-sideOf receive p =
-    record { berth = withTx (p .berth) (fresh .tx); incoming = p .incoming; outgoing = []; card = zeroCard }
+sideOf receive p = record { berth = withTx (p .berth) Tx.Idle; incoming = p .incoming; outgoing = []; card = zeroCard }
 sideOf send p =
-    record { berth = withRx (p .berth) (fresh .rx) (fresh .last); incoming = []; outgoing = p .outgoing; card = zeroCard }
+    record { berth = withSettings (withRx (p .berth) Rx.Idle 0) zeroSettings; incoming = []; outgoing = p .outgoing; card = zeroCard }
 
 -- ---- the events of a side
 
@@ -49,6 +51,7 @@ forSide s p (arrives d) = pick (sameSide s (frameSide d)) (arrives d ∷ []) []
 forSide s p ticks = ticks ∷ []
 forSide s p (sends m) = pick (sameSide s send) (sends m ∷ []) []
 forSide s p turns = pick (sameSide s (turnSide p)) (turns ∷ []) []
+forSide s p (changes parameter value) = pick (sameSide s receive) (changes parameter value ∷ []) []
 
 unfoldable pub sideEvents : Side → Settings → Part → List Event → List Event
 sideEvents s set p [] = []
@@ -62,6 +65,7 @@ onlySide receive (expires r c) = expires r 0
 onlySide send (expires r c) = expires 0 c
 onlySide s accepts = accepts
 onlySide s (hands f c) = hands f c
+onlySide s adopts = adopts
 
 unfoldable pub sideSays : Side → Settings → Part → List Event → List Says
 sideSays s set p [] = []
@@ -78,6 +82,7 @@ handedIn (hears old w) = []
 handedIn (expires r c) = []
 handedIn accepts = []
 handedIn (hands f c) = f ∷ []
+handedIn adopts = []
 
 -- flow control is the receive side's, any other frame the send side's
 unfoldable pub handedSide : List ℕ → Side
@@ -93,6 +98,7 @@ framesBy s k (sent j) = []
 framesBy s k (handed id f c passed) = forTaker id (λ j. pick (eqb j k && sameSide s (handedSide f)) (f ∷ []) []) []
 framesBy s k (none passed) = []
 framesBy s k (shown part) = []
+framesBy s k (changed j) = []
 
 -- ---- what the answers say of a side
 
@@ -102,15 +108,17 @@ handsFor s (hears old w) = []
 handsFor s (expires r c) = []
 handsFor s accepts = []
 handsFor s (hands f c) = pick (sameSide s (handedSide f)) (hands f c ∷ []) []
+handsFor s adopts = []
 
 -- of what the answer to a call says of a berth, the side's part: the word for a frame of its own, its own code of a tick, that it takes a
--- message, a frame of its own
+-- message, a frame of its own, that it takes a setting
 unfoldable pub saysFor : Side → Call → Says → List Says
 saysFor s (frame id d) x = pick (sameSide s (frameSide d)) (x ∷ []) []
 saysFor s tick x = onlySide s x ∷ []
 saysFor s (sendTo j m) x = pick (sameSide s send) (x ∷ []) []
 saysFor s (turn buffer) x = handsFor s x
 saysFor s (show j choice) x = []
+saysFor s (change j parameter value) x = pick (sameSide s receive) (x ∷ []) []
 
 -- of all calls of a run and their answers
 unfoldable pub saysBy : Side → ℕ → List Call → List Answer → List Says

@@ -5,11 +5,10 @@ use mathlib.Core.Path.{_≡_, refl, sym}
 use mathlib.Core.List.{[], _∷_}
 use lib.Dec.{T}
 use Rattle.rules.specs.Tests.{all, each}
-use Rattle.rules.specs.Nodes.{fresh}
-use Rattle.rules.specs.Ranges.{settingsAllowed, berthInOrder, inOrder}
+use Rattle.rules.specs.Nodes.{fresh, withTx}
+use Rattle.rules.specs.Ranges.{berthInOrder, inOrder}
 use Rattle.rules.specs.Turns.{due}
 use Rattle.rules.specs.Stores.{passedOver}
-use Rattle.rules.specs.declared.Rx.{Rx}
 use Rattle.rules.specs.declared.Tx.{Tx}
 use Rattle.rules.specs.declared.Berth.{Berth}
 use Rattle.rules.specs.declared.Node.{Node}
@@ -18,11 +17,11 @@ use Rattle.looks.specs.Bits.{bitsOf, isSet, dueBits, passedFrom, nextSet
 use Rattle.looks.proofs.DueBits.{next-is-passed}
 
 abbrev waiting : Berth
-waiting = record { rx = Rx.Idle; last = 0; tx = Tx.SingleDue 3 0 }
+waiting = withTx fresh (Tx.SingleDue 3 0)
 
 abbrev pub threeBerths : ℕ → Berth → Berth → Berth → Node
 threeBerths served a b c = record {
-  settings = record { area = 40; block = 2; stmin = 5 };
+  settings = record { area = 40 };
   served = served;
   berths = a ∷ fresh ∷ fresh ∷ fresh ∷ b ∷ fresh ∷ fresh ∷ fresh ∷ fresh ∷ c ∷ [];
 }
@@ -36,6 +35,6 @@ by-law n t = sym (next-is-passed n (in-order-range n t))
 
 pub three-passed : (passedOver (threeBerths 9 waiting waiting waiting) ≡ 0) × (passedOver (threeBerths 0 fresh waiting waiting) ≡ 3)
     × (passedOver (threeBerths 4 fresh fresh waiting) ≡ 4) × (passedOver (threeBerths 9 fresh fresh fresh) ≡ 10)
-unfolding dueBits bitsOf due nextSet passedFrom isSet inOrder all each settingsAllowed berthInOrder
+unfolding dueBits bitsOf due nextSet passedFrom isSet inOrder all each berthInOrder
 three-passed =
     (by-law (threeBerths 9 waiting waiting waiting) tt, by-law (threeBerths 0 fresh waiting waiting) tt, by-law (threeBerths 4 fresh fresh waiting) tt, by-law (threeBerths 9 fresh fresh fresh) tt)

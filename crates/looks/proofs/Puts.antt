@@ -9,13 +9,15 @@ use denote.Struct.Laws as LL
 use mir.Syntax.{w8, w32}
 use mir.Val.{vint}
 use Rattle.rules.specs.Numbers.{berthCount}
-use Rattle.rules.specs.Nodes.{fresh, withRx, withTx}
+use Rattle.rules.specs.Nodes.{fresh, withRx, withTx, withSettings}
 use Rattle.rules.specs.declared.Settings.{Settings}
+use Rattle.rules.specs.declared.BerthSettings.{BerthSettings}
 use Rattle.rules.specs.declared.Rx.{Rx}
 use Rattle.rules.specs.declared.Tx.{Tx}
 use Rattle.rules.specs.declared.Berth.{Berth}
 use Rattle.rules.specs.declared.Node.{Node}
 use Rattle.rules.proofs.Settings as G
+use Rattle.rules.proofs.BerthSettings as O
 use Rattle.rules.proofs.Rx as R
 use Rattle.rules.proofs.Tx as X
 use Rattle.rules.proofs.Berth as B
@@ -23,7 +25,7 @@ use Rattle.rules.proofs.Berth.Laws as B′
 use Rattle.rules.proofs.Node as T
 use Rattle.rules.proofs.Node.Laws as T′
 use Rattle.looks.proofs.Ten.{FT, FB, FG, anew, put-is, served-fits, berth-is}
-use Rattle.looks.proofs.Sides.{FR, FX, rx-of, last-of, tx-of}
+use Rattle.looks.proofs.Sides.{FR, FX, FO, rx-of, last-of, tx-of, own-of}
 
 abbrev pub Good : Node → Type 0
 Good h = Is T.the-row h (FT .val h ∷ [])
@@ -51,7 +53,7 @@ pub put-rx-is : (h : Node) → Good h → (k : ℕ) → k < berthCount → (y : 
 put-rx-is h was k within y y-is =
     let b = getD (h .berths) k fresh in
     let is = berth-is h was k within in
-    put-berth-is h was k within (put-rx·berth h k y) (LL.owes B.the-type B′.the-laws (put-rx·berth h k y) (y-is, (last-of b is, (tx-of b is, tt))))
+    put-berth-is h was k within (put-rx·berth h k y) (LL.owes B.the-type B′.the-laws (put-rx·berth h k y) (y-is, (last-of b is, (tx-of b is, (own-of b is, tt)))))
 
 abbrev pub put-last·berth : Node → ℕ → ℕ → Berth
 put-last·berth h k y = withRx (getD (h .berths) k fresh) (getD (h .berths) k fresh .rx) y
@@ -63,7 +65,7 @@ pub put-last-is : (h : Node) → Good h → (k : ℕ) → k < berthCount → (y 
 put-last-is h was k within y y-is =
     let b = getD (h .berths) k fresh in
     let is = berth-is h was k within in
-    put-berth-is h was k within (put-last·berth h k y) (LL.owes B.the-type B′.the-laws (put-last·berth h k y) (rx-of b is, (y-is, (tx-of b is, tt))))
+    put-berth-is h was k within (put-last·berth h k y) (LL.owes B.the-type B′.the-laws (put-last·berth h k y) (rx-of b is, (y-is, (tx-of b is, (own-of b is, tt)))))
 
 abbrev pub put-tx·berth : Node → ℕ → Tx → Berth
 put-tx·berth h k y = withTx (getD (h .berths) k fresh) y
@@ -75,9 +77,21 @@ pub put-tx-is : (h : Node) → Good h → (k : ℕ) → k < berthCount → (y : 
 put-tx-is h was k within y y-is =
     let b = getD (h .berths) k fresh in
     let is = berth-is h was k within in
-    put-berth-is h was k within (put-tx·berth h k y) (LL.owes B.the-type B′.the-laws (put-tx·berth h k y) (rx-of b is, (last-of b is, (y-is, tt))))
+    put-berth-is h was k within (put-tx·berth h k y) (LL.owes B.the-type B′.the-laws (put-tx·berth h k y) (rx-of b is, (last-of b is, (y-is, (own-of b is, tt)))))
 
--- ---- the berth served last, and the settings
+abbrev pub put-own·berth : Node → ℕ → BerthSettings → Berth
+put-own·berth h k y = withSettings (getD (h .berths) k fresh) y
+
+abbrev pub put-own : Node → ℕ → BerthSettings → Node
+put-own h k y = put-berth h k (put-own·berth h k y)
+
+pub put-own-is : (h : Node) → Good h → (k : ℕ) → k < berthCount → (y : BerthSettings) → Is O.the-row y (FO .val y ∷ []) → Good (put-own h k y)
+put-own-is h was k within y y-is =
+    let b = getD (h .berths) k fresh in
+    let is = berth-is h was k within in
+    put-berth-is h was k within (put-own·berth h k y) (LL.owes B.the-type B′.the-laws (put-own·berth h k y) (rx-of b is, (last-of b is, (tx-of b is, (y-is, tt)))))
+
+-- ---- the berth served last, and the node's settings
 
 abbrev pub put-served : Node → ℕ → Node
 put-served h n = anew h n (h .berths)

@@ -97,5 +97,5 @@ module _ (h : Node) (is : Is T.the-row h (FT .val h ∷ [])) where
       tens = subst (λ (ys : List (S .Denot)). Is (Array S 10) ys (arrayVal (map tv ys) ∷ [])) (set-map to (h .berths) k b) (is-set S tv (LL.tuple-tells B.the-type B′.the-laws) 10 (map to (h .berths)) (arrayVal (us (h .berths)) ∷ []) k (to b) b-is ten)
 
 -- the index in bytes
-pub bytes-fit : (k : ℕ) → k < berthCount → k * 48 < 2 ^ 64
+pub bytes-fit : (k : ℕ) → k < berthCount → k * 52 < 2 ^ 64
 bytes-fit k l = omega (arith, l)

@@ -22,7 +22,7 @@ use Rattle.rules.proofs.Tx as X
 use Rattle.rules.proofs.Berth as B
 use Rattle.looks.proofs.Lent.{Flat, struct}
 use Rattle.looks.proofs.Ten.{FB}
-use Rattle.looks.proofs.Sides.{FR, FX, rx-of, tx-of}
+use Rattle.looks.proofs.Sides.{FR, FX, FO, rx-of, tx-of}
 
 abbrev FK : Flat
 FK = struct K.the-type K′.the-laws K′.the-plain
@@ -46,7 +46,7 @@ rxFields (Rx.Awaits p t) = vcons (FK .val p) (vcons (vint w16 t) vnil)
 
 -- a berth whose receive side is seen as tag and fields
 abbrev pub rxSeen : Berth → Val
-rxSeen b = vstruct (ofList (live (rxTag (b .rx)) (rxFields (b .rx)) ∷ vint w32 (b .last) ∷ FX .val (b .tx) ∷ []))
+rxSeen b = vstruct (ofList (live (rxTag (b .rx)) (rxFields (b .rx)) ∷ vint w32 (b .last) ∷ FX .val (b .tx) ∷ FO .val (b .settings) ∷ []))
 
 rx-is : (rx : Rx) → FR .val rx ≡ live (rxTag rx) (rxFields rx)
 rx-is Rx.Idle = refl
@@ -55,7 +55,7 @@ rx-is (Rx.OwesGo p t) = refl
 rx-is (Rx.Awaits p t) = refl
 
 pub see-rx : (b : Berth) → FB .val b ≡ rxSeen b
-see-rx b = ap (λ (v : Val). vstruct (ofList (v ∷ vint w32 (b .last) ∷ FX .val (b .tx) ∷ []))) (rx-is (b .rx))
+see-rx b = ap (λ (v : Val). vstruct (ofList (v ∷ vint w32 (b .last) ∷ FX .val (b .tx) ∷ FO .val (b .settings) ∷ []))) (rx-is (b .rx))
 
 -- ---- the send side
 
@@ -74,7 +74,7 @@ txFields (Tx.AwaitsFlow o t) = vcons (FD .val o) (vcons (vint w16 t) vnil)
 txFields (Tx.Consecutive o t) = vcons (FD .val o) (vcons (vint w16 t) vnil)
 
 abbrev pub txSeen : Berth → Val
-txSeen b = vstruct (ofList (FR .val (b .rx) ∷ vint w32 (b .last) ∷ live (txTag (b .tx)) (txFields (b .tx)) ∷ []))
+txSeen b = vstruct (ofList (FR .val (b .rx) ∷ vint w32 (b .last) ∷ live (txTag (b .tx)) (txFields (b .tx)) ∷ FO .val (b .settings) ∷ []))
 
 tx-is : (tx : Tx) → FX .val tx ≡ live (txTag tx) (txFields tx)
 tx-is Tx.Idle = refl
@@ -84,7 +84,7 @@ tx-is (Tx.AwaitsFlow o t) = refl
 tx-is (Tx.Consecutive o t) = refl
 
 pub see-tx : (b : Berth) → FB .val b ≡ txSeen b
-see-tx b = ap (λ (v : Val). vstruct (ofList (FR .val (b .rx) ∷ vint w32 (b .last) ∷ v ∷ []))) (tx-is (b .tx))
+see-tx b = ap (λ (v : Val). vstruct (ofList (FR .val (b .rx) ∷ vint w32 (b .last) ∷ v ∷ FO .val (b .settings) ∷ []))) (tx-is (b .tx))
 
 -- ---- a side whose tag is known: its fields, and the berth that has it
 
@@ -147,11 +147,11 @@ as-tx-Consecutive (Tx.FirstDue n t) e = absurd (omega arith)
 as-tx-Consecutive (Tx.AwaitsFlow o t) e = absurd (omega arith)
 as-tx-Consecutive (Tx.Consecutive o t) e = (o, (t, refl))
 
-pub rx-seen : (b : Berth) {y : Rx} → b .rx ≡ y → FB .val b ≡ vstruct (ofList (FR .val y ∷ vint w32 (b .last) ∷ FX .val (b .tx) ∷ []))
-rx-seen b e = ap (λ (z : Rx). vstruct (ofList (FR .val z ∷ vint w32 (b .last) ∷ FX .val (b .tx) ∷ []))) e
+pub rx-seen : (b : Berth) {y : Rx} → b .rx ≡ y → FB .val b ≡ vstruct (ofList (FR .val y ∷ vint w32 (b .last) ∷ FX .val (b .tx) ∷ FO .val (b .settings) ∷ []))
+rx-seen b e = ap (λ (z : Rx). vstruct (ofList (FR .val z ∷ vint w32 (b .last) ∷ FX .val (b .tx) ∷ FO .val (b .settings) ∷ []))) e
 
-pub tx-seen : (b : Berth) {y : Tx} → b .tx ≡ y → FB .val b ≡ vstruct (ofList (FR .val (b .rx) ∷ vint w32 (b .last) ∷ FX .val y ∷ []))
-tx-seen b e = ap (λ (z : Tx). vstruct (ofList (FR .val (b .rx) ∷ vint w32 (b .last) ∷ FX .val z ∷ []))) e
+pub tx-seen : (b : Berth) {y : Tx} → b .tx ≡ y → FB .val b ≡ vstruct (ofList (FR .val (b .rx) ∷ vint w32 (b .last) ∷ FX .val y ∷ FO .val (b .settings) ∷ []))
+tx-seen b e = ap (λ (z : Tx). vstruct (ofList (FR .val (b .rx) ∷ vint w32 (b .last) ∷ FX .val z ∷ FO .val (b .settings) ∷ []))) e
 
 module _ (b : Berth) (is : Is B.the-row b (FB .val b ∷ [])) where
   pub rx-as : {y : Rx} → b .rx ≡ y → Is R.the-row y (FR .val y ∷ [])

@@ -7,7 +7,7 @@ use lib.ListN.{drop}
 use lib.Dec.{leb}
 use Rattle.rules.specs.Tests.{pick, all, each}
 use Rattle.rules.specs.Numbers.{berthCount}
-use Rattle.rules.specs.Ranges.{berthInOrder, inOrder}
+use Rattle.rules.specs.Ranges.{ownAllowed, berthInOrder, inOrder}
 use Rattle.rules.specs.declared.Settings.{Settings}
 use Rattle.rules.specs.declared.Berth.{Berth}
 use Rattle.rules.specs.declared.Node.{Node}
@@ -15,9 +15,9 @@ use Rattle.berth.specs.Idle.{idle}
 
 -- ---- idle berths
 
--- a berth is at rest: idle, with a last length in range
+-- a berth is at rest: idle, with its settings and its last length in range
 abbrev pub atRest : Settings → Berth → Bool
-atRest s b = all (idle b ∷ leb (b .last) (s .area) ∷ [])
+atRest s b = all (idle b ∷ ownAllowed (b .settings .block) (b .settings .stmin) ∷ leb (b .last) (s .area) ∷ [])
 
 -- how many berths from the first on are idle
 unfoldable pub leadingIdle : List Berth → ℕ

@@ -1,5 +1,5 @@
 // What the calls look at behind `&Node`, so that the node is not copied: whether it is in order, and which berth is next to hand a
-// frame over. The test of order copies out what it asks for, one side or the settings; the search copies no part of a berth.
+// frame over. The test of order copies out what it asks for, one side or settings; the search copies no part of a berth.
 ghost use mathlib.Core.Path.{_≡_};
 ghost use mathlib.Core.Bool.{true};
 ghost use mathlib.Core.List.{[], _∷_};
@@ -9,7 +9,7 @@ ghost use lib.Dec.{ltb};
 ghost use Rattle.rules.specs.Numbers.{berthCount};
 ghost use Rattle.rules.specs.Tests.{pick, all, each};
 ghost use Rattle.rules.specs.Nodes.{berthAt};
-ghost use Rattle.rules.specs.Ranges.{settingsAllowed, berthInOrder, inOrder};
+ghost use Rattle.rules.specs.Ranges.{areaAllowed, berthInOrder, inOrder};
 ghost use Rattle.rules.specs.Turns.{flowDue, messageDue, due};
 ghost use Rattle.rules.specs.Stores.{passedOver};
 ghost use Rattle.looks.specs.Order.{atRest, Spared, orderOf};
@@ -27,27 +27,27 @@ pub const UNORDERED: usize = 11;
 // Ten bits times this are the ten bits twice, one ten above the other.
 const TWICE: u32 = 1025;
 
-// Whether the settings and the berth served last are in range.
+// Whether A and the berth served last are in range.
 fn front_in_order(settings: Settings, served: u8) -> bool
-    ensures { λ r. ⌜ r ≡ all (settingsAllowed (settings .area) (settings .block) (settings .stmin) ∷ ltb served berthCount ∷ []) ⌝ }
+    ensures { λ r. ⌜ r ≡ all (areaAllowed (settings .area) ∷ ltb served berthCount ∷ []) ⌝ }
 {
-    berth::ranges::settings_allowed(settings.area, settings.block as u32, settings.stmin as u32)
-        & (served < rules::BERTH_COUNT)
+    berth::ranges::area_allowed(settings.area) & (served < rules::BERTH_COUNT)
 }
 
-// Whether berth k is idle with a last length in range.
+// Whether berth k is idle with its settings and its last length in range.
 fn idle_at(node: &Node, k: usize) -> bool
     requires { ⌜ k < berthCount ⌝ }
     ensures { λ r. ⌜ r ≡ atRest (now (node .entry) .settings) (berthAt (now (node .entry)) k) ⌝ }
 {
     let settings = node.settings;
+    let own = node.berths[k].settings;
     let last = node.berths[k].last;
     let rx = node.berths[k].rx;
     let tx = node.berths[k].tx;
-    berth::ranges::idle(settings, last, rx, tx)
+    berth::ranges::idle(settings, own, last, rx, tx)
 }
 
-// How many berths from the first on are idle with a last length in range: they are in order, and need no other test.
+// How many berths from the first on are idle with settings and last length in range: they are in order, and need no other test.
 fn idle_before(node: &Node) -> usize
     ensures { λ r. ⌜ Spared (now (node .entry)) r ⌝ }
 {
@@ -62,15 +62,16 @@ fn idle_before(node: &Node) -> usize
     10
 }
 
-// The receive side is copied and tested, and only then the send side.
+// The settings and the receive side are copied and tested, and only then the send side.
 fn order_at(node: &Node, k: usize) -> bool
     requires { ⌜ k < berthCount ⌝ }
     ensures { λ r. ⌜ r ≡ berthInOrder (now (node .entry) .settings) (berthAt (now (node .entry)) k) ⌝ }
 {
     let settings = node.settings;
+    let own = node.berths[k].settings;
     let last = node.berths[k].last;
     let rx = node.berths[k].rx;
-    if berth::ranges::rx_in_range(settings, last, rx) {
+    if berth::ranges::receive_in_order(settings, own, last, rx) {
         let tx = node.berths[k].tx;
         return berth::ranges::tx_in_range(settings, tx);
     }

@@ -7,8 +7,8 @@ use lib.ListN.{length}
 use Rattle.rules.specs.Tests.{unless}
 use Rattle.rules.specs.Frames.{byteAt}
 use Rattle.rules.specs.Stores.{Outside}
-use Rattle.rules.specs.Answers.{shown, setUpSays, frameSays, tickSays, sendSays, turnSays}
-use Rattle.rules.specs.Events.{frame, tick, send, turn, show, senderOf}
+use Rattle.rules.specs.Answers.{shown, setUpSays, frameSays, tickSays, sendSays, turnSays, changeSays}
+use Rattle.rules.specs.Events.{frame, tick, send, turn, show, change, senderOf}
 use Rattle.rules.specs.Calls.{Outcome, outcome, setUpOutcome}
 use Rattle.rules.specs.declared.Node.{Node}
 use Rattle.rules.specs.declared.Card.{Card}
@@ -19,7 +19,8 @@ use Rattle.rules.specs.declared.Codes.{Codes}
 use Rattle.rules.specs.declared.TickAnswer.{TickAnswer}
 use Rattle.rules.specs.declared.SendAnswer.{SendAnswer}
 use Rattle.rules.specs.declared.TurnAnswer.{TurnAnswer}
-use Rattle.node.specs.Promises.{lent, left, Agrees, tenZeros, SetUpPromise, FramePromise, TickPromise, SendPromise, TurnPromise, ShowPromise, NeededPromise}
+use Rattle.rules.specs.declared.ChangeAnswer.{ChangeAnswer}
+use Rattle.node.specs.Promises.{lent, left, Agrees, tenZeros, SetUpPromise, FramePromise, TickPromise, SendPromise, TurnPromise, ShowPromise, ChangePromise, NeededPromise}
 use Rattle.rules.proofs.Inside.{outside-stays}
 use Rattle.rules.proofs.Answers.{paper-one}
 
@@ -41,6 +42,10 @@ module _ (n : Node) (n′ : Node) where
       → (cards : List Card) (incoming : List ℕ)
       → left (sendSays a) (lent n′ cards incoming outgoing′) [] ≡ outcome (lent n cards incoming outgoing) (send k m)
   send-is outgoing outgoing′ k m a p cards incoming = same (p cards incoming)
+
+  pub change-is : (k parameter value : ℕ) (a : ChangeAnswer) → ChangePromise n k parameter value a n′ → (cards : List Card) (incoming outgoing : List ℕ)
+      → left (changeSays a) (lent n′ cards incoming outgoing) [] ≡ outcome (lent n cards incoming outgoing) (change k parameter value)
+  change-is k parameter value a p cards incoming outgoing = same (p cards incoming outgoing)
 
 module _ (n : Node) (cards : List Card) (n′ : Node) (cards′ : List Card) where
   pub frame-is : (incoming incoming′ : List ℕ) (id : ℕ) (d : List ℕ) (a : FrameAnswer)
@@ -98,6 +103,13 @@ send-tells (SendAnswer.Refused m) (SendAnswer.Sent k) e = cc
 send-tells (SendAnswer.Sent k) (SendAnswer.Refused n) e = cc
 send-tells (SendAnswer.Sent k) (SendAnswer.Sent l) e = cc
 
+change-tells : (a b : ChangeAnswer) → changeSays a ≡ changeSays b → a ≡ b
+unfolding changeSays
+change-tells (ChangeAnswer.Refused m) (ChangeAnswer.Refused n) e = cc
+change-tells (ChangeAnswer.Refused m) (ChangeAnswer.Changed k) e = cc
+change-tells (ChangeAnswer.Changed k) (ChangeAnswer.Refused n) e = cc
+change-tells (ChangeAnswer.Changed k) (ChangeAnswer.Changed l) e = cc
+
 turn-tells : (b₁ b₂ : List ℕ) (a b : TurnAnswer) → turnSays a b₁ ≡ turnSays b b₂ → a ≡ b
 unfolding turnSays
 turn-tells b₁ b₂ (TurnAnswer.Refused m) (TurnAnswer.Refused n) e = cc
@@ -138,6 +150,12 @@ module _ (n : Node) (n₁ n₂ : Node) where
   send-determined outgoing s₁ s₂ k m a b p q =
       let e = send-is n n₁ outgoing s₁ k m a p [] [] ∙ sym (send-is n n₂ outgoing s₂ k m b q [] []) in
       (send-tells a b (ap (λ o. o .answer) e), ap (λ o. o .held .node) e, ap (λ o. o .held .outgoing) e)
+
+  pub change-determined : (k parameter value : ℕ) (a b : ChangeAnswer)
+      → ChangePromise n k parameter value a n₁ → ChangePromise n k parameter value b n₂ → (a ≡ b) × (n₁ ≡ n₂)
+  change-determined k parameter value a b p q =
+      let e = change-is n n₁ k parameter value a p [] [] [] ∙ sym (change-is n n₂ k parameter value b q [] [] []) in
+      (change-tells a b (ap (λ o. o .answer) e), ap (λ o. o .held .node) e)
 
 -- a frame, a tick and a turn also determine the cards
 module _ (n : Node) (cards : List Card) (n₁ n₂ : Node) (c₁ c₂ : List Card) where

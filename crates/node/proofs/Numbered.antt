@@ -12,19 +12,21 @@ use Rattle.rules.specs.Nodes.{berthAt}
 use Rattle.rules.specs.Ranges.{inOrder}
 use Rattle.rules.specs.Stores.{rightStore, passedOver}
 use Rattle.rules.specs.Cards.{rightCards}
-use Rattle.rules.specs.Answers.{refused, none, frameSays, sendSays, turnSays}
-use Rattle.rules.specs.Events.{frame, tick, send, turn, senderOf}
+use Rattle.rules.specs.Answers.{refused, none, frameSays, sendSays, turnSays, changeSays}
+use Rattle.rules.specs.Events.{frame, tick, send, turn, change, senderOf}
 use Rattle.rules.specs.Refusals.{refusal, needs}
 use Rattle.rules.specs.Calls.{showable, done, reply, written}
 use Rattle.rules.specs.declared.Node.{Node}
 use Rattle.rules.specs.declared.Card.{Card}
+use Rattle.rules.specs.declared.Rx.{Rx}
 use Rattle.rules.specs.declared.Tx.{Tx}
 use Rattle.rules.specs.declared.FrameAnswer.{FrameAnswer}
 use Rattle.rules.specs.declared.SendAnswer.{SendAnswer}
 use Rattle.rules.specs.declared.TurnAnswer.{TurnAnswer}
+use Rattle.rules.specs.declared.ChangeAnswer.{ChangeAnswer}
 use Rattle.rules.proofs.Cases.{Tested, holds, fails, ltb-cases, ltb-is, ltb-not}
-use Rattle.node.specs.Promises.{lent, FramePromise, SendPromise, TurnPromise}
-use Rattle.node.specs.Numbered.{frameRefusal, tickRefusal, sendRefusal, turnRefusal, canShow, placeOf, placeOfSender}
+use Rattle.node.specs.Promises.{lent, FramePromise, SendPromise, TurnPromise, ChangePromise}
+use Rattle.node.specs.Numbered.{frameRefusal, tickRefusal, sendRefusal, turnRefusal, changeRefusal, canShow, placeOf, placeOfSender}
 use Rattle.node.proofs.Outcomes.{refuses, does}
 
 -- ---- what a call finds is the refusal of the rules
@@ -57,6 +59,17 @@ module _ (n : Node) where
       ≡ refusal (lent n cards incoming outgoing) (turn buffer)
   unfolding turnRefusal refusal needs rightStore rightCards
   turn-found cards incoming outgoing buffer = refl
+
+  -- the receive side is berth k's, where there is one
+  pub change-found : (rx : Rx) (k parameter value : ℕ) → (k < berthCount → rx ≡ berthAt n k .rx) → (cards : List Card) (incoming outgoing : List ℕ)
+      → changeRefusal (inOrder n) rx k parameter value ≡ refusal (lent n cards incoming outgoing) (change k parameter value)
+  unfolding changeRefusal refusal needs firstUnmet
+  change-found rx k parameter value side cards incoming outgoing = go (ltb-cases k berthCount)
+    where
+      go : Tested (ltb k berthCount) (k < berthCount) (berthCount ≤ k)
+          → changeRefusal (inOrder n) rx k parameter value ≡ refusal (lent n cards incoming outgoing) (change k parameter value)
+      go (holds e l) = rw (side l)
+      go (fails e l) = rw e
 
   pub show-found : (cards : List Card) (incoming outgoing : List ℕ) (k : ℕ)
       → canShow (inOrder n) (n .settings .area) (length incoming) (length outgoing) k ≡ showable (lent n cards incoming outgoing) k
@@ -106,6 +119,12 @@ module _ (n : Node) (number : ℕ) (some : number ≡ 0 → ⊥) where
       → ((incoming : List ℕ) → number ≡ refusal (lent n cards incoming outgoing) (turn buffer))
       → (a : TurnAnswer) → turnSays a buffer ≡ refused number → TurnPromise n cards outgoing buffer a n cards buffer
   refused-turn cards outgoing buffer e a says = λ incoming. refuses (lent n cards incoming outgoing) (turn buffer) number some says refl (e incoming)
+
+  pub refused-change : (k parameter value : ℕ)
+      → ((cards : List Card) (incoming outgoing : List ℕ) → number ≡ refusal (lent n cards incoming outgoing) (change k parameter value))
+      → (a : ChangeAnswer) → changeSays a ≡ refused number → ChangePromise n k parameter value a n
+  refused-change k parameter value e a says =
+      λ cards incoming outgoing. refuses (lent n cards incoming outgoing) (change k parameter value) number some says refl (e cards incoming outgoing)
 
 -- no berth is due
 pub none-due : (n : Node) (cards : List Card) (outgoing buffer : List ℕ)

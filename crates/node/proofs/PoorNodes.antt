@@ -11,19 +11,20 @@ use lib.Seq.{sets, sets-eq, take-at, drop-at, getD-set-same, length-take-le}
 use lib.Dec.{T, eqb, ltb}
 use Rattle.rules.specs.Tests.{all, each, firstUnmet}
 use Rattle.rules.specs.Numbers.{berthCount, toBerth, timeout, consecutiveKind, frameSize, outOfOrder, badSetting}
-use Rattle.rules.specs.Nodes.{fresh, withRx, blankNode, berthAt, Held}
+use Rattle.rules.specs.Nodes.{fresh, withRx, blankNode, berthAt, withBerth, Held}
 use Rattle.rules.specs.Ranges.{settingsAllowed, inBlock, takingInRange, berthInOrder, inOrder}
 use Rattle.rules.specs.Frames.{kind, low, singleFits, shortLength, announced, firstFits, consecutiveFits, share}
 use Rattle.rules.specs.Arrivals.{singleCame, begun, firstCame, missing, piece, heardBy, byKind, frameCame}
 use Rattle.rules.specs.Ticks.{ran, closer, rxTicked, txTicked, ticked}
 use Rattle.rules.specs.Turns.{due}
+use Rattle.rules.specs.Changes.{valueAllowed, changedSettings, changed}
 use Rattle.rules.specs.Cards.{zeroCard, rightCards, cardAt, frozen, added, addedAt, frameAdds}
-use Rattle.rules.specs.Events.{Call, frame, tick, send, turn, show, senderOf}
+use Rattle.rules.specs.Events.{Call, frame, tick, send, turn, show, change, senderOf}
 use Rattle.rules.specs.Stores.{rightStore, areaOf, stored, distance, leastDistance, passedOver, reached, cameAt, handedAt}
-use Rattle.rules.specs.Answers.{Answer, refused, ready, heard, codes, sent, handed, none, shown, setUpSays, frameSays, tickSays, sendSays, turnSays, wordPaper}
+use Rattle.rules.specs.Answers.{Answer, refused, ready, heard, codes, sent, handed, none, shown, changed as settled, setUpSays, frameSays, tickSays, sendSays, turnSays, changeSays, wordPaper}
 use Rattle.rules.specs.Refusals.{needs, refusal, setUpRefusal}
 use Rattle.rules.specs.Calls.{Outcome, showable, shownLength, showing, afterFrame, done, reply, written, refusedOutcome, outcome, setUpOutcome}
-use Rattle.rules.specs.declared.Settings.{Settings}
+use Rattle.rules.specs.declared.BerthSettings.{BerthSettings}
 use Rattle.rules.specs.declared.Taking.{Taking}
 use Rattle.rules.specs.declared.Sending.{Sending}
 use Rattle.rules.specs.declared.Rx.{Rx}
@@ -38,15 +39,16 @@ use Rattle.rules.specs.declared.FrameAnswer.{FrameAnswer}
 use Rattle.rules.specs.declared.TickAnswer.{TickAnswer}
 use Rattle.rules.specs.declared.SendAnswer.{SendAnswer}
 use Rattle.rules.specs.declared.TurnAnswer.{TurnAnswer}
+use Rattle.rules.specs.declared.ChangeAnswer.{ChangeAnswer}
 use Rattle.rules.proofs.Cases.{Tested, holds, fails, eqb-cases, ltb-cases, pick-either}
 use Rattle.rules.proofs.Ranges.{in-order-range}
 use Rattle.rules.proofs.Areas.{area-length, area-same}
 use Rattle.rules.proofs.Order.{berth-ticked}
 use Rattle.rules.proofs.Round.{passed-ten, reached-due}
 use Rattle.rules.proofs.Facts.{consecutive-came, frame-area}
-use Rattle.rules.proofs.Answered.{frame-answered, send-answered, turn-answered}
+use Rattle.rules.proofs.Answered.{frame-answered, send-answered, turn-answered, change-answered}
 use Rattle.rules.proofs.Inside.{answered-inside}
-use Rattle.node.specs.Promises.{lent, left, Agrees, SetUpPromise, FramePromise, TickPromise, SendPromise, TurnPromise, ShowPromise}
+use Rattle.node.specs.Promises.{lent, left, Agrees, SetUpPromise, FramePromise, TickPromise, SendPromise, TurnPromise, ShowPromise, ChangePromise}
 use Rattle.node.proofs.Determined.{same}
 
 -- two numbers that are not the same
@@ -67,13 +69,14 @@ replied h tick number = λ e. clash (cc)
 replied h (send k m) number = λ e. clash (cc)
 replied h (turn buffer) number = pick-either (λ (a : Answer). a ≡ refused number → ⊥) (ltb (passedOver (h .node)) berthCount) _ _ (λ t e. clash (cc)) (λ t e. clash (cc))
 replied h (show k choice) number = λ e. clash (cc)
+replied h (change k parameter value) number = λ e. clash (cc)
 
 module _ (h : Held) (n : Node) (number : ℕ) where
   never : (c : Call) {g : Held} {b : List ℕ} → refusal h c ≡ 0 → Agrees (left (refused number) g b) (outcome h c) → ⊥
   never c e a = replied h c number (sym (ap (λ (o : Outcome). o .answer) (answered h c e a)))
 
-  -- REFUSING EVERYTHING: at every frame, tick, send and turn that the paper answers, every refusal number is shut out; so is it at
-  -- every set-up
+  -- REFUSING EVERYTHING: at every frame, tick, send, turn and change that the paper answers, every refusal number is shut out; so is it
+  -- at every set-up
   pub not-refusing-frame : (id : ℕ) (d : List ℕ) (cards : List Card) (incoming : List ℕ) → refusal h (frame id d) ≡ 0
       → FramePromise (h .node) (h .cards) (h .incoming) id d (FrameAnswer.Refused number) n cards incoming → ⊥
   unfolding frameSays
@@ -93,6 +96,11 @@ module _ (h : Held) (n : Node) (number : ℕ) where
   unfolding turnSays
   not-refusing-turn buffer buffer′ cards e p = never (turn buffer) e (p (h .incoming))
 
+  pub not-refusing-change : (k parameter value : ℕ) → refusal h (change k parameter value) ≡ 0
+      → ChangePromise (h .node) k parameter value (ChangeAnswer.Refused number) n → ⊥
+  unfolding changeSays
+  not-refusing-change k parameter value e p = never (change k parameter value) e (p (h .cards) (h .incoming) (h .outgoing))
+
   pub not-refusing-set-up : (a bs stmin : ℕ) → setUpRefusal a bs stmin ≡ 0
       → SetUpPromise (h .node) a bs stmin (SetUpAnswer.Refused number) n → ⊥
   unfolding setUpSays setUpOutcome
@@ -110,7 +118,7 @@ not-both P x y r a b ne f g = go (eqb-cases r a)
     go (holds t e) = (y, λ p. ne (sym e ∙ g p))
     go (fails t e) = (x, λ p. e (f p))
 
--- the number that an answer names: the refusal, the length delivered, the berth sent to, the berths passed over, the bytes shown
+-- the number that an answer names: the refusal, the length delivered, the berth sent to or changed, the berths passed over, the bytes shown
 abbrev named : Answer → ℕ
 named (refused n) = n
 named ready = 0
@@ -120,6 +128,7 @@ named (sent k) = k
 named (handed id f c passed) = passed
 named (none passed) = passed
 named (shown part) = length part
+named (settled k) = k
 
 names : (h : Held) (c : Call) {o : Outcome} → refusal h c ≡ 0 → Agrees o (outcome h c) → named (o .answer) ≡ named (reply h c)
 names h c e a = ap (λ (o : Outcome). named (o .answer)) (answered h c e a)
@@ -158,7 +167,7 @@ not-fixed-bytes h id x y ne e f incoming =
     (λ p. first-byte h id x (p .2) (p .0) (p .1) incoming e (p .3))
     (λ p. first-byte h id y (p .2) (p .0) (p .1) incoming f (p .3))
 
--- A FIXED ANSWER TO A SEND, A TURN, A TICK, A SET-UP; A FIXED PART: of two calls with another berth, another number passed over, one
+-- A FIXED ANSWER TO A SEND, A CHANGE, A TURN, A TICK, A SET-UP; A FIXED PART: of two calls with another berth, another number passed over, one
 -- in order and one not, allowed settings and others, and a part of another length, one shuts it out
 pub not-fixed-send : (h : Held) (j k : ℕ) (m : List ℕ) → (j ≡ k → ⊥) → refusal h (send j m) ≡ 0 → refusal h (send k m) ≡ 0 → (a : SendAnswer)
     → (i : ℕ) × ((n : Node) × (outgoing : List ℕ) × SendPromise (h .node) (h .outgoing) i m a n outgoing → ⊥)
@@ -166,6 +175,14 @@ unfolding reply
 not-fixed-send h j k m ne e f a =
     not-both (λ i. (n : Node) × (outgoing : List ℕ) × SendPromise (h .node) (h .outgoing) i m a n outgoing) j k (named (sendSays a)) j k ne
     (λ p. names h (send j m) e (p .2 (h .cards) (h .incoming))) (λ p. names h (send k m) f (p .2 (h .cards) (h .incoming)))
+
+pub not-fixed-change : (h : Held) (j k parameter value : ℕ) → (j ≡ k → ⊥) → refusal h (change j parameter value) ≡ 0
+    → refusal h (change k parameter value) ≡ 0 → (a : ChangeAnswer) → (i : ℕ) × ((n : Node) × ChangePromise (h .node) i parameter value a n → ⊥)
+unfolding reply
+not-fixed-change h j k parameter value ne e f a =
+    not-both (λ i. (n : Node) × ChangePromise (h .node) i parameter value a n) j k (named (changeSays a)) j k ne
+    (λ p. names h (change j parameter value) e (p .1 (h .cards) (h .incoming) (h .outgoing)))
+    (λ p. names h (change k parameter value) f (p .1 (h .cards) (h .incoming) (h .outgoing)))
 
 -- the berths passed over are named, 10 where none is due
 passes : (h : Held) (buffer : List ℕ) → named (reply h (turn buffer)) ≡ passedOver (h .node)
@@ -201,11 +218,11 @@ not-fixed-tick g h e f a =
     (λ p. names g tick e (p .2 .agrees (g .incoming) (g .outgoing)))
     (λ p. ap (λ (o : Outcome). named (o .answer)) (same (p .2 .agrees (h .incoming) (h .outgoing))) ∙ rw f)
 
-pub not-fixed-set-up : (n : Node) (s t : Settings) → setUpRefusal (s .area) (s .block) (s .stmin) ≡ 0 → setUpRefusal (t .area) (t .block) (t .stmin) ≡ badSetting
-    → (a : SetUpAnswer) → (r : Settings) × ((n′ : Node) × SetUpPromise n (r .area) (r .block) (r .stmin) a n′ → ⊥)
+pub not-fixed-set-up : (n : Node) (s t : ℕ × ℕ × ℕ) → setUpRefusal (s .0) (s .1) (s .2) ≡ 0 → setUpRefusal (t .0) (t .1) (t .2) ≡ badSetting
+    → (a : SetUpAnswer) → (r : ℕ × ℕ × ℕ) × ((n′ : Node) × SetUpPromise n (r .0) (r .1) (r .2) a n′ → ⊥)
 unfolding setUpOutcome refusedOutcome
 not-fixed-set-up n s t e f a =
-    not-both (λ (r : Settings). (n′ : Node) × SetUpPromise n (r .area) (r .block) (r .stmin) a n′) s t (named (setUpSays a)) 0 badSetting (λ z. omega arith)
+    not-both (λ (r : ℕ × ℕ × ℕ). (n′ : Node) × SetUpPromise n (r .0) (r .1) (r .2) a n′) s t (named (setUpSays a)) 0 badSetting (λ z. omega arith)
     (λ p. ap (λ (o : Outcome). named (o .answer)) (same (p .1 [] [] [])) ∙ rw e)
     (λ p. ap (λ (o : Outcome). named (o .answer)) (same (p .1 [] [] [])) ∙ rw f)
 
@@ -259,6 +276,17 @@ unfolding done
 not-idle-timers h k a cards e busy p =
     let q = ap (λ (o : Outcome). berthAt (o .held .node) k) (answered h tick e (p .agrees (h .incoming) (h .outgoing))) in
     busy (still-idle (berthAt (h .node) k) (sym (q ∙ berth-ticked (h .node) k)))
+
+-- DOING NOTHING, SETTINGS: at every change that the paper answers, to another value than the berth had, a node left as it was is shut out
+pub not-idle-settings : (h : Held) (k parameter value : ℕ) (a : ChangeAnswer) → refusal h (change k parameter value) ≡ 0
+    → (changedSettings (berthAt (h .node) k .settings) parameter value ≡ berthAt (h .node) k .settings → ⊥)
+    → ChangePromise (h .node) k parameter value a (h .node) → ⊥
+unfolding done withBerth berthAt changed
+not-idle-settings h k parameter value a e differ p =
+    let ok = change-answered h k parameter value e in
+    let ten = in-order-range (h .node) (ok .order) .ten in
+    let q = ap (λ (o : Outcome). berthAt (o .held .node) k .settings) (answered h (change k parameter value) e (p (h .cards) (h .incoming) (h .outgoing))) in
+    differ (sym (q ∙ ap (λ (b : Berth). b .settings) (getD-set-same (h .node .berths) k _ fresh (omega (arith, ten, ok .mine)))))
 
 -- bytes put down are found at their place
 bytes-there : (l : List ℕ) (at : ℕ) (v : List ℕ) → at + length v ≤ length l → take (length v) (drop at (sets l at v)) ≡ v
@@ -371,7 +399,7 @@ abbrev hearing : Rx → ℕ → Held
 hearing rx last =
     record {
       node = record {
-        settings = record { area = 8; block = 0; stmin = 0 };
+        settings = record { area = 8 };
         served = 9;
         berths = withRx fresh rx last ∷ replicate 9 fresh;
       };
@@ -397,9 +425,10 @@ pub answered-here : (refusal (hearing Rx.Idle 0) (frame 0x640 (0x01 ∷ 7 ∷ []
     × (refusal (hearing (Rx.Awaits sixOfEight 0) 0) (frame 0x640 (0x21 ∷ 7 ∷ 8 ∷ [])) ≡ 0)
     × (refusal (hearing Rx.Idle 0) (frame 0x640 (0x01 ∷ 8 ∷ [])) ≡ 0)
     × (refusal (hearing Rx.Idle 0) (frame 0x640 eightBegun) ≡ 0)
+    × (refusal (hearing Rx.Idle 0) (change 0 1 5) ≡ 0) × (refusal (hearing Rx.Idle 0) (change 1 1 5) ≡ 0)
 unfolding
-    all each firstUnmet settingsAllowed inBlock takingInRange berthInOrder berthAt inOrder rightStore rightCards needs refusal setUpRefusal
-answered-here = (refl, refl, refl, refl, refl, refl, refl, refl, refl, refl, refl, refl, refl)
+    all each firstUnmet settingsAllowed valueAllowed inBlock takingInRange berthInOrder berthAt inOrder rightStore rightCards needs refusal setUpRefusal
+answered-here = (refl, refl, refl, refl, refl, refl, refl, refl, refl, refl, refl, refl, refl, refl, refl)
 
 -- so for every fixed answer, and for every part, there is a call that shuts it out
 pub not-fixed-here :
@@ -407,17 +436,19 @@ pub not-fixed-here :
     × ((a : SendAnswer) → (k : ℕ) × ((n : Node) × (outgoing : List ℕ) × SendPromise (hearing Rx.Idle 0 .node) (replicate 80 0) k (1 ∷ []) a n outgoing → ⊥))
     × ((a : TurnAnswer) → (h : Held) × ((n : Node) × (cards : List Card) × (buffer : List ℕ) × TurnPromise (h .node) (h .cards) (h .outgoing) (replicate 8 0) a n cards buffer → ⊥))
     × ((a : TickAnswer) → (h : Held) × ((n : Node) × (cards : List Card) × TickPromise (h .node) (h .cards) a n cards → ⊥))
-    × ((a : SetUpAnswer) → (s : Settings) × ((n : Node) × SetUpPromise blankNode (s .area) (s .block) (s .stmin) a n → ⊥))
+    × ((a : SetUpAnswer) → (s : ℕ × ℕ × ℕ) × ((n : Node) × SetUpPromise blankNode (s .0) (s .1) (s .2) a n → ⊥))
     × ((part : List ℕ) → (k : ℕ) × ((at in-at out-at : ℕ × ℕ) × ShowPromise (hearing Rx.Idle 1 .node) (replicate 80 0) (replicate 80 0) k Choice.Arrived part in-at out-at at → ⊥))
+    × ((a : ChangeAnswer) → (k : ℕ) × ((n : Node) × ChangePromise (hearing Rx.Idle 0 .node) k 1 5 a n → ⊥))
 unfolding
-    passedOver leastDistance due distance showing shownLength showable inOrder all each settingsAllowed berthInOrder rightStore berthAt areaOf
+    passedOver leastDistance due distance showing shownLength showable inOrder all each berthInOrder rightStore berthAt areaOf
 not-fixed-here = (
   not-fixed-frame (hearing Rx.Idle 0) 0x640 (answered-here .0) (answered-here .1),
   not-fixed-send (hearing Rx.Idle 0) 0 1 (1 ∷ []) (λ z. omega arith) (answered-here .2) (answered-here .3),
   not-fixed-turn (hearing (Rx.OwesOverflow 0) 0) (hearing Rx.Idle 0) (replicate 8 0) (λ z. omega arith) (answered-here .4) (answered-here .5),
   not-fixed-tick (hearing (Rx.OwesOverflow 0) 0) (lent blankNode [] [] []) (answered-here .6) (answered-here .7),
-  not-fixed-set-up blankNode (record { area = 8; block = 0; stmin = 0 }) (record { area = 0; block = 0; stmin = 0 }) (answered-here .8) (answered-here .9),
+  not-fixed-set-up blankNode (8, 0, 0) (0, 0, 0) (answered-here .8) (answered-here .9),
   not-fixed-part (hearing Rx.Idle 1) Choice.Arrived 0 10 (λ z. omega arith),
+  not-fixed-change (hearing Rx.Idle 0) 0 1 1 5 (λ z. omega arith) (answered-here .13) (answered-here .14),
 )
 
 -- for every incoming store there is a frame that shuts it out
@@ -429,6 +460,11 @@ pub not-idle-here : (a : TickAnswer) (cards : List Card) → TickPromise (hearin
 unfolding berthAt
 not-idle-here a cards =
     not-idle-timers (hearing (Rx.OwesOverflow 0) 0) 0 a cards (answered-here .6) (λ q. let e : Rx.OwesOverflow 0 ≡ Rx.Idle = q .0 in clash (cc))
+
+pub not-idle-settings-here : (a : ChangeAnswer) → ChangePromise (hearing Rx.Idle 0 .node) 0 1 5 a (hearing Rx.Idle 0 .node) → ⊥
+unfolding berthAt changedSettings
+not-idle-settings-here a =
+    not-idle-settings (hearing Rx.Idle 0) 0 1 5 a (answered-here .13) (λ q. let z : _≡_ {A = ℕ} 5 0 = ap (λ (s : BerthSettings). s .block) q in omega arith)
 
 pub not-idle-message-here : (a : SendAnswer) (n : Node) → SendPromise (hearing Rx.Idle 0 .node) (replicate 80 0) 0 (1 ∷ []) a n (replicate 80 0) → ⊥
 unfolding areaOf

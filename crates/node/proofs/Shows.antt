@@ -29,11 +29,11 @@ use Rattle.node.proofs.Outcomes.{all-met, does}
 
 -- ---- a length that can be shown is at most A
 
-last-fits : (s : Settings) (last : ℕ) (rx : Rx) → RxRange s last rx → last ≤ s .area
-last-fits s last Rx.Idle h = h
-last-fits s last (Rx.OwesOverflow t) h = h .0
-last-fits s last (Rx.OwesGo p t) h = omega arith
-last-fits s last (Rx.Awaits p t) h = omega arith
+last-fits : (s : Settings) (bs last : ℕ) (rx : Rx) → RxRange s bs last rx → last ≤ s .area
+last-fits s bs last Rx.Idle h = h
+last-fits s bs last (Rx.OwesOverflow t) h = h .0
+last-fits s bs last (Rx.OwesGo p t) h = omega arith
+last-fits s bs last (Rx.Awaits p t) h = omega arith
 
 sending-fits : (s : Settings) (tx : Tx) → leastArea ≤ s .area → TxRange s tx → lengthSending tx ≤ s .area
 sending-fits s Tx.Idle l h = omega arith
@@ -44,7 +44,7 @@ sending-fits s (Tx.Consecutive o t) l h = h .0 .length-most
 
 pub shown-fits : (s : Settings) (b : Berth) (choice : Choice) → leastArea ≤ s .area → BerthRange s b
     → chosen choice (b .last) (lengthSending (b .tx)) ≤ s .area
-shown-fits s b Choice.Arrived l h = last-fits s (b .last) (b .rx) (h .receive)
+shown-fits s b Choice.Arrived l h = last-fits s (b .settings .block) (b .last) (b .rx) (h .receive)
 shown-fits s b Choice.Sending l h = sending-fits s (b .tx) l (h .send)
 
 -- ---- what is known where a part can be shown, and what is shown where it can and where it cannot

@@ -5,8 +5,11 @@ use mathlib.Core.Bool.{Bool, not, _&&_}
 use mathlib.Core.List.{List, [], _∷_, _++_}
 use lib.Dec.{ltb, leb, eqb}
 use Rattle.rules.specs.Tests.{pick, Need, need, firstUnmet}
-use Rattle.rules.specs.Numbers.{berthCount, fromBerth, mostData, leastBuffer, outOfOrder, wrongStore, wrongIdentifier, tooManyBytes, noSuchBerth, emptyMessage, messageTooLong, alreadySending, shortBuffer, wrongCards}
+use Rattle.rules.specs.Numbers.{berthCount, fromBerth, mostData, leastBuffer, outOfOrder, wrongStore, wrongIdentifier, tooManyBytes, noSuchBerth, emptyMessage, messageTooLong, alreadySending, shortBuffer, wrongCards, unknownParameter, valueOutside, takingPlace}
 use Rattle.rules.specs.Turns.{busy}
+use Rattle.rules.specs.Changes.{known, valueAllowed}
+use Rattle.rules.specs.Cards.{underWay}
+use Rattle.rules.specs.declared.Rx.{Rx}
 use Rattle.rules.specs.declared.Tx.{Tx}
 
 -- ---- refusals: of a store and a message only the lengths count
@@ -48,6 +51,16 @@ unfoldable pub turnRefusal : Bool → (area store cards room : ℕ) → ℕ
 turnRefusal ordered area store cards room =
     firstUnmet
     (orderAndStoreNeeds ordered area store ++ (need wrongCards (areTen cards) ∷ need shortBuffer (leb leastBuffer room) ∷ []))
+
+unfoldable pub changeRefusal : Bool → Rx → (k parameter value : ℕ) → ℕ
+changeRefusal ordered rx k parameter value =
+    firstUnmet
+    (need outOfOrder ordered
+    ∷ need noSuchBerth (ltb k berthCount)
+    ∷ need unknownParameter (known parameter)
+    ∷ need valueOutside (valueAllowed parameter value)
+    ∷ need takingPlace (not (underWay rx))
+    ∷ [])
 
 unfoldable pub canShow : Bool → (area incoming outgoing k : ℕ) → Bool
 canShow ordered area incoming outgoing k = ordered && (isStore area incoming && (isStore area outgoing && ltb k berthCount))

@@ -8,8 +8,8 @@ use Rattle.rules.specs.Numbers.{berthCount}
 use Rattle.rules.specs.Tests.{pick, unless}
 use Rattle.rules.specs.Frames.{framesNeeded}
 use Rattle.rules.specs.Nodes.{Held}
-use Rattle.rules.specs.Answers.{Answer, shown, setUpSays, frameSays, tickSays, sendSays, turnSays, paperOf}
-use Rattle.rules.specs.Events.{frame, tick, send, turn, show}
+use Rattle.rules.specs.Answers.{Answer, shown, setUpSays, frameSays, tickSays, sendSays, turnSays, changeSays, paperOf}
+use Rattle.rules.specs.Events.{frame, tick, send, turn, show, change}
 use Rattle.rules.specs.Calls.{Outcome, outcome, setUpOutcome, showable, chosen}
 use Rattle.rules.specs.declared.Node.{Node}
 use Rattle.rules.specs.declared.Card.{Card}
@@ -20,6 +20,7 @@ use Rattle.rules.specs.declared.FrameAnswer.{FrameAnswer}
 use Rattle.rules.specs.declared.TickAnswer.{TickAnswer}
 use Rattle.rules.specs.declared.SendAnswer.{SendAnswer}
 use Rattle.rules.specs.declared.TurnAnswer.{TurnAnswer}
+use Rattle.rules.specs.declared.ChangeAnswer.{ChangeAnswer}
 
 -- ---- what a call is lent, what it leaves, and when two outcomes are the same
 
@@ -85,6 +86,13 @@ pub record ShowPromise (n : Node) (incoming outgoing : List ℕ) (k : ℕ) (choi
       (cards : List Card) →
       Agrees (left (shown part) (lent n cards incoming outgoing) []) (outcome (lent n cards incoming outgoing) (show k choice))
   pub starts : (cards : List Card) → part-at ≡ startsAt (lent n cards incoming outgoing) k choice in-at out-at
+
+-- a change takes no store and no card (paper 02, W3)
+abbrev pub ChangePromise : Node → (k parameter value : ℕ) → ChangeAnswer → Node → Type 0
+ChangePromise n k parameter value a n′ =
+    (cards : List Card) (incoming outgoing : List ℕ) →
+    Agrees (left (changeSays a) (lent n′ cards incoming outgoing) [])
+    (outcome (lent n cards incoming outgoing) (change k parameter value))
 
 abbrev pub NeededPromise : ℕ → ℕ → Type 0
 NeededPromise n r = r ≡ framesNeeded n

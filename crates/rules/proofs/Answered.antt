@@ -12,9 +12,10 @@ use Rattle.rules.specs.Numbers.{berthCount, fromBerth, mostData, leastBu
 use Rattle.rules.specs.Nodes.{berthAt, Held}
 use Rattle.rules.specs.Ranges.{inOrder}
 use Rattle.rules.specs.Turns.{busy}
+use Rattle.rules.specs.Changes.{known, valueAllowed}
 use Rattle.rules.specs.Stores.{rightStore}
 use Rattle.rules.specs.Events.{Call, senderOf}
-use Rattle.rules.specs.Cards.{rightCards}
+use Rattle.rules.specs.Cards.{rightCards, underWay}
 use Rattle.rules.specs.Refusals.{orderAndStore, needs, refusal}
 use Rattle.rules.specs.declared.Node.{Node}
 use Rattle.rules.proofs.Cases.{met, and-left, and-right}
@@ -86,3 +87,19 @@ unfolding refusal needs rightCards
 tick-answered h e =
     let (r1, e1) = met _ _ _ e in
     record { order = r1; ten = eqb-yes (met _ _ _ e1 .0) }
+
+pub record ChangeAnswered (h : Held) (k parameter value : ℕ) : Type 0 where
+  pub order : T (inOrder (h .node))
+  pub mine : k < berthCount
+  pub named : T (known parameter)
+  pub allowed : T (valueAllowed parameter value)
+  pub free : T (not (underWay (berthAt (h .node) k .rx)))
+
+pub change-answered : (h : Held) (k parameter value : ℕ) → refusal h (Call.change k parameter value) ≡ 0 → ChangeAnswered h k parameter value
+unfolding refusal needs
+change-answered h k parameter value e =
+    let (r1, e1) = met _ _ _ e in
+    let (r5, e5) = met _ _ _ e1 in
+    let (r13, e13) = met _ _ _ e5 in
+    let (r14, e14) = met _ _ _ e13 in
+    record { order = r1; mine = ltb-yes r5; named = r13; allowed = r14; free = met _ _ _ e14 .0 }

@@ -5,7 +5,7 @@ use mathlib.Core.List.{List, [], _∷_}
 use lib.ListN.{getD, drop}
 use lib.Dec.{eqb}
 use Rattle.rules.specs.Tests.{pick}
-use Rattle.rules.specs.Answers.{Answer, refused, ready, heard, codes, sent, handed, none, shown, Paper, wordPaper, codesPaper, paperOf}
+use Rattle.rules.specs.Answers.{Answer, refused, ready, heard, codes, sent, handed, none, shown, changed, Paper, wordPaper, codesPaper, paperOf}
 use Rattle.rules.specs.declared.Word.{Word}
 use Rattle.rules.specs.declared.Word.the-variants.{Delivered, Begun, Failed, Ignored, TooLong, Took, Going, Waiting}
 use Rattle.rules.specs.declared.Codes.{Codes}
@@ -49,7 +49,7 @@ paperRead p =
     (pick (eqb (p .number) 3) (codes (codesRead (p .values)))
     (pick (eqb (p .number) 4) (sent (v 0))
     (pick (eqb (p .number) 5) (handed (v 0) (drop 3 (p .values)) (v 1) (v 2))
-    (pick (eqb (p .number) 6) (none (v 0)) (shown (p .values))))))))
+    (pick (eqb (p .number) 6) (none (v 0)) (pick (eqb (p .number) 7) (shown (p .values)) (changed (v 0)))))))))
 
 paper-back : (a : Answer) → paperRead (paperOf a) ≡ a
 unfolding paperRead paperOf
@@ -61,6 +61,7 @@ paper-back (sent k) = refl
 paper-back (handed id frame code passed) = refl
 paper-back (none passed) = refl
 paper-back (shown part) = refl
+paper-back (changed k) = refl
 
 -- ONE-TO-ONE: two answers with the same number and values are the same
 pub paper-one : (a b : Answer) → paperOf a ≡ paperOf b → a ≡ b

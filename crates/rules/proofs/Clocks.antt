@@ -188,7 +188,7 @@ module _ (s : Side) (b : Berth) (r : InTime (clockOf s b)) where
 pub in-time : (st : Settings) (b : Berth) → BerthRange st b → (s : Side) → InTime (clockOf s b)
 in-time st b r receive = go (b .rx) (r .receive)
   where
-    go : (rx : Rx) → RxRange st (b .last) rx → InTime (rxClock rx)
+    go : (rx : Rx) → RxRange st (b .settings .block) (b .last) rx → InTime (rxClock rx)
     go Rx.Idle q = tt
     go (Rx.OwesOverflow t) q = (omega arith, q .1)
     go (Rx.OwesGo p t) q = (omega arith, q .2)

@@ -13,7 +13,8 @@ use Rattle.rules.specs.Frames.{kind, low, singleFits, announced, firstFi
 use Rattle.rules.specs.Arrivals.{Heard, Told, Came, ignored, oldCode, singleCame, firstCame, aboveArea, turnedAway, begun, missing, completed, afterTook, took, wrongSn, awaitedCame, consecutiveCame, byStatus, flowIgnored, flowCame, heardBy, toldBy, byKind, frameCame}
 use Rattle.rules.specs.Ticks.{ran, rxTicked, rxCode, ticked}
 use Rattle.rules.specs.Turns.{handOver, sent as sentBerth}
-use Rattle.rules.specs.Events.{Event, arrives, ticks, sends, turns}
+use Rattle.rules.specs.Changes.{changed}
+use Rattle.rules.specs.Events.{Event, arrives, ticks, sends, turns, changes}
 use Rattle.rules.specs.Cards.{isDelivered, isBegun, isFailed, isSingle, frameAdds, underWay, tickAdds, turnAdds, adds}
 use Rattle.rules.specs.Alone.{Part, stateAfter, partAfter}
 use Rattle.rules.specs.declared.Settings.{Settings}
@@ -62,20 +63,20 @@ first-even s rx last d =
     (λ t. ignored-even false 3 rx last)
 
 -- Took keeps it under way
-took-under-way : (s : Settings) (p : Taking) → underWay (afterTook s p) ≡ true
+took-under-way : (bs : ℕ) (p : Taking) → underWay (afterTook bs p) ≡ true
 unfolding afterTook
-took-under-way s p = pick-either (λ (rx : Rx). underWay rx ≡ true) (fillsBlock (s .block) (p .taken)) _ _ (λ t. refl) (λ t. refl)
+took-under-way bs p = pick-either (λ (rx : Rx). underWay rx ≡ true) (fillsBlock bs (p .taken)) _ _ (λ t. refl) (λ t. refl)
 
-consecutive-even : (s : Settings) (rx : Rx) (last : ℕ) (d : List ℕ) → HeardEven false rx (consecutiveCame s rx last d)
+consecutive-even : (bs : ℕ) (rx : Rx) (last : ℕ) (d : List ℕ) → HeardEven false rx (consecutiveCame bs rx last d)
 unfolding awaitedCame completed took wrongSn ignored
-consecutive-even s Rx.Idle last d = ignored-even false 4 Rx.Idle last
-consecutive-even s (Rx.OwesOverflow t) last d = ignored-even false 4 (Rx.OwesOverflow t) last
-consecutive-even s (Rx.OwesGo p t) last d = ignored-even false 4 (Rx.OwesGo p t) last
-consecutive-even s (Rx.Awaits p t) last d =
+consecutive-even bs Rx.Idle last d = ignored-even false 4 Rx.Idle last
+consecutive-even bs (Rx.OwesOverflow t) last d = ignored-even false 4 (Rx.OwesOverflow t) last
+consecutive-even bs (Rx.OwesGo p t) last d = ignored-even false 4 (Rx.OwesGo p t) last
+consecutive-even bs (Rx.Awaits p t) last d =
     let E = HeardEven false (Rx.Awaits p t) in
     pick-either E (consecutiveFits (missing p) d) _ _
     (λ u. pick-either E (eqb (low d) (p .sn .0)) _ _
-    (λ v. pick-either E (leb (missing p) consecutiveMost) _ _ (λ w. refl) (λ w. rw (took-under-way s p)))
+    (λ v. pick-either E (leb (missing p) consecutiveMost) _ _ (λ w. refl) (λ w. rw (took-under-way bs p)))
     (λ v. refl))
     (λ u. refl)
 
@@ -103,7 +104,7 @@ frame-even s b d =
     (λ u. rw (is-true (eqb (kind d) singleKind) u) (single-even (b .rx) (b .last) d))
     (λ u. rw (is-false (eqb (kind d) singleKind) u)
     (pick-either (E false) (eqb (kind d) firstKind) _ _ (λ v. first-even s (b .rx) (b .last) d)
-    (λ v. pick-either (E false) (eqb (kind d) consecutiveKind) _ _ (λ w. consecutive-even s (b .rx) (b .last) d)
+    (λ v. pick-either (E false) (eqb (kind d) consecutiveKind) _ _ (λ w. consecutive-even (b .settings .block) (b .rx) (b .last) d)
     (λ w. pick-either (E false) (eqb (kind d) flowKind) _ _ (λ x. flow-even (b .rx) (b .tx) d) (λ x. ignored-even false 2 (b .rx) (b .last)))))))
   where
     E : Bool → Came → Type 0
@@ -125,11 +126,11 @@ tick-even (Rx.OwesGo p t) = expires-even (ltb (t + 1) timeout) N-TIMEOUT-A _ ref
 tick-even (Rx.Awaits p t) = expires-even (ltb (t + 1) timeout) N-TIMEOUT-Cr _ refl refl
 
 -- a turn keeps it
-turn-even : (s : Settings) (b : Berth) (area : List ℕ) → underWay (handOver s b area .berth .rx) ≡ underWay (b .rx)
+turn-even : (b : Berth) (area : List ℕ) → underWay (handOver b area .berth .rx) ≡ underWay (b .rx)
 unfolding handOver
-turn-even s b area = go (b .rx) refl
+turn-even b area = go (b .rx) refl
   where
-    go : (rx : Rx) → b .rx ≡ rx → underWay (handOver s b area .berth .rx) ≡ underWay (b .rx)
+    go : (rx : Rx) → b .rx ≡ rx → underWay (handOver b area .berth .rx) ≡ underWay (b .rx)
     go Rx.Idle e = rw e
     go (Rx.OwesOverflow t) e = rw e
     go (Rx.OwesGo p t) e = rw e
@@ -144,4 +145,5 @@ unfolding adds frameAdds tickAdds turnAdds stateAfter partAfter
 event-even s p (arrives d) = omega (arith, frame-even s (p .berth) d)
 event-even s p ticks = unfold ticked in (omega (arith, tick-even (p .berth .rx)))
 event-even s p (sends m) = unfold sentBerth in (omega arith)
-event-even s p turns = rw (turn-even s (p .berth) (p .outgoing)) (omega arith)
+event-even s p turns = rw (turn-even (p .berth) (p .outgoing)) (omega arith)
+event-even s p (changes parameter value) = unfold changed in (omega arith)

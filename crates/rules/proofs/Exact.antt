@@ -10,17 +10,18 @@ use lib.ListN.{length, drop}
 use lib.Dec.{T, ltb, leb, eqb}
 use mir.Facts.{leb-yes, leb-no, ltb-yes, ltb-no, eqb-yes, eqb-no, yes-leb, yes-ltb, yes-and}
 use Rattle.rules.specs.Tests.{Need, need, firstUnmet}
-use Rattle.rules.specs.Numbers.{berthCount, fromBerth, outOfOrder, badSetting, unused}
+use Rattle.rules.specs.Numbers.{berthCount, fromBerth, outOfOrder, badSetting, unused, stminParameter, blockParameter}
 use Rattle.rules.specs.Nodes.{berthAt, Held}
 use Rattle.rules.specs.Ranges.{settingsAllowed, inOrder, InOrder}
 use Rattle.rules.specs.Turns.{busy}
+use Rattle.rules.specs.Changes.{known, valueAllowed}
 use Rattle.rules.specs.Stores.{rightStore}
-use Rattle.rules.specs.Cards.{rightCards}
+use Rattle.rules.specs.Cards.{rightCards, underWay}
 use Rattle.rules.specs.Events.{Call}
 use Rattle.rules.specs.Refusals.{needs, refusal, setUpRefusal, Condition, conditions, setUpConditions, Holds, Refuses}
 use Rattle.rules.specs.Calls.{setUpOutcome, final}
-use Rattle.rules.proofs.Cases.{Tested, holds, fails, test-cases, and-left, and-right, tests}
-use Rattle.rules.proofs.Ranges.{settings-range, settings-allowed, in-order-range, range-in-order}
+use Rattle.rules.proofs.Cases.{Tested, holds, fails, test-cases, eqb-cases, and-left, and-right, or-cases, tests}
+use Rattle.rules.proofs.Ranges.{settings-range, settings-allowed, value-range, value-allowed, in-order-range, range-in-order}
 use Rattle.rules.proofs.Order.{run-in-order, set-up-in-order}
 
 -- row by row: the same number, above 0; the test decides the condition
@@ -97,13 +98,13 @@ not-not : (b : Bool) → T (not (not b)) → b ≡ true
 not-not true t = refl
 not-not false t = absurd t
 
-abbrev Known : ℕ → Type 0
-Known id = (0x640 ≤ id) × (id ≤ 0x649)
+abbrev OfTheTen : ℕ → Type 0
+OfTheTen id = (0x640 ≤ id) × (id ≤ 0x649)
 
-known : (id : ℕ)
-    → (T (leb fromBerth id && ltb id (fromBerth + berthCount)) → (Known id → ⊥) → ⊥)
-    × (T (not (leb fromBerth id && ltb id (fromBerth + berthCount))) → Known id → ⊥)
-known id = (
+of-the-ten : (id : ℕ)
+    → (T (leb fromBerth id && ltb id (fromBerth + berthCount)) → (OfTheTen id → ⊥) → ⊥)
+    × (T (not (leb fromBerth id && ltb id (fromBerth + berthCount))) → OfTheTen id → ⊥)
+of-the-ten id = (
   (λ t f.
       let u : id < fromBerth + berthCount = ltb-yes (and-right (leb fromBerth id) _ t) in
       f (leb-yes (and-left (leb fromBerth id) _ t), omega arith)),
@@ -111,6 +112,18 @@ known id = (
       let u : id < fromBerth + berthCount = omega (arith, f .1) in
       contradicts (leb fromBerth id && ltb id (fromBerth + berthCount)) t (yes-and (leb fromBerth id) _ (yes-leb (f .0)) (yes-ltb u))),
 )
+
+parameter-decided : (q : ℕ) → (T (known q) → 1 < q → ⊥) × (T (not (known q)) → 1 < q)
+parameter-decided q = (
+  (λ t l. ⊎-elim (λ (u : T (eqb q stminParameter)). let e : q ≡ 0 = eqb-yes u in omega arith) (λ (u : T (eqb q blockParameter)). let e : q ≡ 1 = eqb-yes u in omega arith) (or-cases (eqb q stminParameter) _ t)),
+  (λ t. go (eqb-cases q stminParameter) (eqb-cases q blockParameter) t),
+)
+  where
+    go : Tested (eqb q stminParameter) (q ≡ stminParameter) (q ≡ stminParameter → ⊥) → Tested (eqb q blockParameter) (q ≡ blockParameter) (q ≡ blockParameter → ⊥)
+        → T (not (known q)) → 1 < q
+    go (holds e x) w t = absurd (rw e at t)
+    go (fails e x) (holds f y) t = absurd (rw (e, f) at t)
+    go (fails e x) (fails f y) t = omega arith
 
 module _ (h : Held) where
   in-order-decided : (T (inOrder (h .node)) → (InOrder (h .node) → ⊥) → ⊥) × (T (not (inOrder (h .node))) → InOrder (h .node) → ⊥)
@@ -146,8 +159,8 @@ module _ (h : Held) where
         ten-cards .1,
         (
           (refl, omega arith),
-          known id .0,
-          known id .1,
+          of-the-ten id .0,
+          of-the-ten id .1,
           ((refl, omega arith), (λ t f. omega tests), (λ t. leb-no t), tt),
         ),
       ),
@@ -192,6 +205,27 @@ module _ (h : Held) where
     ),
   )
   decides (Call.show k choice) = tt
+  decides (Call.change k parameter value) = (
+    (refl, omega arith),
+    in-order-decided .0,
+    in-order-decided .1,
+    (
+      (refl, omega arith),
+      (λ t f. omega tests),
+      (λ t. ltb-no t),
+      (
+        (refl, omega arith),
+        parameter-decided parameter .0,
+        parameter-decided parameter .1,
+        (
+          (refl, omega arith),
+          (λ t f. f (value-range parameter value t)),
+          (λ t r. contradicts (valueAllowed parameter value) t (value-allowed parameter value r)),
+          ((refl, omega arith), (λ t f. rw f at t), not-not (underWay (berthAt (h .node) k .rx)), tt),
+        ),
+      ),
+    ),
+  )
 
 set-up-decides : (a bs stmin : ℕ) → Decides (need badSetting (settingsAllowed a bs stmin) ∷ []) (setUpConditions a bs stmin)
 set-up-decides a bs stmin = (
@@ -239,6 +273,7 @@ first-condition h Call.tick x o = ⊎-elim (λ q. q .1 o) (not-there outOfOrder 
 first-condition h (Call.send k m) x o = ⊎-elim (λ q. q .1 o) (not-there outOfOrder (drop 1 (conditions h (Call.send k m))) tt) x
 first-condition h (Call.turn buffer) x o = ⊎-elim (λ q. q .1 o) (not-there outOfOrder (drop 1 (conditions h (Call.turn buffer))) tt) x
 first-condition h (Call.show k choice) x o = x
+first-condition h (Call.change k q v) x o = ⊎-elim (λ y. y .1 o) (not-there outOfOrder (drop 1 (conditions h (Call.change k q v))) tt) x
 
 pub never-out-of-order : (h : Held) (c : Call) → InOrder (h .node) → refusal h c ≡ outOfOrder → ⊥
 never-out-of-order h c o e = first-condition h c (refuses-holds (conditions h c) outOfOrder (refused-exactly h c outOfOrder (omega arith) .0 e)) o
@@ -258,6 +293,7 @@ never-unused h c e = not-there unused (conditions h c) (go c) (refuses-holds (co
     go (Call.send k m) = tt
     go (Call.turn buffer) = tt
     go (Call.show k choice) = tt
+    go (Call.change k parameter value) = tt
 
 -- nor is a set-up
 pub set-up-never-unused : (a bs stmin : ℕ) → setUpRefusal a bs stmin ≡ unused → ⊥

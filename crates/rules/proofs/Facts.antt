@@ -13,7 +13,7 @@ use Rattle.rules.specs.Numbers.{singleKind, firstKind, consecutiveKind, 
 use Rattle.rules.specs.Frames.{kind, low, singleFits, announced, firstFits, consecutiveFits, flowFits, share}
 use Rattle.rules.specs.Arrivals.{Heard, ignored, singleCame, aboveArea, turnedAway, begun, firstCame, missing, piece, completed, took, wrongSn, awaitedCame, consecutiveCame, Told, granted, byStatus, flowIgnored, flowCame, Came, heardBy, toldBy, byKind, frameCame}
 use Rattle.rules.specs.Turns.{newBlock, afterFlow}
-use Rattle.rules.specs.Nodes.{berthAt, Held}
+use Rattle.rules.specs.Nodes.{berthAt, withRx, withTx, Held}
 use Rattle.rules.specs.Stores.{areaOf, cameAt}
 use Rattle.rules.specs.Events.{Call, frame, senderOf}
 use Rattle.rules.specs.Refusals.{refusal, setUpRefusal}
@@ -35,7 +35,7 @@ pub frame-either : (P : Came → Type 0) (s : Settings) (b : Berth) (d : List �
     → ((why : ℕ) → P (heardBy b (ignored why (b .rx) (b .last))))
     → P (heardBy b (singleCame (b .rx) (b .last) d))
     → P (heardBy b (firstCame s (b .rx) (b .last) d))
-    → P (heardBy b (consecutiveCame s (b .rx) (b .last) d))
+    → P (heardBy b (consecutiveCame (b .settings .block) (b .rx) (b .last) d))
     → P (toldBy b (flowCame (b .tx) d))
     → P (frameCame s b d)
 unfolding frameCame byKind
@@ -90,9 +90,9 @@ module _ (why : ℕ) where
       (λ t. pick-either (Kept why rx last) (aboveArea s (announced d)) _ _ (λ u e. clash (cc)) (λ u e. clash (cc)))
       (λ t. ignored-kept 3 rx last)
 
-  awaited-kept : (s : Settings) (p : Taking) (t last : ℕ) (d : List ℕ) → Kept why (Rx.Awaits p t) last (awaitedCame s p t last d)
+  awaited-kept : (bs : ℕ) (p : Taking) (t last : ℕ) (d : List ℕ) → Kept why (Rx.Awaits p t) last (awaitedCame bs p t last d)
   unfolding awaitedCame completed took wrongSn
-  awaited-kept s p t last d =
+  awaited-kept bs p t last d =
       let K = Kept why (Rx.Awaits p t) last in
       pick-either K (consecutiveFits (missing p) d) _ _
       (λ u. pick-either K (eqb (low d) (p .sn .0)) _ _
@@ -100,11 +100,11 @@ module _ (why : ℕ) where
       (λ v e. clash (cc)))
       (λ u. ignored-kept 3 (Rx.Awaits p t) last)
 
-  consecutive-kept : (s : Settings) (rx : Rx) (last : ℕ) (d : List ℕ) → Kept why rx last (consecutiveCame s rx last d)
-  consecutive-kept s Rx.Idle last d = ignored-kept 4 Rx.Idle last
-  consecutive-kept s (Rx.OwesOverflow t) last d = ignored-kept 4 (Rx.OwesOverflow t) last
-  consecutive-kept s (Rx.OwesGo p t) last d = ignored-kept 4 (Rx.OwesGo p t) last
-  consecutive-kept s (Rx.Awaits p t) last d = awaited-kept s p t last d
+  consecutive-kept : (bs : ℕ) (rx : Rx) (last : ℕ) (d : List ℕ) → Kept why rx last (consecutiveCame bs rx last d)
+  consecutive-kept bs Rx.Idle last d = ignored-kept 4 Rx.Idle last
+  consecutive-kept bs (Rx.OwesOverflow t) last d = ignored-kept 4 (Rx.OwesOverflow t) last
+  consecutive-kept bs (Rx.OwesGo p t) last d = ignored-kept 4 (Rx.OwesGo p t) last
+  consecutive-kept bs (Rx.Awaits p t) last d = awaited-kept bs p t last d
 
   flow-kept : (tx : Tx) (d : List ℕ) → flowCame tx d .word ≡ Ignored why → flowCame tx d .tx ≡ tx
   unfolding flowIgnored
@@ -121,25 +121,25 @@ module _ (why : ℕ) where
       (λ i e. kept (ignored i (b .rx) (b .last)) (ignored-kept i (b .rx) (b .last) e))
       (λ e. kept (singleCame (b .rx) (b .last) d) (single-kept (b .rx) (b .last) d e))
       (λ e. kept (firstCame s (b .rx) (b .last) d) (first-kept s (b .rx) (b .last) d e))
-      (λ e. kept (consecutiveCame s (b .rx) (b .last) d) (consecutive-kept s (b .rx) (b .last) d e))
-      (λ e. (ap (λ (tx : Tx). record { rx = b .rx; last = b .last; tx = tx }) (flow-kept (b .tx) d e), refl))
+      (λ e. kept (consecutiveCame (b .settings .block) (b .rx) (b .last) d) (consecutive-kept (b .settings .block) (b .rx) (b .last) d e))
+      (λ e. (ap (withTx b) (flow-kept (b .tx) d e), refl))
     where
       kept : (h : Heard) → (h .rx ≡ b .rx) × (h .last ≡ b .last) × (h .bytes ≡ []) → (heardBy b h .berth ≡ b) × (heardBy b h .bytes ≡ [])
-      kept h k = ((λ i. record { rx = k .0 i; last = k .1 i; tx = b .tx }), k .2)
+      kept h k = ((λ i. withRx b (k .0 i) (k .1 i)), k .2)
 
 -- ---- every branch of a consecutive frame at a receive side: ignored, the last, one of several, and a wrong SN
 
-pub consecutive-either : (P : Heard → Type 0) (s : Settings) (rx : Rx) (last : ℕ) (d : List ℕ)
+pub consecutive-either : (P : Heard → Type 0) (bs : ℕ) (rx : Rx) (last : ℕ) (d : List ℕ)
     → ((why : ℕ) → P (ignored why rx last))
     → ((p : Taking) → P (completed p d))
-    → ((p : Taking) → P (took s p last d))
+    → ((p : Taking) → P (took bs p last d))
     → P (wrongSn last)
-    → P (consecutiveCame s rx last d)
+    → P (consecutiveCame bs rx last d)
 unfolding awaitedCame
-consecutive-either P s Rx.Idle last d ignores completes takes misses = ignores 4
-consecutive-either P s (Rx.OwesOverflow t) last d ignores completes takes misses = ignores 4
-consecutive-either P s (Rx.OwesGo p t) last d ignores completes takes misses = ignores 4
-consecutive-either P s (Rx.Awaits p t) last d ignores completes takes misses =
+consecutive-either P bs Rx.Idle last d ignores completes takes misses = ignores 4
+consecutive-either P bs (Rx.OwesOverflow t) last d ignores completes takes misses = ignores 4
+consecutive-either P bs (Rx.OwesGo p t) last d ignores completes takes misses = ignores 4
+consecutive-either P bs (Rx.Awaits p t) last d ignores completes takes misses =
     pick-either P (consecutiveFits (missing p) d) _ _
     (λ u. pick-either P (eqb (low d) (p .sn .0)) _ _
     (λ v. pick-either P (leb (missing p) consecutiveMost) _ _ (λ w. completes p) (λ w. takes p)) (λ v. misses))

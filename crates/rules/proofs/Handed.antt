@@ -11,7 +11,7 @@ use lib.Dec.{T, ltb}
 use Rattle.rules.specs.Tests.{unless}
 use Rattle.rules.specs.Numbers.{berthCount, toBerth, filler, firstBytes, consecutiveMost, shortMost, singleKind, firstKind, consecutiveKind, flowKind}
 use Rattle.rules.specs.Nodes.{berthAt, Held}
-use Rattle.rules.specs.Ranges.{SettingsRange, TxRange, BerthRange, InOrder}
+use Rattle.rules.specs.Ranges.{AreaRange, TxRange, BerthRange, InOrder}
 use Rattle.rules.specs.Frames.{kind, padded, headed, singleFrame, firstFrame, consecutiveFrame, goFrame, overflowFrame, share}
 use Rattle.rules.specs.Turns.{flowDue, messageDue, due, flowFrame, toGo, messageFrame, HandedOver, handOver}
 use Rattle.rules.specs.Stores.{passedOver, reached, handedAt}
@@ -21,6 +21,7 @@ use Rattle.rules.specs.Refusals.{refusal}
 use Rattle.rules.specs.Calls.{reply, done, written, refusedOutcome, outcome}
 use Rattle.rules.specs.Handing.{Fit}
 use Rattle.rules.specs.declared.Settings.{Settings}
+use Rattle.rules.specs.declared.BerthSettings.{BerthSettings}
 use Rattle.rules.specs.declared.Rx.{Rx}
 use Rattle.rules.specs.declared.Tx.{Tx}
 use Rattle.rules.specs.declared.Berth.{Berth}
@@ -32,7 +33,7 @@ use Rattle.rules.proofs.Round.{reached-due}
 
 -- ---- the kind of the frame that is due says which side's it is, and which frame of a message
 
-pub flow-kind : (s : Settings) (rx : Rx) → T (flowDue rx) → kind (flowFrame s rx) ≡ flowKind
+pub flow-kind : (s : BerthSettings) (rx : Rx) → T (flowDue rx) → kind (flowFrame s rx) ≡ flowKind
 unfolding goFrame overflowFrame padded kind
 flow-kind s Rx.Idle t = absurd t
 flow-kind s (Rx.OwesOverflow u) t = refl
@@ -66,14 +67,14 @@ headed-fit k l s h ne =
       no-wait = ne;
     }
 
-flow-fit : (s : Settings) (rx : Rx) → T (flowDue rx) → Fit (flowFrame s rx)
+flow-fit : (s : BerthSettings) (rx : Rx) → T (flowDue rx) → Fit (flowFrame s rx)
 unfolding goFrame overflowFrame
 flow-fit s Rx.Idle t = absurd t
 flow-fit s (Rx.OwesOverflow u) t = headed-fit 3 2 (0 ∷ 0 ∷ []) (omega arith) (λ e. omega arith)
 flow-fit s (Rx.OwesGo p u) t = headed-fit 3 0 (s .block ∷ s .stmin ∷ []) (omega arith) (λ e. omega arith)
 flow-fit s (Rx.Awaits p u) t = absurd t
 
-module _ (s : Settings) (sr : SettingsRange (s .area) (s .block) (s .stmin)) where
+module _ (s : Settings) (sr : AreaRange (s .area)) where
   message-fit : (tx : Tx) (area : List ℕ) → TxRange s tx → T (messageDue tx) → Fit (messageFrame tx area)
   unfolding singleFrame firstFrame consecutiveFrame share
   message-fit Tx.Idle area r t = absurd t
@@ -92,10 +93,10 @@ module _ (s : Settings) (sr : SettingsRange (s .area) (s .block) (s .stmin)) whe
       let m = r .0 .sn-most in
       headed-fit 2 (o .sn .0) (take (min consecutiveMost (toGo o)) (drop (o .position) area)) (omega arith) (λ e. omega arith)
 
-  pub hand-over-fit : (b : Berth) (area : List ℕ) → BerthRange s b → T (due b) → Fit (handOver s b area .frame)
+  pub hand-over-fit : (b : Berth) (area : List ℕ) → BerthRange s b → T (due b) → Fit (handOver b area .frame)
   unfolding handOver due
   hand-over-fit b area r t =
-      pick-either (λ (g : HandedOver). Fit (g .frame)) (flowDue (b .rx)) _ _ (λ u. flow-fit s (b .rx) u)
+      pick-either (λ (g : HandedOver). Fit (g .frame)) (flowDue (b .rx)) _ _ (λ u. flow-fit (b .settings) (b .rx) u)
       (λ u. message-fit (b .tx) area (r .send) (⊎-elim (λ v. absurd (neither (flowDue (b .rx)) u v)) (λ v. v) (or-cases (flowDue (b .rx)) _ t)))
     where
       neither : (x : Bool) → T (not x) → T x → ⊥

@@ -13,7 +13,7 @@ use Rattle.rules.specs.Tests.{all, each, need, firstUnmet, unless}
 use Rattle.rules.specs.Numbers.{berthCount, unused}
 use Rattle.rules.specs.Frames.{byteAt, kind, low, consecutiveFits, share}
 use Rattle.rules.specs.Nodes.{fresh, berthAt, withRx, Held}
-use Rattle.rules.specs.Ranges.{settingsAllowed, SettingsRange, inBlock, takingInRange, berthInOrder, BerthRange, inOrder, InOrder}
+use Rattle.rules.specs.Ranges.{AreaRange, inBlock, takingInRange, berthInOrder, BerthRange, inOrder, InOrder}
 use Rattle.rules.specs.Arrivals.{piece, completed, awaitedCame, heardBy, byKind, frameCame}
 use Rattle.rules.specs.Stores.{rightStore, stored, Outside, cameAt}
 use Rattle.rules.specs.Cards.{zeroCard, rightCards}
@@ -33,7 +33,7 @@ use Rattle.rules.proofs.Order.{came-ok}
 -- ---- place and count
 
 -- AT EVERY BERTH IN ORDER, WHATEVER THE FRAME, the bytes that its rule stores end inside an area of A bytes
-pub came-inside : (s : Settings) (b : Berth) (d : List ℕ) → SettingsRange (s .area) (s .block) (s .stmin) → BerthRange s b
+pub came-inside : (s : Settings) (b : Berth) (d : List ℕ) → AreaRange (s .area) → BerthRange s b
     → frameCame s b d .place + length (frameCame s b d .bytes) ≤ s .area
 came-inside s b d allowed range = came-ok s allowed b d range .inside
 
@@ -99,7 +99,7 @@ row-struck h id d = never-first (needs h (frame id d)) unused _ (λ e. yes-leb (
 abbrev edgeNode : Node
 edgeNode =
     record {
-      settings = record { area = 8; block = 0; stmin = 0 };
+      settings = record { area = 8 };
       served = 9;
       berths = set (replicate berthCount fresh) 3 (withRx fresh (Rx.Awaits (record { total = 8; got = 6; sn = record { 0 = 1 }; taken = 0 }) 0) 0);
     }
@@ -115,7 +115,7 @@ pub filled-here : (inOrder edgeNode ≡ true)
     × (cameAt edgeHeld 3 edgeFrame .place + length (cameAt edgeHeld 3 edgeFrame .bytes) ≡ 8)
     × (outcome edgeHeld (frame 0x643 edgeFrame) .held .incoming ≡ replicate 30 0xEE ++ (7 ∷ 8 ∷ replicate 48 0xEE))
 unfolding
-    inOrder all each settingsAllowed berthInOrder takingInRange inBlock berthAt cameAt frameCame byKind kind low heardBy awaitedCame consecutiveFits
+    inOrder all each berthInOrder takingInRange inBlock berthAt cameAt frameCame byKind kind low heardBy awaitedCame consecutiveFits
     completed piece share outcome done afterFrame stored refusal needs firstUnmet rightStore rightCards
 filled-here = (refl, refl, refl)
 

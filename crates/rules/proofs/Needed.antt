@@ -8,21 +8,23 @@ use mathlib.Core.List.{List, [], _∷_}
 use lib.ListN.{length, take, drop, length-take}
 use lib.Dec.{T, eqb, ltb, leb}
 use Rattle.rules.specs.Numbers.{flowKind, timeout, goStatus, waitStatus, overflowStatus, singleMost, firstBytes, consecutiveMost, largestArea}
-use Rattle.rules.specs.Ranges.{SettingsRange, TxRange, BerthRange}
+use Rattle.rules.specs.Ranges.{AreaRange, TxRange, BerthRange}
 use Rattle.rules.specs.Frames.{kind, low, padded, singleFrame, firstFrame, consecutiveFrame, goFrame, overflowFrame, flowFits, fillsBlock, share, roundedUp, needed, framesNeeded}
 use Rattle.rules.specs.Arrivals.{Told, granted, byStatus, flowIgnored, flowCame, Came, heardBy, toldBy, frameCame}
 use Rattle.rules.specs.Ticks.{ran, txTicked, ticked}
 use Rattle.rules.specs.Turns.{flowDue, messageDue, flowFrame, toGo, messageFrame, messageCode, moved, afterConsecutive, afterMessage, HandedOver, handOver, beginsWith, sent, busy}
-use Rattle.rules.specs.Events.{Event, arrives, ticks, sends, turns}
+use Rattle.rules.specs.Changes.{changed}
+use Rattle.rules.specs.Events.{Event, arrives, ticks, sends, turns, changes}
 use Rattle.rules.specs.Alone.{Part, hands, stateAfter, partAfter, says, alone, saysAll, AtEach}
 use Rattle.rules.specs.Handing.{dataFrames, dataTotal, Carried, CarriedAll}
 use Rattle.rules.specs.declared.Settings.{Settings}
+use Rattle.rules.specs.declared.BerthSettings.{BerthSettings}
 use Rattle.rules.specs.declared.Sending.{Sending}
 use Rattle.rules.specs.declared.Rx.{Rx}
 use Rattle.rules.specs.declared.Tx.{Tx}
 use Rattle.rules.specs.declared.Berth.{Berth}
 use Rattle.rules.proofs.Cases.{Tested, holds, fails, eqb-not, ltb-is, leb-is, leb-cases, pick-either}
-use Rattle.rules.proofs.Order.{came-ok, ticked-ok, hand-over-ok, sent-ok}
+use Rattle.rules.proofs.Order.{came-ok, ticked-ok, hand-over-ok, sent-ok, changed-ok}
 use Rattle.rules.proofs.Facts.{frame-either}
 
 -- ---- the frames left
@@ -109,14 +111,14 @@ data-one : (x : ℕ) (rest : List ℕ) (c : ℕ) → x / 16 < flowKind → dataF
 unfolding padded kind
 data-one x rest c h = rw (eqb-not (x / 16) flowKind (λ e. omega arith), eqb-not (length (padded (x ∷ rest))) 0 (λ e. omega arith))
 
-flow-none : (s : Settings) (rx : Rx) (c : ℕ) → T (flowDue rx) → dataFrames (hands (flowFrame s rx) c) ≡ 0
+flow-none : (s : BerthSettings) (rx : Rx) (c : ℕ) → T (flowDue rx) → dataFrames (hands (flowFrame s rx) c) ≡ 0
 unfolding overflowFrame goFrame padded kind
 flow-none s Rx.Idle c t = absurd t
 flow-none s (Rx.OwesOverflow u) c t = refl
 flow-none s (Rx.OwesGo p u) c t = refl
 flow-none s (Rx.Awaits p u) c t = absurd t
 
-module _ (s : Settings) (sr : SettingsRange (s .area) (s .block) (s .stmin)) where
+module _ (s : Settings) (sr : AreaRange (s .area)) where
   message-counts : (tx : Tx) (area : List ℕ) (c : ℕ) → TxRange s tx
       → dataFrames (hands (messageFrame tx area) c) + framesLeft (afterMessage tx) ≡ framesLeft tx
   unfolding singleFrame firstFrame consecutiveFrame framesLeft
@@ -139,11 +141,11 @@ module _ (s : Settings) (sr : SettingsRange (s .area) (s .block) (s .stmin)) whe
       omega arith
 
   turn-counts : (b : Berth) (area : List ℕ) → BerthRange s b
-      → dataFrames (hands (handOver s b area .frame) (handOver s b area .code)) + framesLeft (handOver s b area .berth .tx) ≡ framesLeft (b .tx)
+      → dataFrames (hands (handOver b area .frame) (handOver b area .code)) + framesLeft (handOver b area .berth .tx) ≡ framesLeft (b .tx)
   unfolding handOver
   turn-counts b area r =
       pick-either (λ (g : HandedOver). dataFrames (hands (g .frame) (g .code)) + framesLeft (g .berth .tx) ≡ framesLeft (b .tx)) (flowDue (b .rx)) _ _
-      (λ t. rw (flow-none s (b .rx) 0 t) (zero-add _)) (λ t. message-counts (b .tx) area (messageCode (b .tx)) (r .send))
+      (λ t. rw (flow-none (b .settings) (b .rx) 0 t) (zero-add _)) (λ t. message-counts (b .tx) area (messageCode (b .tx)) (r .send))
 
   -- ---- runs
 
@@ -154,6 +156,7 @@ module _ (s : Settings) (sr : SettingsRange (s .area) (s .block) (s .stmin)) whe
   step-counts p ticks r f = zero-add _ ∙ tick-stays (p .berth .tx) f
   step-counts p (sends m) r f = absurd f
   step-counts p turns r f = turn-counts (p .berth) (p .outgoing) r
+  step-counts p (changes parameter value) r f = unfold changed in (zero-add _)
 
   step-ok : (p : Part) (e : Event) → BerthRange s (p .berth) → Carried s p e → BerthRange s (partAfter s p e .berth)
   unfolding stateAfter partAfter
@@ -161,6 +164,7 @@ module _ (s : Settings) (sr : SettingsRange (s .area) (s .block) (s .stmin)) whe
   step-ok p ticks r f = ticked-ok s sr (p .berth) r
   step-ok p (sends m) r f = absurd f
   step-ok p turns r f = hand-over-ok s sr (p .berth) (p .outgoing) r
+  step-ok p (changes parameter value) r f = changed-ok s sr (p .berth) parameter value (f .1) (f .2) r
 
   run-counts : (es : List Event) (p : Part) → BerthRange s (p .berth) → CarriedAll s p es
       → dataTotal (saysAll s p es) + framesLeft (alone s p es .berth .tx) ≡ framesLeft (p .berth .tx)

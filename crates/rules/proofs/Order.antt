@@ -12,18 +12,21 @@ use lib.Seq.{getD-set-same, getD-set-other}
 use lib.Dec.{T, eqb, ltb, leb, lit<}
 use mir.Facts.{leb-yes, ltb-yes, ltb-no, eqb-yes, eqb-no}
 use Rattle.rules.specs.Tests.{pick, unless}
-use Rattle.rules.specs.Numbers.{berthCount, longestGap, singleMost, firstBytes, consecutiveMost, leastLong, shortMost, frameSize, singleKind, firstKind, consecutiveKind, flowKind, goStatus, waitStatus, overflowStatus, timeout}
-use Rattle.rules.specs.Nodes.{fresh, berthAt, Held, withBerth}
-use Rattle.rules.specs.Ranges.{SettingsRange, BlockRange, TakingRange, RxRange, SendingRange, TxRange, BerthRange, InOrder}
+use Rattle.rules.specs.Numbers.{berthCount, longestGap, singleMost, firstBytes, consecutiveMost, leastLong, shortMost, frameSize, singleKind, firstKind, consecutiveKind, flowKind, goStatus, waitStatus, overflowStatus, timeout, stminParameter}
+use Rattle.rules.specs.Nodes.{freshWith, fresh, berthAt, Held, withBerth}
+use Rattle.rules.specs.Ranges.{AreaRange, OwnRange, SettingsRange, BlockRange, TakingRange, RxRange, SendingRange, TxRange, BerthRange, InOrder}
 use Rattle.rules.specs.Frames.{byteAt, kind, low, singleFits, shortLength, escapeLength, announced, firstFits, consecutiveFits, flowFits, nextSn, counted, fillsBlock, share}
 use Rattle.rules.specs.Arrivals.{Heard, ignored, singleCame, aboveArea, turnedAway, taking, begun, firstCame, missing, piece, grown, completed, afterTook, took, wrongSn, awaitedCame, consecutiveCame, Told, granted, byStatus, flowIgnored, flowCame, Came, heardBy, toldBy, byKind, frameCame}
 use Rattle.rules.specs.Ticks.{ran, rxTicked, closer, txTicked, ticked}
 use Rattle.rules.specs.Turns.{flowDue, afterFlow, toGo, opened, moved, afterConsecutive, afterMessage, HandedOver, handOver, beginsWith, sent}
+use Rattle.rules.specs.Changes.{valueAllowed, changedSettings, changed}
+use Rattle.rules.specs.Cards.{underWay}
 use Rattle.rules.specs.Stores.{tickedNode, servedNode, setUpNode, passedOver, reached, cameAt, handedAt}
 use Rattle.rules.specs.Events.{Call, senderOf}
 use Rattle.rules.specs.Refusals.{refusal, setUpRefusal}
 use Rattle.rules.specs.Calls.{afterFrame, afterTurn, done, reply, bufferOf, written, refusedOutcome, outcome, setUpOutcome, final}
 use Rattle.rules.specs.declared.Settings.{Settings}
+use Rattle.rules.specs.declared.BerthSettings.{BerthSettings}
 use Rattle.rules.specs.declared.Taking.{Taking}
 use Rattle.rules.specs.declared.Sending.{Sending}
 use Rattle.rules.specs.declared.Rx.{Rx}
@@ -31,8 +34,8 @@ use Rattle.rules.specs.declared.Tx.{Tx}
 use Rattle.rules.specs.declared.Berth.{Berth}
 use Rattle.rules.specs.declared.Node.{Node}
 use Rattle.rules.proofs.Cases.{Tested, holds, fails, eqb-cases, tests, and-left, and-right, pick-either, met}
-use Rattle.rules.proofs.Ranges.{block-max, max-block, settings-range}
-use Rattle.rules.proofs.Answered.{frame-answered, send-answered}
+use Rattle.rules.proofs.Ranges.{block-max, max-block, stmin-range, settings-range}
+use Rattle.rules.proofs.Answered.{frame-answered, send-answered, change-answered}
 use Rattle.rules.proofs.Gaps.{gap-small}
 
 -- ---- blocks
@@ -88,24 +91,24 @@ announced-large d t = go (eqb-cases (shortLength d) 0) (and-right (eqb (length d
 pub within-area : (s : Settings) (n : ℕ) → T (not (aboveArea s n)) → n ≤ s .area
 within-area s n t = ltb-no t
 
-module _ (s : Settings) (sr : SettingsRange (s .area) (s .block) (s .stmin)) where
-  -- ---- a frame at the receive side
+-- ---- a frame at the receive side of a berth with this block size
 
+module _ (s : Settings) (sr : AreaRange (s .area)) (bs : ℕ) where
   pub record HeardOk (h : Heard) : Type 0 where
-    pub side : RxRange s (h .last) (h .rx)
+    pub side : RxRange s bs (h .last) (h .rx)
     pub inside : h .place + length (h .bytes) ≤ s .area
 
-  ignored-ok : (why : ℕ) (rx : Rx) (last : ℕ) → RxRange s last rx → HeardOk (ignored why rx last)
+  ignored-ok : (why : ℕ) (rx : Rx) (last : ℕ) → RxRange s bs last rx → HeardOk (ignored why rx last)
   unfolding ignored
   ignored-ok why rx last r = record { side = r; inside = omega (arith, sr .area-least) }
 
-  last-most : (rx : Rx) (last : ℕ) → RxRange s last rx → last ≤ s .area
+  last-most : (rx : Rx) (last : ℕ) → RxRange s bs last rx → last ≤ s .area
   last-most Rx.Idle last r = r
   last-most (Rx.OwesOverflow u) last r = r .0
   last-most (Rx.OwesGo p u) last r = omega arith
   last-most (Rx.Awaits p u) last r = omega arith
 
-  single-ok : (rx : Rx) (last : ℕ) (d : List ℕ) → RxRange s last rx → HeardOk (singleCame rx last d)
+  single-ok : (rx : Rx) (last : ℕ) (d : List ℕ) → RxRange s bs last rx → HeardOk (singleCame rx last d)
   unfolding singleCame
   single-ok rx last d r =
       pick-either HeardOk (singleFits d) _ _
@@ -114,7 +117,7 @@ module _ (s : Settings) (sr : SettingsRange (s .area) (s .block) (s .stmin)) whe
       record { side = omega (arith, sr .area-least); inside = omega (arith, sr .area-least, length-take (low d) (drop 1 d)) })
       (λ t. ignored-ok 3 rx last r)
 
-  taking-ok : (n : ℕ) → leastLong ≤ n → n ≤ s .area → TakingRange s (taking n)
+  taking-ok : (n : ℕ) → leastLong ≤ n → n ≤ s .area → TakingRange s bs (taking n)
   taking-ok n a b =
       record {
         total-least = a;
@@ -122,10 +125,10 @@ module _ (s : Settings) (sr : SettingsRange (s .area) (s .block) (s .stmin)) whe
         got-least = omega arith;
         got-most = omega arith;
         sn-most = omega arith;
-        taken = none-range (s .block);
+        taken = none-range bs;
       }
 
-  first-ok : (rx : Rx) (last : ℕ) (d : List ℕ) → RxRange s last rx → HeardOk (firstCame s rx last d)
+  first-ok : (rx : Rx) (last : ℕ) (d : List ℕ) → RxRange s bs last rx → HeardOk (firstCame s rx last d)
   unfolding firstCame turnedAway begun
   first-ok rx last d r =
       pick-either HeardOk (firstFits d) _ _
@@ -137,7 +140,7 @@ module _ (s : Settings) (sr : SettingsRange (s .area) (s .block) (s .stmin)) whe
       }))
       (λ t. ignored-ok 3 rx last r)
 
-  grown-ok : (p : Taking) (n : ℕ) → TakingRange s p → consecutiveMost < missing p → BlockRange (s .block) n → TakingRange s (grown p n)
+  grown-ok : (p : Taking) (n : ℕ) → TakingRange s bs p → consecutiveMost < missing p → BlockRange bs n → TakingRange s bs (grown p n)
   unfolding grown share nextSn
   grown-ok p n r m b =
       record {
@@ -150,34 +153,35 @@ module _ (s : Settings) (sr : SettingsRange (s .area) (s .block) (s .stmin)) whe
       }
 
   -- the bytes of a consecutive frame end inside the message, and so inside the area
-  piece-inside : (p : Taking) (d : List ℕ) → TakingRange s p → p .got + length (piece p d) ≤ s .area
+  piece-inside : (p : Taking) (d : List ℕ) → TakingRange s bs p → p .got + length (piece p d) ≤ s .area
   unfolding piece share
   piece-inside p d r = simp (length-take) (omega (arith, r .total-most, r .got-most))
 
-  awaited-ok : (p : Taking) (t last : ℕ) (d : List ℕ) → RxRange s last (Rx.Awaits p t) → HeardOk (awaitedCame s p t last d)
+  awaited-ok : (p : Taking) (t last : ℕ) (d : List ℕ) → RxRange s bs last (Rx.Awaits p t) → HeardOk (awaitedCame bs p t last d)
   unfolding awaitedCame completed took wrongSn afterTook
   awaited-ok p t last d r =
       pick-either HeardOk (consecutiveFits (missing p) d) _ _
       (λ u. pick-either HeardOk (eqb (low d) (p .sn .0)) _ _
       (λ v. pick-either HeardOk (leb (missing p) consecutiveMost) _ _
       (λ w. record { side = r .1 .total-most; inside = piece-inside p d (r .1) })
-      (λ w. record { side = pick-either (RxRange s last) (fillsBlock (s .block) (p .taken)) _ _ (λ f. full w) (going w); inside = piece-inside p d (r .1) }))
+      (λ w. record { side = pick-either (RxRange s bs last) (fillsBlock bs (p .taken)) _ _ (λ f. full w) (going w); inside = piece-inside p d (r .1) }))
       (λ v. record { side = omega arith; inside = omega (arith, sr .area-least) }))
       (λ u. ignored-ok 3 _ last (r .0, r .1, omega (arith, r .2)))
     where
-      full : T (not (leb (missing p) consecutiveMost)) → RxRange s last (Rx.OwesGo (grown p 0) 0)
-      full w = (r .0, grown-ok p 0 (r .1) (omega tests) (none-range (s .block)), omega arith)
+      full : T (not (leb (missing p) consecutiveMost)) → RxRange s bs last (Rx.OwesGo (grown p 0) 0)
+      full w = (r .0, grown-ok p 0 (r .1) (omega tests) (none-range bs), omega arith)
 
-      going : T (not (leb (missing p) consecutiveMost)) → T (not (fillsBlock (s .block) (p .taken)))
-          → RxRange s last (Rx.Awaits (grown p (counted (s .block) (p .taken))) 0)
-      going w f = (r .0, grown-ok p _ (r .1) (omega tests) (counted-range (s .block) (p .taken) (r .1 .taken) (not-filled _ _ f)), omega arith)
+      going : T (not (leb (missing p) consecutiveMost)) → T (not (fillsBlock bs (p .taken)))
+          → RxRange s bs last (Rx.Awaits (grown p (counted bs (p .taken))) 0)
+      going w f = (r .0, grown-ok p _ (r .1) (omega tests) (counted-range bs (p .taken) (r .1 .taken) (not-filled _ _ f)), omega arith)
 
-  consecutive-ok : (rx : Rx) (last : ℕ) (d : List ℕ) → RxRange s last rx → HeardOk (consecutiveCame s rx last d)
+  consecutive-ok : (rx : Rx) (last : ℕ) (d : List ℕ) → RxRange s bs last rx → HeardOk (consecutiveCame bs rx last d)
   consecutive-ok Rx.Idle last d r = ignored-ok 4 Rx.Idle last r
   consecutive-ok (Rx.OwesOverflow u) last d r = ignored-ok 4 (Rx.OwesOverflow u) last r
   consecutive-ok (Rx.OwesGo p u) last d r = ignored-ok 4 (Rx.OwesGo p u) last r
   consecutive-ok (Rx.Awaits p u) last d r = awaited-ok p u last d r
 
+module _ (s : Settings) (sr : AreaRange (s .area)) where
   -- ---- a flow control frame at the send side
 
   granted-ok : (o : Sending) (d : List ℕ) → SendingRange s o → SendingRange s (granted o d)
@@ -219,23 +223,25 @@ module _ (s : Settings) (sr : SettingsRange (s .area) (s .block) (s .stmin)) whe
     pub berth : BerthRange s (c .berth)
     pub inside : c .place + length (c .bytes) ≤ s .area
 
-  heard-ok : (b : Berth) (h : Heard) → TxRange s (b .tx) → HeardOk h → CameOk (heardBy b h)
+  heard-ok : (b : Berth) (h : Heard) → BerthRange s b → HeardOk s sr (b .settings .block) h → CameOk (heardBy b h)
   unfolding heardBy
-  heard-ok b h r k = record { berth = record { receive = k .side; send = r }; inside = k .inside }
+  heard-ok b h r k = record { berth = record { own = r .own; receive = k .side; send = r .send }; inside = k .inside }
 
   told-ok : (b : Berth) (d : List ℕ) → BerthRange s b → CameOk (toldBy b (flowCame (b .tx) d))
   unfolding toldBy
-  told-ok b d r = record { berth = record { receive = r .receive; send = flow-ok (b .tx) d (r .send) }; inside = omega (arith, sr .area-least) }
+  told-ok b d r =
+      record { berth = record { own = r .own; receive = r .receive; send = flow-ok (b .tx) d (r .send) }; inside = omega (arith, sr .area-least) }
 
   pub came-ok : (b : Berth) (d : List ℕ) → BerthRange s b → CameOk (frameCame s b d)
   unfolding frameCame byKind
   came-ok b d r =
-      pick-either CameOk (eqb (length d) 0) _ _ (λ t. heard-ok b _ (r .send) (ignored-ok 1 (b .rx) (b .last) (r .receive)))
-      (λ t. pick-either CameOk (eqb (kind d) singleKind) _ _ (λ u. heard-ok b _ (r .send) (single-ok (b .rx) (b .last) d (r .receive)))
-      (λ u. pick-either CameOk (eqb (kind d) firstKind) _ _ (λ v. heard-ok b _ (r .send) (first-ok (b .rx) (b .last) d (r .receive)))
-      (λ v. pick-either CameOk (eqb (kind d) consecutiveKind) _ _ (λ w. heard-ok b _ (r .send) (consecutive-ok (b .rx) (b .last) d (r .receive)))
+      let bs = b .settings .block in
+      pick-either CameOk (eqb (length d) 0) _ _ (λ t. heard-ok b _ r (ignored-ok s sr bs 1 (b .rx) (b .last) (r .receive)))
+      (λ t. pick-either CameOk (eqb (kind d) singleKind) _ _ (λ u. heard-ok b _ r (single-ok s sr bs (b .rx) (b .last) d (r .receive)))
+      (λ u. pick-either CameOk (eqb (kind d) firstKind) _ _ (λ v. heard-ok b _ r (first-ok s sr bs (b .rx) (b .last) d (r .receive)))
+      (λ v. pick-either CameOk (eqb (kind d) consecutiveKind) _ _ (λ w. heard-ok b _ r (consecutive-ok s sr bs (b .rx) (b .last) d (r .receive)))
       (λ w. pick-either CameOk (eqb (kind d) flowKind) _ _ (λ x. told-ok b d r)
-      (λ x. heard-ok b _ (r .send) (ignored-ok 2 (b .rx) (b .last) (r .receive)))))))
+      (λ x. heard-ok b _ r (ignored-ok s sr bs 2 (b .rx) (b .last) (r .receive)))))))
 
   -- ---- a tick
 
@@ -244,11 +250,11 @@ module _ (s : Settings) (sr : SettingsRange (s .area) (s .block) (s .stmin)) whe
   unfolding ran
   ran-either P t on ended f g = pick-either P (ltb (t + 1) timeout) _ _ (λ u. f (ltb-yes u)) (λ u. g)
 
-  rx-ticked-ok : (rx : Rx) (last : ℕ) → RxRange s last rx → RxRange s last (rxTicked rx)
-  rx-ticked-ok Rx.Idle last r = r
-  rx-ticked-ok (Rx.OwesOverflow t) last r = ran-either (RxRange s last) t _ _ (λ u. (r .0, u)) (r .0)
-  rx-ticked-ok (Rx.OwesGo p t) last r = ran-either (RxRange s last) t _ _ (λ u. (r .0, r .1, u)) (omega arith)
-  rx-ticked-ok (Rx.Awaits p t) last r = ran-either (RxRange s last) t _ _ (λ u. (r .0, r .1, u)) (omega arith)
+  rx-ticked-ok : (bs : ℕ) (rx : Rx) (last : ℕ) → RxRange s bs last rx → RxRange s bs last (rxTicked rx)
+  rx-ticked-ok bs Rx.Idle last r = r
+  rx-ticked-ok bs (Rx.OwesOverflow t) last r = ran-either (RxRange s bs last) t _ _ (λ u. (r .0, u)) (r .0)
+  rx-ticked-ok bs (Rx.OwesGo p t) last r = ran-either (RxRange s bs last) t _ _ (λ u. (r .0, r .1, u)) (omega arith)
+  rx-ticked-ok bs (Rx.Awaits p t) last r = ran-either (RxRange s bs last) t _ _ (λ u. (r .0, r .1, u)) (omega arith)
 
   closer-ok : (o : Sending) → SendingRange s o → SendingRange s (closer o)
   closer-ok o r =
@@ -274,14 +280,15 @@ module _ (s : Settings) (sr : SettingsRange (s .area) (s .block) (s .stmin)) whe
 
   pub ticked-ok : (b : Berth) → BerthRange s b → BerthRange s (ticked b)
   unfolding ticked
-  ticked-ok b r = record { receive = rx-ticked-ok (b .rx) (b .last) (r .receive); send = tx-ticked-ok (b .tx) (r .send) }
+  ticked-ok b r =
+      record { own = r .own; receive = rx-ticked-ok (b .settings .block) (b .rx) (b .last) (r .receive); send = tx-ticked-ok (b .tx) (r .send) }
 
   -- ---- a hand-over
 
-  after-flow-ok : (rx : Rx) (last : ℕ) → RxRange s last rx → RxRange s last (afterFlow rx)
-  after-flow-ok Rx.Idle last r = r
-  after-flow-ok (Rx.OwesOverflow t) last r = r .0
-  after-flow-ok (Rx.OwesGo p t) last r = (
+  after-flow-ok : (bs : ℕ) (rx : Rx) (last : ℕ) → RxRange s bs last rx → RxRange s bs last (afterFlow rx)
+  after-flow-ok bs Rx.Idle last r = r
+  after-flow-ok bs (Rx.OwesOverflow t) last r = r .0
+  after-flow-ok bs (Rx.OwesGo p t) last r = (
     r .0,
     record {
       total-least = r .1 .total-least;
@@ -289,11 +296,11 @@ module _ (s : Settings) (sr : SettingsRange (s .area) (s .block) (s .stmin)) whe
       got-least = r .1 .got-least;
       got-most = r .1 .got-most;
       sn-most = r .1 .sn-most;
-      taken = none-range (s .block);
+      taken = none-range bs;
     },
     omega arith,
   )
-  after-flow-ok (Rx.Awaits p t) last r = r
+  after-flow-ok bs (Rx.Awaits p t) last r = r
 
   opened-ok : (n : ℕ) → leastLong ≤ n → n ≤ s .area → SendingRange s (opened n)
   opened-ok n a b =
@@ -342,12 +349,12 @@ module _ (s : Settings) (sr : SettingsRange (s .area) (s .block) (s .stmin)) whe
   after-message-ok (Tx.AwaitsFlow o t) r = r
   after-message-ok (Tx.Consecutive o t) r = after-consecutive-ok o (r .0)
 
-  pub hand-over-ok : (b : Berth) (area : List ℕ) → BerthRange s b → BerthRange s (handOver s b area .berth)
+  pub hand-over-ok : (b : Berth) (area : List ℕ) → BerthRange s b → BerthRange s (handOver b area .berth)
   unfolding handOver
   hand-over-ok b area r =
       pick-either (λ (g : HandedOver). BerthRange s (g .berth)) (flowDue (b .rx)) _ _
-      (λ u. record { receive = after-flow-ok (b .rx) (b .last) (r .receive); send = r .send })
-      (λ u. record { receive = r .receive; send = after-message-ok (b .tx) (r .send) })
+      (λ u. record { own = r .own; receive = after-flow-ok (b .settings .block) (b .rx) (b .last) (r .receive); send = r .send })
+      (λ u. record { own = r .own; receive = r .receive; send = after-message-ok (b .tx) (r .send) })
 
   -- ---- a send
 
@@ -358,7 +365,37 @@ module _ (s : Settings) (sr : SettingsRange (s .area) (s .block) (s .stmin)) whe
 
   pub sent-ok : (b : Berth) (n : ℕ) → 1 ≤ n → n ≤ s .area → BerthRange s b → BerthRange s (sent b n)
   unfolding sent
-  sent-ok b n a c r = record { receive = r .receive; send = begins-ok n a c }
+  sent-ok b n a c r = record { own = r .own; receive = r .receive; send = begins-ok n a c }
+
+  -- ---- a change
+
+  -- where no reception is under way the receive side is in range whatever the block size
+  any-block : (bs bs′ : ℕ) (rx : Rx) (last : ℕ) → T (not (underWay rx)) → RxRange s bs last rx → RxRange s bs′ last rx
+  any-block bs bs′ Rx.Idle last e r = r
+  any-block bs bs′ (Rx.OwesOverflow t) last e r = r
+  any-block bs bs′ (Rx.OwesGo p t) last e r = absurd e
+  any-block bs bs′ (Rx.Awaits p t) last e r = absurd e
+
+  -- a value that is allowed leaves the settings in range
+  changed-own : (o : BerthSettings) (parameter value : ℕ) → T (valueAllowed parameter value) → OwnRange (o .block) (o .stmin)
+      → OwnRange (changedSettings o parameter value .block) (changedSettings o parameter value .stmin)
+  unfolding valueAllowed changedSettings
+  changed-own o parameter value t r = go (eqb-cases parameter stminParameter)
+    where
+      go : Tested (eqb parameter stminParameter) (parameter ≡ stminParameter) (parameter ≡ stminParameter → ⊥)
+          → OwnRange (changedSettings o parameter value .block) (changedSettings o parameter value .stmin)
+      go (holds e x) = rw e (record { block-most = r .block-most; stmin-allowed = stmin-range value (rw e at t) })
+      go (fails e x) = rw e (record { block-most = leb-yes (rw e at t); stmin-allowed = r .stmin-allowed })
+
+  pub changed-ok : (b : Berth) (parameter value : ℕ) → T (valueAllowed parameter value) → T (not (underWay (b .rx)))
+      → BerthRange s b → BerthRange s (changed b parameter value)
+  unfolding changed
+  changed-ok b parameter value t e r =
+      record {
+        own = changed-own (b .settings) parameter value t (r .own);
+        receive = any-block (b .settings .block) _ (b .rx) (b .last) e (r .receive);
+        send = r .send;
+      }
 
 -- ---- the node
 
@@ -412,6 +449,10 @@ done-ok h (Call.turn buffer) e o =
     (hand-over-ok (h .node .settings) (o .settings) _ _ (o .berth (reached (h .node)) (reached-small (h .node)))) o)
     (λ t. o)
 done-ok h (Call.show k choice) e o = o
+done-ok h (Call.change k parameter value) e o =
+    let a = change-answered h k parameter value e in
+    with-ok (h .node) k (h .node .served) _ (o .served)
+    (changed-ok (h .node .settings) (o .settings) _ parameter value (a .allowed) (a .free) (o .berth k (a .mine))) o
 
 -- EVERY CALL KEEPS A NODE IN ORDER, refused or not
 pub order-kept : (h : Held) (c : Call) → InOrder (h .node) → InOrder (outcome h c .held .node)
@@ -429,21 +470,21 @@ unfolding final
 run-in-order h [] o = o
 run-in-order h (c ∷ cs) o = run-in-order (outcome h c .held) cs (order-kept h c o)
 
-fresh-ok : (s : Settings) → BerthRange s fresh
-fresh-ok s = record { receive = omega arith; send = tt }
+fresh-ok : (s : Settings) (own : BerthSettings) → OwnRange (own .block) (own .stmin) → BerthRange s (freshWith own)
+fresh-ok s own r = record { own = r; receive = omega arith; send = tt }
 
-set-up-node-ok : (s : Settings) → SettingsRange (s .area) (s .block) (s .stmin) → InOrder (setUpNode s)
+set-up-node-ok : (s : Settings) (own : BerthSettings) → SettingsRange (s .area) (own .block) (own .stmin) → InOrder (setUpNode s own)
 unfolding setUpNode berthAt
-set-up-node-ok s r =
+set-up-node-ok s own r =
     record {
-      settings = r;
+      settings = r .area;
       served = omega arith;
       ten = refl;
-      berth = λ k h. rw (getD-replicate berthCount k fresh fresh h) (fresh-ok s);
+      berth = λ k h. rw (getD-replicate berthCount k (freshWith own) fresh h) (fresh-ok s own (r .own));
     }
 
 -- A SET-UP THAT IS ANSWERED IS IN ORDER, whatever the node held before
 pub set-up-in-order : (h : Held) (a bs stmin : ℕ) → setUpRefusal a bs stmin ≡ 0 → InOrder (setUpOutcome h a bs stmin .held .node)
 unfolding setUpOutcome setUpRefusal
 set-up-in-order h a bs stmin e =
-    rw e (set-up-node-ok (record { area = a; block = bs; stmin = stmin }) (settings-range a bs stmin (met _ _ _ e .0)))
+    rw e (set-up-node-ok (record { area = a }) (record { block = bs; stmin = stmin }) (settings-range a bs stmin (met _ _ _ e .0)))

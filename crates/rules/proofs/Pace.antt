@@ -48,9 +48,9 @@ first-not s rx last d =
     pick-either NotGoing (firstFits d) _ _ (λ u. pick-either NotGoing (aboveArea s (announced d)) _ _ (λ v t. t) (λ v t. t))
     (λ u. ignored-not 3 rx last)
 
-consecutive-not : (s : Settings) (rx : Rx) (last : ℕ) (d : List ℕ) → NotGoing (consecutiveCame s rx last d)
+consecutive-not : (bs : ℕ) (rx : Rx) (last : ℕ) (d : List ℕ) → NotGoing (consecutiveCame bs rx last d)
 unfolding completed took wrongSn
-consecutive-not s rx last d = consecutive-either NotGoing s rx last d (λ why. ignored-not why rx last) (λ p t. t) (λ p t. t) (λ t. t)
+consecutive-not bs rx last d = consecutive-either NotGoing bs rx last d (λ why. ignored-not why rx last) (λ p t. t) (λ p t. t) (λ t. t)
 
 -- ---- a frame
 
@@ -61,7 +61,7 @@ unfolding heardBy toldBy flowIgnored granted
 going-paced s b d =
     frame-either (λ (c : Came). T (isGoing (c .word)) → Paced (gapOf (byteAt d 2)) 0 0 (c .berth .tx)) s b d
     (λ why t. absurd (ignored-not why (b .rx) (b .last) t)) (λ t. absurd (single-not (b .rx) (b .last) d t))
-    (λ t. absurd (first-not s (b .rx) (b .last) d t)) (λ t. absurd (consecutive-not s (b .rx) (b .last) d t))
+    (λ t. absurd (first-not s (b .rx) (b .last) d t)) (λ t. absurd (consecutive-not (b .settings .block) (b .rx) (b .last) d t))
     (told-either (λ (told : Told). T (isGoing (told .word)) → Paced (gapOf (byteAt d 2)) 0 0 (told .tx)) (b .tx) d
     (λ why t. absurd t) (λ o t. (refl, omega arith)) (λ o t. absurd t) (λ code t. absurd t))
 
@@ -109,9 +109,9 @@ module _ (g m n : ℕ) where
       (λ u. pick-either (Paced g g l) (fillsBlock (o .block) (o .sent)) _ _ (λ v. tt) (λ v. (gap, omega (arith, gap))))
 
   -- so no turn makes less of it
-  pub turn-paced : (s : Settings) (b : Berth) (area : List ℕ) → m ≤ g → Paced g m n (b .tx) → Paced g m n (handOver s b area .berth .tx)
+  pub turn-paced : (b : Berth) (area : List ℕ) → m ≤ g → Paced g m n (b .tx) → Paced g m n (handOver b area .berth .tx)
   unfolding handOver
-  turn-paced s b area small p =
+  turn-paced b area small p =
       pick-either (λ (h : HandedOver). Paced g m n (h .berth .tx)) (flowDue (b .rx)) _ _ (λ u. p)
       (λ u. at-most (afterMessage (b .tx)) (message-paced n (b .tx) p))
     where
@@ -124,7 +124,7 @@ module _ (g m n : ℕ) where
 
   -- A CONSECUTIVE FRAME IS HANDED OVER where nothing is left of the gap, and then the whole gap is before the next one
   pub consecutive-paced : (s : Settings) (b : Berth) (area : List ℕ) → s .area ≤ shortMost → BerthRange s b → T (due b)
-      → kind (handOver s b area .frame) ≡ consecutiveKind → Paced g m n (b .tx) → (m ≤ n) × Paced g g 0 (handOver s b area .berth .tx)
+      → kind (handOver b area .frame) ≡ consecutiveKind → Paced g m n (b .tx) → (m ≤ n) × Paced g g 0 (handOver b area .berth .tx)
   unfolding handOver due
   consecutive-paced s b area a r t = go (test-cases (flowDue (b .rx)))
     where
@@ -136,8 +136,8 @@ module _ (g m n : ℕ) where
       left-none (Tx.Consecutive o v) e u (gap, left) = let none : o .left ≡ 0 = eqb-yes u in omega (arith, none, left)
 
       go : Tested (flowDue (b .rx)) (T (flowDue (b .rx))) (T (not (flowDue (b .rx))))
-          → kind (handOver s b area .frame) ≡ consecutiveKind → Paced g m n (b .tx) → (m ≤ n) × Paced g g 0 (handOver s b area .berth .tx)
-      go (holds e u) k p = let f : kind (handOver s b area .frame) ≡ flowKind = rw e (flow-kind s (b .rx) u) in absurd (omega (arith, k, f))
+          → kind (handOver b area .frame) ≡ consecutiveKind → Paced g m n (b .tx) → (m ≤ n) × Paced g g 0 (handOver b area .berth .tx)
+      go (holds e u) k p = let f : kind (handOver b area .frame) ≡ flowKind = rw e (flow-kind (b .settings) (b .rx) u) in absurd (omega (arith, k, f))
       go (fails e u) k p =
           let now : T (messageDue (b .tx)) = rw e at t in
           let f : kind (messageFrame (b .tx) area) ≡ consecutiveKind = rw e at k in

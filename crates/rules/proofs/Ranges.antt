@@ -7,9 +7,10 @@ use mathlib.Core.Bool.{_||_}
 use lib.ListN.{length}
 use lib.Dec.{T, eqb, leb}
 use mir.Facts.{leb-yes, ltb-yes, eqb-yes, yes-leb, yes-ltb, yes-eqb, yes-and}
-use Rattle.rules.specs.Numbers.{berthCount, mostMillis, leastFraction, snCount, firstBytes, leastLong}
+use Rattle.rules.specs.Numbers.{berthCount, mostMillis, leastFraction, snCount, firstBytes, leastLong, stminParameter}
 use Rattle.rules.specs.Nodes.{fresh, berthAt}
-use Rattle.rules.specs.Ranges.{stminAllowed, StminRange, settingsAllowed, SettingsRange, inBlock, BlockRange, underWayInRange, takingInRange, TakingRange, rxInRange, RxRange, sendingInRange, SendingRange, txInRange, TxRange, berthInOrder, BerthRange, inOrder, InOrder}
+use Rattle.rules.specs.Ranges.{stminAllowed, StminRange, areaAllowed, AreaRange, ownAllowed, OwnRange, settingsAllowed, SettingsRange, inBlock, BlockRange, underWayInRange, takingInRange, TakingRange, rxInRange, RxRange, sendingInRange, SendingRange, txInRange, TxRange, berthInOrder, BerthRange, inOrder, InOrder}
+use Rattle.rules.specs.Changes.{valueAllowed, ValueRange}
 use Rattle.rules.specs.declared.Settings.{Settings}
 use Rattle.rules.specs.declared.Taking.{Taking}
 use Rattle.rules.specs.declared.Sending.{Sending}
@@ -31,16 +32,43 @@ stmin-allowed stmin r =
     ⊎-elim (λ l. or-left (leb stmin mostMillis) _ (yes-leb l))
     (λ f. or-right (leb stmin mostMillis) _ (yes-and (leb leastFraction stmin) _ (yes-leb (f .0)) (yes-leb (f .1)))) r
 
+pub area-range : (a : ℕ) → T (areaAllowed a) → AreaRange a
+area-range a t = let f = all-yes _ t in record { area-least = leb-yes (f .0); area-most = leb-yes (f .1 .0) }
+
+pub area-allowed : (a : ℕ) → AreaRange a → T (areaAllowed a)
+area-allowed a r = yes-all _ (yes-leb (r .area-least), (yes-leb (r .area-most), tt))
+
+pub own-range : (bs stmin : ℕ) → T (ownAllowed bs stmin) → OwnRange bs stmin
+own-range bs stmin t = let f = all-yes _ t in record { block-most = leb-yes (f .0); stmin-allowed = stmin-range stmin (f .1 .0) }
+
+pub own-allowed : (bs stmin : ℕ) → OwnRange bs stmin → T (ownAllowed bs stmin)
+own-allowed bs stmin r = yes-all _ (yes-leb (r .block-most), (stmin-allowed stmin (r .stmin-allowed), tt))
+
 pub settings-range : (a bs stmin : ℕ) → T (settingsAllowed a bs stmin) → SettingsRange a bs stmin
 unfolding settingsAllowed
-settings-range a bs stmin t =
-    let f = all-yes _ t in
-    record { area-least = leb-yes (f .0); area-most = leb-yes (f .1 .0); block-most = leb-yes (f .1 .1 .0); stmin-allowed = stmin-range stmin (f .1 .1 .1 .0) }
+settings-range a bs stmin t = let f = all-yes _ t in record { area = area-range a (f .0); own = own-range bs stmin (f .1 .0) }
 
 pub settings-allowed : (a bs stmin : ℕ) → SettingsRange a bs stmin → T (settingsAllowed a bs stmin)
 unfolding settingsAllowed
-settings-allowed a bs stmin r =
-    yes-all _ (yes-leb (r .area-least), (yes-leb (r .area-most), (yes-leb (r .block-most), (stmin-allowed stmin (r .stmin-allowed), tt))))
+settings-allowed a bs stmin r = yes-all _ (area-allowed a (r .area), (own-allowed bs stmin (r .own), tt))
+
+-- ---- a parameter's value (paper 02, W3)
+
+pub value-range : (parameter value : ℕ) → T (valueAllowed parameter value) → ValueRange parameter value
+unfolding valueAllowed
+value-range parameter value t = go (eqb-cases parameter stminParameter)
+  where
+    go : Tested (eqb parameter stminParameter) (parameter ≡ stminParameter) (parameter ≡ stminParameter → ⊥) → ValueRange parameter value
+    go (holds e x) = rw e (stmin-range value (rw e at t))
+    go (fails e x) = rw e (leb-yes (rw e at t))
+
+pub value-allowed : (parameter value : ℕ) → ValueRange parameter value → T (valueAllowed parameter value)
+unfolding valueAllowed
+value-allowed parameter value r = go (eqb-cases parameter stminParameter)
+  where
+    go : Tested (eqb parameter stminParameter) (parameter ≡ stminParameter) (parameter ≡ stminParameter → ⊥) → T (valueAllowed parameter value)
+    go (holds e x) = rw e (stmin-allowed value (rw e at r))
+    go (fails e x) = rw e (yes-leb (rw e at r))
 
 -- ---- a count in a block
 
@@ -88,32 +116,33 @@ under-way-in a length done sn l m f d n = yes-all _ (yes-leb l, (yes-leb m, (yes
 
 -- ---- the two sides
 
-module _ (s : Settings) where
-  pub taking-range : (p : Taking) → T (takingInRange s p) → TakingRange s p
+module _ (s : Settings) (bs : ℕ) where
+  pub taking-range : (p : Taking) → T (takingInRange s bs p) → TakingRange s bs p
   unfolding takingInRange
   taking-range p t =
       let f = all-yes _ t in
       let w = under-way-range _ _ _ _ (f .0) in
       record { total-least = w .0; total-most = w .1; got-least = w .2; got-most = w .3; sn-most = w .4; taken = block-range _ _ (f .1 .0) }
 
-  pub taking-in : (p : Taking) → TakingRange s p → T (takingInRange s p)
+  pub taking-in : (p : Taking) → TakingRange s bs p → T (takingInRange s bs p)
   unfolding takingInRange
   taking-in p r =
       yes-all _
       (under-way-in _ _ _ _ (r .total-least) (r .total-most) (r .got-least) (r .got-most) (r .sn-most), (in-block _ _ (r .taken), tt))
 
-  pub rx-range : (last : ℕ) (rx : Rx) → T (rxInRange s last rx) → RxRange s last rx
+  pub rx-range : (last : ℕ) (rx : Rx) → T (rxInRange s bs last rx) → RxRange s bs last rx
   rx-range last Rx.Idle t = leb-yes t
   rx-range last (Rx.OwesOverflow u) t = let f = all-yes _ t in (leb-yes (f .0), ltb-yes (f .1 .0))
   rx-range last (Rx.OwesGo p u) t = let f = all-yes _ t in (eqb-yes (f .0), taking-range p (f .1 .0), ltb-yes (f .1 .1 .0))
   rx-range last (Rx.Awaits p u) t = let f = all-yes _ t in (eqb-yes (f .0), taking-range p (f .1 .0), ltb-yes (f .1 .1 .0))
 
-  pub rx-in : (last : ℕ) (rx : Rx) → RxRange s last rx → T (rxInRange s last rx)
+  pub rx-in : (last : ℕ) (rx : Rx) → RxRange s bs last rx → T (rxInRange s bs last rx)
   rx-in last Rx.Idle r = yes-leb r
   rx-in last (Rx.OwesOverflow u) r = yes-all _ (yes-leb (r .0), (yes-ltb (r .1), tt))
   rx-in last (Rx.OwesGo p u) r = yes-all _ (yes-eqb (r .0), (taking-in p (r .1), (yes-ltb (r .2), tt)))
   rx-in last (Rx.Awaits p u) r = yes-all _ (yes-eqb (r .0), (taking-in p (r .1), (yes-ltb (r .2), tt)))
 
+module _ (s : Settings) where
   pub sending-range : (o : Sending) → T (sendingInRange s o) → SendingRange s o
   unfolding sendingInRange
   sending-range o t =
@@ -163,11 +192,14 @@ module _ (s : Settings) where
 
   pub berth-range : (b : Berth) → T (berthInOrder s b) → BerthRange s b
   unfolding berthInOrder
-  berth-range b t = let f = all-yes _ t in record { receive = rx-range (b .last) (b .rx) (f .0); send = tx-range (b .tx) (f .1 .0) }
+  berth-range b t =
+      let f = all-yes _ t in
+      record { own = own-range _ _ (f .0); receive = rx-range s (b .settings .block) (b .last) (b .rx) (f .1 .0); send = tx-range (b .tx) (f .1 .1 .0) }
 
   pub berth-in : (b : Berth) → BerthRange s b → T (berthInOrder s b)
   unfolding berthInOrder
-  berth-in b r = yes-all _ (rx-in (b .last) (b .rx) (r .receive), (tx-in (b .tx) (r .send), tt))
+  berth-in b r =
+      yes-all _ (own-allowed _ _ (r .own), (rx-in s (b .settings .block) (b .last) (b .rx) (r .receive), (tx-in (b .tx) (r .send), tt)))
 
 -- ---- the node
 
@@ -178,7 +210,7 @@ in-order-range n t =
     let f = all-yes _ t in
     let ten : length (n .berths) ≡ berthCount = eqb-yes (f .1 .1 .0) in
     record {
-      settings = settings-range _ _ _ (f .0);
+      settings = area-range _ (f .0);
       served = ltb-yes (f .1 .0);
       ten = ten;
       berth = λ k h. berth-range (n .settings) _ (each-at (berthInOrder (n .settings)) (n .berths) k fresh (omega arith) (f .1 .1 .1 .0));
@@ -189,4 +221,4 @@ unfolding inOrder berthAt
 range-in-order n r =
     let ten = r .ten in
     let all-in = each-of (berthInOrder (n .settings)) (n .berths) fresh (λ k h. berth-in (n .settings) _ (r .berth k (omega arith))) in
-    yes-all _ (settings-allowed _ _ _ (r .settings), (yes-ltb (r .served), (yes-eqb ten, (all-in, tt))))
+    yes-all _ (area-allowed _ (r .settings), (yes-ltb (r .served), (yes-eqb ten, (all-in, tt))))

@@ -7,8 +7,9 @@ use Rattle.rules.specs.Nodes.{berthAt, Held}
 use Rattle.rules.specs.Arrivals.{frameCame}
 use Rattle.rules.specs.Ticks.{ticked, rxCode, txCode}
 use Rattle.rules.specs.Turns.{handOver, sent}
+use Rattle.rules.specs.Changes.{changed}
 use Rattle.rules.specs.Stores.{areaOf}
-use Rattle.rules.specs.Events.{Event, arrives, ticks, sends, turns}
+use Rattle.rules.specs.Events.{Event, arrives, ticks, sends, turns, changes}
 use Rattle.rules.specs.Cards.{cardAt, added, adds}
 use Rattle.rules.specs.declared.Settings.{Settings}
 use Rattle.rules.specs.declared.Berth.{Berth}
@@ -31,12 +32,14 @@ partOf k h =
       card = cardAt (h .cards) k;
     }
 
--- what a berth says at an event: old code and word; the codes of its two sides; that it takes the message; frame and code
+-- what a berth says at an event: old code and word; the codes of its two sides; that it takes the message; frame and code; that it takes
+-- the setting
 pub data Says : Type 0 where
   hears : ℕ → Word → Says
   expires : ℕ → ℕ → Says
   accepts : Says
   hands : List ℕ → ℕ → Says
+  adopts : Says
 
 -- a part with its state anew, with one of its areas anew, and with its card anew
 abbrev pub withState : Part → Berth → Part
@@ -58,7 +61,8 @@ stateAfter s p (arrives d) =
     (sets (p .incoming) (frameCame s (p .berth) d .place) (frameCame s (p .berth) d .bytes))
 stateAfter s p ticks = withState p (ticked (p .berth))
 stateAfter s p (sends m) = withOutgoingArea (withState p (sent (p .berth) (length m))) (sets (p .outgoing) 0 m)
-stateAfter s p turns = withState p (handOver s (p .berth) (p .outgoing) .berth)
+stateAfter s p turns = withState p (handOver (p .berth) (p .outgoing) .berth)
+stateAfter s p (changes parameter value) = withState p (changed (p .berth) parameter value)
 
 -- and the card with what the event adds
 unfoldable pub partAfter : Settings → Part → Event → Part
@@ -68,7 +72,8 @@ unfoldable pub says : Settings → Part → Event → Says
 says s p (arrives d) = hears (frameCame s (p .berth) d .old) (frameCame s (p .berth) d .word)
 says s p ticks = expires (rxCode (p .berth .rx)) (txCode (p .berth .tx))
 says s p (sends m) = accepts
-says s p turns = hands (handOver s (p .berth) (p .outgoing) .frame) (handOver s (p .berth) (p .outgoing) .code)
+says s p turns = hands (handOver (p .berth) (p .outgoing) .frame) (handOver (p .berth) (p .outgoing) .code)
+says s p (changes parameter value) = adopts
 
 -- a run of events on the berth alone
 unfoldable pub alone : Settings → Part → List Event → Part

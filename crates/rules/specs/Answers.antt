@@ -13,9 +13,10 @@ use Rattle.rules.specs.declared.FrameAnswer.{FrameAnswer}
 use Rattle.rules.specs.declared.TickAnswer.{TickAnswer}
 use Rattle.rules.specs.declared.SendAnswer.{SendAnswer}
 use Rattle.rules.specs.declared.TurnAnswer.{TurnAnswer}
+use Rattle.rules.specs.declared.ChangeAnswer.{ChangeAnswer}
 
 -- refused with a number; set up; heard at a berth with old code and word; ten pairs of codes; sent to a berth; handed over with
--- identifier, frame, code and passed over; none with passed over; a part shown
+-- identifier, frame, code and passed over; none with passed over; a part shown; a berth's setting changed (paper 02, W3)
 pub data Answer : Type 0 where
   refused : ℕ → Answer
   ready : Answer
@@ -25,6 +26,7 @@ pub data Answer : Type 0 where
   handed : ℕ → List ℕ → ℕ → ℕ → Answer
   none : ℕ → Answer
   shown : List ℕ → Answer
+  changed : ℕ → Answer
 
 -- ---- reports: berth, side, code. Delivered reports 1, Failed its code, an old reception 7; TooLong reports nothing
 
@@ -73,6 +75,7 @@ reports (sent k) = []
 reports (handed id frame code passed) = forTaker id (λ k. reported k send code) []
 reports (none passed) = []
 reports (shown part) = []
+reports (changed k) = []
 
 -- ---- the answers of the code, in the paper's words; a frame handed over is the buffer's first eight bytes
 
@@ -95,6 +98,10 @@ unfoldable pub turnSays : TurnAnswer → List ℕ → Answer
 turnSays (TurnAnswer.Refused n) buffer = refused n
 turnSays (TurnAnswer.None passed) buffer = none passed
 turnSays (TurnAnswer.HandedOver id code passed) buffer = handed id (take frameSize buffer) code passed
+
+unfoldable pub changeSays : ChangeAnswer → Answer
+changeSays (ChangeAnswer.Refused n) = refused n
+changeSays (ChangeAnswer.Changed k) = changed k
 
 -- ---- the paper's number and values for each case, as plain numbers: the words in the order in which the paper lists them
 
@@ -125,3 +132,4 @@ paperOf (sent k) = record { number = 4; values = k ∷ [] }
 paperOf (handed id frame code passed) = record { number = 5; values = id ∷ code ∷ passed ∷ frame }
 paperOf (none passed) = record { number = 6; values = passed ∷ [] }
 paperOf (shown part) = record { number = 7; values = part }
+paperOf (changed k) = record { number = 8; values = k ∷ [] }

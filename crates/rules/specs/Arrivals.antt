@@ -87,33 +87,33 @@ unfoldable pub completed : Taking → List ℕ → Heard
 completed p d =
     record { rx = Rx.Idle; last = p .total; old = 0; word = Delivered (p .total); place = p .got; bytes = piece p d }
 
--- else Took, timer 0; if this filled the block, go is owed and the block count is 0
-unfoldable pub afterTook : Settings → Taking → Rx
-afterTook s p =
-    pick (fillsBlock (s .block) (p .taken))
+-- else Took, timer 0; if this filled the block of the berth's own BS, go is owed and the block count is 0
+unfoldable pub afterTook : ℕ → Taking → Rx
+afterTook bs p =
+    pick (fillsBlock bs (p .taken))
     (Rx.OwesGo (grown p 0) 0)
-    (Rx.Awaits (grown p (counted (s .block) (p .taken))) 0)
+    (Rx.Awaits (grown p (counted bs (p .taken))) 0)
 
-unfoldable pub took : Settings → Taking → ℕ → List ℕ → Heard
-took s p last d = record { rx = afterTook s p; last = last; old = 0; word = Took; place = p .got; bytes = piece p d }
+unfoldable pub took : ℕ → Taking → ℕ → List ℕ → Heard
+took bs p last d = record { rx = afterTook bs p; last = last; old = 0; word = Took; place = p .got; bytes = piece p d }
 
 -- wrong SN: Failed 5, idle
 unfoldable pub wrongSn : ℕ → Heard
 wrongSn last = record { rx = Rx.Idle; last = last; old = 0; word = Failed N-WRONG-SN; place = 0; bytes = [] }
 
-unfoldable pub awaitedCame : Settings → Taking → ℕ → ℕ → List ℕ → Heard
-awaitedCame s p t last d =
+unfoldable pub awaitedCame : ℕ → Taking → ℕ → ℕ → List ℕ → Heard
+awaitedCame bs p t last d =
     pick (consecutiveFits (missing p) d)
     (pick (eqb (low d) (p .sn .0))
-    (pick (leb (missing p) consecutiveMost) (completed p d) (took s p last d))
+    (pick (leb (missing p) consecutiveMost) (completed p d) (took bs p last d))
     (wrongSn last))
     (ignored wrongLength (Rx.Awaits p t) last)
 
-abbrev pub consecutiveCame : Settings → Rx → ℕ → List ℕ → Heard
-consecutiveCame s Rx.Idle last d = ignored notAwaited Rx.Idle last
-consecutiveCame s (Rx.OwesOverflow t) last d = ignored notAwaited (Rx.OwesOverflow t) last
-consecutiveCame s (Rx.OwesGo p t) last d = ignored notAwaited (Rx.OwesGo p t) last
-consecutiveCame s (Rx.Awaits p t) last d = awaitedCame s p t last d
+abbrev pub consecutiveCame : ℕ → Rx → ℕ → List ℕ → Heard
+consecutiveCame bs Rx.Idle last d = ignored notAwaited Rx.Idle last
+consecutiveCame bs (Rx.OwesOverflow t) last d = ignored notAwaited (Rx.OwesOverflow t) last
+consecutiveCame bs (Rx.OwesGo p t) last d = ignored notAwaited (Rx.OwesGo p t) last
+consecutiveCame bs (Rx.Awaits p t) last d = awaitedCame bs p t last d
 
 -- ---- flow control: I4 unless the send side awaits it, I3, then by s
 
@@ -186,7 +186,7 @@ unfoldable pub byKind : Settings → Berth → List ℕ → Came
 byKind s b d =
     pick (eqb (kind d) singleKind) (heardBy b (singleCame (b .rx) (b .last) d))
     (pick (eqb (kind d) firstKind) (heardBy b (firstCame s (b .rx) (b .last) d))
-    (pick (eqb (kind d) consecutiveKind) (heardBy b (consecutiveCame s (b .rx) (b .last) d))
+    (pick (eqb (kind d) consecutiveKind) (heardBy b (consecutiveCame (b .settings .block) (b .rx) (b .last) d))
     (pick (eqb (kind d) flowKind) (toldBy b (flowCame (b .tx) d))
     (heardBy b (ignored otherKind (b .rx) (b .last))))))
 

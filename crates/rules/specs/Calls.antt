@@ -11,9 +11,10 @@ use Rattle.rules.specs.Ranges.{inOrder}
 use Rattle.rules.specs.Arrivals.{Came}
 use Rattle.rules.specs.Ticks.{codesOf}
 use Rattle.rules.specs.Turns.{HandedOver, sent as sentBerth, lengthSending}
+use Rattle.rules.specs.Changes.{changed as changedBerth}
 use Rattle.rules.specs.Stores.{rightStore, areaOf, stored, tickedNode, servedNode, setUpNode, passedOver, reached, cameAt, handedAt}
-use Rattle.rules.specs.Answers.{Answer, refused, ready, heard, codes, sent, handed, none, shown}
-use Rattle.rules.specs.Events.{Call, frame, tick, send, turn, show, senderOf}
+use Rattle.rules.specs.Answers.{Answer, refused, ready, heard, codes, sent, handed, none, shown, changed}
+use Rattle.rules.specs.Events.{Call, frame, tick, send, turn, show, change, senderOf}
 use Rattle.rules.specs.Cards.{addedAt, isSingle, frameAdds, tickedCards, turnAdds}
 use Rattle.rules.specs.Refusals.{refusal, setUpRefusal}
 use Rattle.rules.specs.declared.Choice.{Choice}
@@ -65,6 +66,7 @@ done h (turn buffer) =
     (afterTurn h (reached (h .node)) (handedAt h (reached (h .node))))
     h
 done h (show k choice) = h
+done h (change k parameter value) = withNode h (withBerth (h .node) k (changedBerth (berthAt (h .node) k) parameter value))
 
 -- ---- what it answers
 
@@ -77,6 +79,7 @@ reply h (turn buffer) =
     (handed (toBerth + reached (h .node)) (handedAt h (reached (h .node)) .frame) (handedAt h (reached (h .node)) .code) (passedOver (h .node)))
     (none berthCount)
 reply h (show k choice) = shown (showing h k choice)
+reply h (change k parameter value) = changed k
 
 -- ---- the buffer after it: a turn puts the frame down at its front, and bytes past 8 are never written
 
@@ -86,6 +89,7 @@ bufferOf tick = []
 bufferOf (send k m) = []
 bufferOf (turn buffer) = buffer
 bufferOf (show k choice) = []
+bufferOf (change k parameter value) = []
 
 unfoldable pub written : Held → Call → List ℕ
 written h (frame id d) = []
@@ -94,6 +98,7 @@ written h (send k m) = []
 written h (turn buffer) =
     pick (ltb (passedOver (h .node)) berthCount) (handedAt h (reached (h .node)) .frame ++ drop frameSize buffer) buffer
 written h (show k choice) = []
+written h (change k parameter value) = []
 
 -- ---- the outcome of a call: the answer, the node, both stores and the cards, the buffer. A refusal gives only its number; all else stays
 
@@ -115,7 +120,7 @@ setUpOutcome h a bs stmin =
     unless (setUpRefusal a bs stmin) (refusedOutcome h [])
     (record {
       answer = ready;
-      held = withNode h (setUpNode (record { area = a; block = bs; stmin = stmin }));
+      held = withNode h (setUpNode (record { area = a }) (record { block = bs; stmin = stmin }));
       buffer = [];
     })
 

@@ -10,7 +10,7 @@ use Rattle.rules.specs.Frames.{kind}
 use Rattle.rules.specs.Arrivals.{frameCame}
 use Rattle.rules.specs.Ticks.{rxCode, txCode}
 use Rattle.rules.specs.Turns.{handOver}
-use Rattle.rules.specs.Events.{Event, arrives, ticks, sends, turns}
+use Rattle.rules.specs.Events.{Event, arrives, ticks, sends, turns, changes}
 use Rattle.rules.specs.declared.Settings.{Settings}
 use Rattle.rules.specs.declared.Rx.{Rx}
 use Rattle.rules.specs.declared.Berth.{Berth}
@@ -189,7 +189,7 @@ turnAdds code =
       unsent = false;
     }
 
--- ---- a send
+-- ---- a send, a change
 
 abbrev pub nothing : Adds
 nothing =
@@ -211,4 +211,5 @@ unfoldable pub adds : Settings → Berth → List ℕ → Event → Adds
 adds s b outgoing (arrives d) = frameAdds (isSingle d) (frameCame s b d .old) (frameCame s b d .word)
 adds s b outgoing ticks = tickAdds (underWay (b .rx)) (rxCode (b .rx)) (txCode (b .tx))
 adds s b outgoing (sends m) = nothing
-adds s b outgoing turns = turnAdds (handOver s b outgoing .code)
+adds s b outgoing turns = turnAdds (handOver b outgoing .code)
+adds s b outgoing (changes parameter value) = nothing

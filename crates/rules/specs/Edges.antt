@@ -3,8 +3,8 @@
 use Prim.Native.Nat.{ℕ, _+_}
 use mathlib.Core.List.{List, [], _∷_, _++_}
 use lib.ListN.{length, replicate}
-use Rattle.rules.specs.Nodes.{fresh, withRx, withTx, Held, withCards}
-use Rattle.rules.specs.Events.{Call, frame, tick, send, turn}
+use Rattle.rules.specs.Nodes.{freshWith, fresh, withRx, withTx, Held, withCards}
+use Rattle.rules.specs.Events.{Call, frame, tick, send, turn, change}
 use Rattle.rules.specs.Cards.{zeroCard}
 use Rattle.rules.specs.Refusals.{refusal, setUpRefusal}
 use Rattle.rules.specs.declared.Settings.{Settings}
@@ -50,7 +50,7 @@ rowSays (nodeEdge s at b n) = n
 
 -- areas of eight bytes
 abbrev pub small : Settings
-small = record { area = 8; block = 2; stmin = 5 }
+small = record { area = 8 }
 
 -- ten fresh berths and both stores as they should be, and with stores of other lengths
 abbrev pub fine : Held
@@ -63,22 +63,25 @@ stores i o = heldWith small 9 (replicate 10 fresh) i o
 abbrev pub broken : ℕ → ℕ → Held
 broken i o = heldWith small 10 (replicate 10 fresh) i o
 
--- berth 0 is sending
+-- berth 0 is sending, and has this receive side
 abbrev pub sendingAt0 : Held
 sendingAt0 = heldWith small 9 (withTx fresh (Tx.SingleDue 1 0) ∷ replicate 9 fresh) 80 80
+
+abbrev pub receivingAt0 : Rx → Held
+receivingAt0 rx = heldWith small 9 (withRx fresh rx 0 ∷ replicate 9 fresh) 80 80
 
 abbrev pub zeros : ℕ → List ℕ
 zeros n = replicate n 0
 
--- settings with one setting changed
+-- this area size; an idle berth with this block size, and with this STmin
 abbrev pub areaIs : ℕ → Settings
-areaIs a = record { area = a; block = 2; stmin = 5 }
+areaIs a = record { area = a }
 
-abbrev pub blockIs : ℕ → Settings
-blockIs bs = record { area = 40; block = bs; stmin = 5 }
+abbrev pub blockIs : ℕ → Berth
+blockIs bs = freshWith (record { block = bs; stmin = 5 })
 
-abbrev pub stminIs : ℕ → Settings
-stminIs stmin = record { area = 40; block = 2; stmin = stmin }
+abbrev pub stminIs : ℕ → Berth
+stminIs stmin = freshWith (record { block = 2; stmin = stmin })
 
 -- a reception and a sending under way, by their numbers
 abbrev pub takingIs : ℕ → ℕ → ℕ → ℕ → Taking
@@ -149,6 +152,29 @@ calls =
     ∷ setUpEdge 40 2 0xF1 0
     ∷ setUpEdge 40 2 0xF9 0
     ∷ setUpEdge 40 2 0xFA 10
+    -- a change: 5, berth 9 and 10; it takes no store and no card
+    ∷ callEdge fine (change 9 0 0) 0
+    ∷ callEdge fine (change 10 0 0) 5
+    ∷ callEdge (cardsAre 9 (stores 79 81)) (change 9 0 0) 0
+    -- 13: parameters 0, 1 and 2
+    ∷ callEdge fine (change 0 0 5) 0
+    ∷ callEdge fine (change 0 1 5) 0
+    ∷ callEdge fine (change 0 2 5) 13
+    -- 14: STmin, BS
+    ∷ callEdge fine (change 0 0 0x7F) 0
+    ∷ callEdge fine (change 0 0 0x80) 14
+    ∷ callEdge fine (change 0 0 0xF0) 14
+    ∷ callEdge fine (change 0 0 0xF1) 0
+    ∷ callEdge fine (change 0 0 0xF9) 0
+    ∷ callEdge fine (change 0 0 0xFA) 14
+    ∷ callEdge fine (change 0 1 255) 0
+    ∷ callEdge fine (change 0 1 256) 14
+    -- 15: while the berth owes go or awaits, not while it owes overflow or sends; another berth does not matter
+    ∷ callEdge (receivingAt0 (Rx.OwesGo (takingIs 8 6 1 0) 0)) (change 0 0 5) 15
+    ∷ callEdge (receivingAt0 (Rx.Awaits (takingIs 8 6 1 0) 0)) (change 0 1 5) 15
+    ∷ callEdge (receivingAt0 (Rx.OwesOverflow 0)) (change 0 1 5) 0
+    ∷ callEdge sendingAt0 (change 0 1 5) 0
+    ∷ callEdge (receivingAt0 (Rx.Awaits (takingIs 8 6 1 0) 0)) (change 1 1 5) 0
     ∷ []
 
 -- ---- both hold: the one that is tested first is given
@@ -176,6 +202,10 @@ both =
     ∷ callEdge fine (turn (zeros 7)) 9
     ∷ callEdge (broken 80 80) tick 1
     ∷ callEdge (cardsAre 9 (broken 80 80)) tick 1
+    ∷ callEdge (broken 80 80) (change 10 2 256) 1
+    ∷ callEdge fine (change 10 2 256) 5
+    ∷ callEdge fine (change 0 2 256) 13
+    ∷ callEdge (receivingAt0 (Rx.OwesGo (takingIs 8 6 1 0) 0)) (change 0 1 256) 14
     ∷ []
 
 -- ---- the ranges
@@ -186,21 +216,22 @@ settingsRanges =
     ∷ nodeEdge (areaIs 8) 9 fresh 0
     ∷ nodeEdge (areaIs 4095) 9 fresh 0
     ∷ nodeEdge (areaIs 4096) 9 fresh 1
-    ∷ nodeEdge (blockIs 255) 9 fresh 0
-    ∷ nodeEdge (blockIs 256) 9 fresh 1
-    ∷ nodeEdge (stminIs 0x7F) 9 fresh 0
-    ∷ nodeEdge (stminIs 0x80) 9 fresh 1
-    ∷ nodeEdge (stminIs 0xF0) 9 fresh 1
-    ∷ nodeEdge (stminIs 0xF1) 9 fresh 0
-    ∷ nodeEdge (stminIs 0xF9) 9 fresh 0
-    ∷ nodeEdge (stminIs 0xFA) 9 fresh 1
+    -- one berth's own
+    ∷ nodeEdge (areaIs 40) 9 (blockIs 255) 0
+    ∷ nodeEdge (areaIs 40) 9 (blockIs 256) 1
+    ∷ nodeEdge (areaIs 40) 9 (stminIs 0x7F) 0
+    ∷ nodeEdge (areaIs 40) 9 (stminIs 0x80) 1
+    ∷ nodeEdge (areaIs 40) 9 (stminIs 0xF0) 1
+    ∷ nodeEdge (areaIs 40) 9 (stminIs 0xF1) 0
+    ∷ nodeEdge (areaIs 40) 9 (stminIs 0xF9) 0
+    ∷ nodeEdge (areaIs 40) 9 (stminIs 0xFA) 1
     ∷ nodeEdge (areaIs 40) 10 fresh 1
     ∷ nodeEdge (areaIs 40) 0 fresh 0
     ∷ []
 
--- a berth with this last length and receive side
+-- a berth with BS 2, this last length and this receive side
 abbrev pub rxEdge : ℕ → Rx → ℕ → Edge
-rxEdge last side n = nodeEdge (areaIs 40) 9 (withRx fresh side last) n
+rxEdge last side n = nodeEdge (areaIs 40) 9 (withRx (blockIs 2) side last) n
 
 abbrev pub receiveRanges : List Edge
 receiveRanges =
@@ -231,13 +262,13 @@ receiveRanges =
     -- SN 0 to 15
     ∷ rxEdge 0 (Rx.OwesGo (takingIs 20 6 15 0) 0) 0
     ∷ rxEdge 0 (Rx.OwesGo (takingIs 20 6 16 0) 0) 1
-    -- frames taken 0 to BS - 1, or 0 if BS is 0
+    -- frames taken 0 to the berth's own BS - 1, or 0 if that is 0
     ∷ rxEdge 0 (Rx.OwesGo (takingIs 20 6 1 1) 0) 0
     ∷ rxEdge 0 (Rx.OwesGo (takingIs 20 6 1 2) 0) 1
-    ∷ nodeEdge (blockIs 0) 9 (withRx fresh (Rx.Awaits (takingIs 20 6 1 0) 0) 0) 0
-    ∷ nodeEdge (blockIs 0) 9 (withRx fresh (Rx.Awaits (takingIs 20 6 1 1) 0) 0) 1
-    ∷ nodeEdge (blockIs 1) 9 (withRx fresh (Rx.Awaits (takingIs 20 6 1 0) 0) 0) 0
-    ∷ nodeEdge (blockIs 1) 9 (withRx fresh (Rx.Awaits (takingIs 20 6 1 1) 0) 0) 1
+    ∷ nodeEdge (areaIs 40) 9 (withRx (blockIs 0) (Rx.Awaits (takingIs 20 6 1 0) 0) 0) 0
+    ∷ nodeEdge (areaIs 40) 9 (withRx (blockIs 0) (Rx.Awaits (takingIs 20 6 1 1) 0) 0) 1
+    ∷ nodeEdge (areaIs 40) 9 (withRx (blockIs 1) (Rx.Awaits (takingIs 20 6 1 0) 0) 0) 0
+    ∷ nodeEdge (areaIs 40) 9 (withRx (blockIs 1) (Rx.Awaits (takingIs 20 6 1 1) 0) 0) 1
     ∷ []
 
 -- a berth with this send side

@@ -7,7 +7,7 @@ use lib.ListN.{length, getD, take, drop, replicate}
 use lib.Dec.{ltb, leb, eqb}
 use Rattle.rules.specs.Tests.{pick}
 use Rattle.rules.specs.Numbers.{snCount, mostMillis, leastFraction, mostFraction, frameSize, filler, leastFlow, singleKind, firstKind, consecutiveKind, flowKind, goStatus, overflowStatus, singleMost, firstBytes, consecutiveMost, largestArea, shortMost}
-use Rattle.rules.specs.declared.Settings.{Settings}
+use Rattle.rules.specs.declared.BerthSettings.{BerthSettings}
 use Rattle.rules.specs.declared.Sn.{Sn}
 
 -- ---- reading a frame
@@ -68,8 +68,8 @@ firstFrame n front = headed firstKind (n / 256) (n % 256 ∷ front)
 unfoldable pub consecutiveFrame : Sn → List ℕ → List ℕ
 consecutiveFrame sn piece = headed consecutiveKind (sn .0) piece
 
--- go is 30, BS, STmin; overflow is 32 00 00
-unfoldable pub goFrame : Settings → List ℕ
+-- go is 30, BS, STmin, the berth's own (paper 02, W3); overflow is 32 00 00
+unfoldable pub goFrame : BerthSettings → List ℕ
 goFrame s = headed flowKind goStatus (s .block ∷ s .stmin ∷ [])
 
 unfoldable pub overflowFrame : List ℕ

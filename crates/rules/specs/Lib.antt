@@ -7,6 +7,7 @@ pub mod Frames
 pub mod Arrivals
 pub mod Ticks
 pub mod Turns
+pub mod Changes
 pub mod Stores
 pub mod Answers
 pub mod Events

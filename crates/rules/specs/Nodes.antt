@@ -6,30 +6,49 @@ use mathlib.Core.List.{List}
 use lib.ListN.{getD, set, replicate}
 use Rattle.rules.specs.Numbers.{berthCount}
 use Rattle.rules.specs.declared.Settings.{Settings}
+use Rattle.rules.specs.declared.BerthSettings.{BerthSettings}
 use Rattle.rules.specs.declared.Rx.{Rx}
 use Rattle.rules.specs.declared.Tx.{Tx}
 use Rattle.rules.specs.declared.Berth.{Berth}
 use Rattle.rules.specs.declared.Node.{Node}
 use Rattle.rules.specs.declared.Card.{Card}
 
+-- ---- a berth's own settings (paper 02, W3)
+
+-- settings 0, and settings with one of the two anew
+abbrev pub zeroSettings : BerthSettings
+zeroSettings = record { block = 0; stmin = 0 }
+
+abbrev pub withBlock : BerthSettings → ℕ → BerthSettings
+withBlock s block = record { block = block; stmin = s .stmin }
+
+abbrev pub withStmin : BerthSettings → ℕ → BerthSettings
+withStmin s stmin = record { block = s .block; stmin = stmin }
+
 -- ---- one berth
 
--- a berth with both sides idle and nothing arrived
-abbrev pub fresh : Berth
-fresh = record { rx = Rx.Idle; last = 0; tx = Tx.Idle }
+-- a berth with these settings, both sides idle and nothing arrived; and with settings 0
+abbrev pub freshWith : BerthSettings → Berth
+freshWith s = record { rx = Rx.Idle; last = 0; tx = Tx.Idle; settings = s }
 
--- a berth with its receive side and last length anew, and with its send side anew
+abbrev pub fresh : Berth
+fresh = freshWith zeroSettings
+
+-- a berth with its receive side and last length anew, with its send side anew, and with its settings anew
 abbrev pub withRx : Berth → Rx → ℕ → Berth
-withRx b rx last = record { rx = rx; last = last; tx = b .tx }
+withRx b rx last = record { rx = rx; last = last; tx = b .tx; settings = b .settings }
 
 abbrev pub withTx : Berth → Tx → Berth
-withTx b tx = record { rx = b .rx; last = b .last; tx = tx }
+withTx b tx = record { rx = b .rx; last = b .last; tx = tx; settings = b .settings }
+
+abbrev pub withSettings : Berth → BerthSettings → Berth
+withSettings b s = record { rx = b .rx; last = b .last; tx = b .tx; settings = s }
 
 -- ---- the node
 
 -- a node that no set-up has filled: settings 0, ten fresh berths
 abbrev pub blankNode : Node
-blankNode = record { settings = record { area = 0; block = 0; stmin = 0 }; served = 0; berths = replicate berthCount fresh }
+blankNode = record { settings = record { area = 0 }; served = 0; berths = replicate berthCount fresh }
 
 -- berth k's part of the node
 unfoldable pub berthAt : Node → ℕ → Berth

@@ -141,7 +141,7 @@ N-UNEXP-PDU = 7
 abbrev pub N-BUFFER-OVFLW : ℕ
 N-BUFFER-OVFLW = 9
 
--- ---- refusals 1 to 12: the most data bytes of a frame that comes in, the fewest bytes of a turn's buffer, and the numbers
+-- ---- refusals 1 to 15: the most data bytes of a frame that comes in, the fewest bytes of a turn's buffer, and the numbers
 
 abbrev pub mostData : ℕ
 mostData = 8
@@ -185,6 +185,24 @@ unused = 11
 
 abbrev pub wrongCards : ℕ
 wrongCards = 12
+
+-- paper 02, W3
+abbrev pub unknownParameter : ℕ
+unknownParameter = 13
+
+abbrev pub valueOutside : ℕ
+valueOutside = 14
+
+abbrev pub takingPlace : ℕ
+takingPlace = 15
+
+-- ---- the parameters that a change names (paper 02, W3), in the order of the standard's 8.3.5
+
+abbrev pub stminParameter : ℕ
+stminParameter = 0
+
+abbrev pub blockParameter : ℕ
+blockParameter = 1
 
 -- ---- the cards: a count at its end freezes its card
 

@@ -11,6 +11,7 @@ use Rattle.rules.specs.Tests.{pick, all, each}
 use Rattle.rules.specs.Numbers.{berthCount, leastArea, largestArea, largestBlock, mostMillis, leastFraction, mostFraction, timeout, snCount, longestGap, singleMost, firstBytes, leastLong}
 use Rattle.rules.specs.Nodes.{berthAt}
 use Rattle.rules.specs.declared.Settings.{Settings}
+use Rattle.rules.specs.declared.BerthSettings.{BerthSettings}
 use Rattle.rules.specs.declared.Taking.{Taking}
 use Rattle.rules.specs.declared.Sending.{Sending}
 use Rattle.rules.specs.declared.Rx.{Rx}
@@ -27,15 +28,29 @@ stminAllowed stmin = leb stmin mostMillis || (leb leastFraction stmin && leb stm
 abbrev pub StminRange : ℕ → Type 0
 StminRange stmin = (stmin ≤ mostMillis) ⊎ ((leastFraction ≤ stmin) × (stmin ≤ mostFraction))
 
--- A is 8 to 4,095, BS is 0 to 255
-unfoldable pub settingsAllowed : ℕ → ℕ → ℕ → Bool
-settingsAllowed a bs stmin = all (leb leastArea a ∷ leb a largestArea ∷ leb bs largestBlock ∷ stminAllowed stmin ∷ [])
+-- A is 8 to 4,095
+abbrev pub areaAllowed : ℕ → Bool
+areaAllowed a = all (leb leastArea a ∷ leb a largestArea ∷ [])
 
-pub record SettingsRange (a bs stmin : ℕ) : Type 0 where
+pub record AreaRange (a : ℕ) : Type 0 where
   pub area-least : leastArea ≤ a
   pub area-most : a ≤ largestArea
+
+-- a berth's own settings: BS is 0 to 255
+abbrev pub ownAllowed : ℕ → ℕ → Bool
+ownAllowed bs stmin = all (leb bs largestBlock ∷ stminAllowed stmin ∷ [])
+
+pub record OwnRange (bs stmin : ℕ) : Type 0 where
   pub block-most : bs ≤ largestBlock
   pub stmin-allowed : StminRange stmin
+
+-- what set-up takes: A, and the settings of all ten berths
+unfoldable pub settingsAllowed : ℕ → ℕ → ℕ → Bool
+settingsAllowed a bs stmin = all (areaAllowed a ∷ ownAllowed bs stmin ∷ [])
+
+pub record SettingsRange (a bs stmin : ℕ) : Type 0 where
+  pub area : AreaRange a
+  pub own : OwnRange bs stmin
 
 -- ---- counts of frames in a block
 
@@ -55,31 +70,30 @@ underWayInRange a length done sn =
 
 -- ---- the receive side
 
--- total, got and the next SN are those of a message under way, and the frames taken are a count in a block of BS
-unfoldable pub takingInRange : Settings → Taking → Bool
-takingInRange s p =
-    all (underWayInRange (s .area) (p .total) (p .got) (p .sn .0) ∷ inBlock (s .block) (p .taken) ∷ [])
+-- total, got and the next SN are those of a message under way, and the frames taken are a count in a block of the berth's own BS
+unfoldable pub takingInRange : Settings → ℕ → Taking → Bool
+takingInRange s bs p = all (underWayInRange (s .area) (p .total) (p .got) (p .sn .0) ∷ inBlock bs (p .taken) ∷ [])
 
-pub record TakingRange (s : Settings) (p : Taking) : Type 0 where
+pub record TakingRange (s : Settings) (bs : ℕ) (p : Taking) : Type 0 where
   pub total-least : leastLong ≤ p .total
   pub total-most : p .total ≤ s .area
   pub got-least : firstBytes ≤ p .got
   pub got-most : p .got < p .total
   pub sn-most : p .sn .0 < snCount
-  pub taken : BlockRange (s .block) (p .taken)
+  pub taken : BlockRange bs (p .taken)
 
 -- the last length is 0 to A, and 0 while the side owes go or awaits; all but idle have a timer 0 to 999
-abbrev pub rxInRange : Settings → ℕ → Rx → Bool
-rxInRange s last Rx.Idle = leb last (s .area)
-rxInRange s last (Rx.OwesOverflow t) = all (leb last (s .area) ∷ ltb t timeout ∷ [])
-rxInRange s last (Rx.OwesGo p t) = all (eqb last 0 ∷ takingInRange s p ∷ ltb t timeout ∷ [])
-rxInRange s last (Rx.Awaits p t) = all (eqb last 0 ∷ takingInRange s p ∷ ltb t timeout ∷ [])
+abbrev pub rxInRange : Settings → (bs last : ℕ) → Rx → Bool
+rxInRange s bs last Rx.Idle = leb last (s .area)
+rxInRange s bs last (Rx.OwesOverflow t) = all (leb last (s .area) ∷ ltb t timeout ∷ [])
+rxInRange s bs last (Rx.OwesGo p t) = all (eqb last 0 ∷ takingInRange s bs p ∷ ltb t timeout ∷ [])
+rxInRange s bs last (Rx.Awaits p t) = all (eqb last 0 ∷ takingInRange s bs p ∷ ltb t timeout ∷ [])
 
-abbrev pub RxRange : Settings → ℕ → Rx → Type 0
-RxRange s last Rx.Idle = last ≤ s .area
-RxRange s last (Rx.OwesOverflow t) = (last ≤ s .area) × (t < timeout)
-RxRange s last (Rx.OwesGo p t) = (last ≡ 0) × TakingRange s p × (t < timeout)
-RxRange s last (Rx.Awaits p t) = (last ≡ 0) × TakingRange s p × (t < timeout)
+abbrev pub RxRange : Settings → (bs last : ℕ) → Rx → Type 0
+RxRange s bs last Rx.Idle = last ≤ s .area
+RxRange s bs last (Rx.OwesOverflow t) = (last ≤ s .area) × (t < timeout)
+RxRange s bs last (Rx.OwesGo p t) = (last ≡ 0) × TakingRange s bs p × (t < timeout)
+RxRange s bs last (Rx.Awaits p t) = (last ≡ 0) × TakingRange s bs p × (t < timeout)
 
 -- ---- the send side
 
@@ -119,22 +133,26 @@ TxRange s (Tx.Consecutive o t) = SendingRange s o × ((o .left ≡ 0) ⊎ (t ≡
 
 -- ---- one berth, and the node
 
+-- its own settings are in range, and so is each side, the receive side by its own BS
 unfoldable pub berthInOrder : Settings → Berth → Bool
-berthInOrder s b = all (rxInRange s (b .last) (b .rx) ∷ txInRange s (b .tx) ∷ [])
+berthInOrder s b =
+    all
+    (ownAllowed (b .settings .block) (b .settings .stmin) ∷ rxInRange s (b .settings .block) (b .last) (b .rx)
+    ∷ txInRange s (b .tx) ∷ [])
 
 pub record BerthRange (s : Settings) (b : Berth) : Type 0 where
-  pub receive : RxRange s (b .last) (b .rx)
+  pub own : OwnRange (b .settings .block) (b .settings .stmin)
+  pub receive : RxRange s (b .settings .block) (b .last) (b .rx)
   pub send : TxRange s (b .tx)
 
--- the settings are in range, the berth served last is 0 to 9, and each of the ten berths is in order
+-- A is in range, the berth served last is 0 to 9, and each of the ten berths is in order
 unfoldable pub inOrder : Node → Bool
 inOrder n =
     all
-    (settingsAllowed (n .settings .area) (n .settings .block) (n .settings .stmin) ∷ ltb (n .served) berthCount
-    ∷ eqb (length (n .berths)) berthCount ∷ each (berthInOrder (n .settings)) (n .berths) ∷ [])
+    (areaAllowed (n .settings .area) ∷ ltb (n .served) berthCount ∷ eqb (length (n .berths)) berthCount ∷ each (berthInOrder (n .settings)) (n .berths) ∷ [])
 
 pub record InOrder (n : Node) : Type 0 where
-  pub settings : SettingsRange (n .settings .area) (n .settings .block) (n .settings .stmin)
+  pub settings : AreaRange (n .settings .area)
   pub served : n .served < berthCount
   pub ten : length (n .berths) ≡ berthCount
   pub berth : (k : ℕ) → k < berthCount → BerthRange (n .settings) (berthAt n k)

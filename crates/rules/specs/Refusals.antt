@@ -1,4 +1,4 @@
--- Paper 01, "Refusal numbers", as paper 02 changes it (12 is new, 11 is struck): for each call its needs in the order in which they are
+-- Paper 01, "Refusal numbers", as paper 02 changes it (12 to 15 are new, 11 is struck): for each call its needs in the order in which they are
 -- tested, as tests and as plain conditions. That a refusal is n if and only if condition n is the first of the call's list that holds is
 -- proved (proofs/Exact).
 use Prim.Native.Nat.{ℕ, _+_, _-_, _*_, _≤_, _<_}
@@ -9,13 +9,14 @@ use mathlib.Core.List.{List, [], _∷_, _++_}
 use lib.ListN.{length}
 use lib.Dec.{ltb, leb}
 use Rattle.rules.specs.Tests.{Need, need, firstUnmet}
-use Rattle.rules.specs.Numbers.{berthCount, fromBerth, mostData, leastBuffer, outOfOrder, wrongStore, wrongIdentifier, tooManyBytes, noSuchBerth, emptyMessage, messageTooLong, alreadySending, shortBuffer, badSetting, wrongCards}
+use Rattle.rules.specs.Numbers.{berthCount, fromBerth, mostData, leastBuffer, outOfOrder, wrongStore, wrongIdentifier, tooManyBytes, noSuchBerth, emptyMessage, messageTooLong, alreadySending, shortBuffer, badSetting, wrongCards, unknownParameter, valueOutside, takingPlace}
 use Rattle.rules.specs.Nodes.{berthAt, Held}
 use Rattle.rules.specs.Ranges.{settingsAllowed, SettingsRange, inOrder, InOrder}
 use Rattle.rules.specs.Turns.{busy}
-use Rattle.rules.specs.Events.{Call, frame, tick, send, turn, show}
+use Rattle.rules.specs.Changes.{known, valueAllowed, ValueRange}
+use Rattle.rules.specs.Events.{Call, frame, tick, send, turn, show, change}
 use Rattle.rules.specs.Stores.{rightStore}
-use Rattle.rules.specs.Cards.{rightCards}
+use Rattle.rules.specs.Cards.{rightCards, underWay}
 use Rattle.rules.specs.declared.Node.{Node}
 
 -- what frame, send and turn need first: the node is in order, and the store has ten areas
@@ -42,6 +43,13 @@ needs h (turn buffer) =
     orderAndStore (h .node) (h .outgoing)
     ++ (need wrongCards (rightCards (h .cards)) ∷ need shortBuffer (leb leastBuffer (length buffer)) ∷ [])
 needs h (show k choice) = []
+needs h (change k parameter value) =
+    need outOfOrder (inOrder (h .node))
+    ∷ need noSuchBerth (ltb k berthCount)
+    ∷ need unknownParameter (known parameter)
+    ∷ need valueOutside (valueAllowed parameter value)
+    ∷ need takingPlace (not (underWay (berthAt (h .node) k .rx)))
+    ∷ []
 
 unfoldable pub refusal : Held → Call → ℕ
 refusal h c = firstUnmet (needs h c)
@@ -82,6 +90,13 @@ conditions h (turn buffer) =
     ∷ condition 9 (length buffer < 8)
     ∷ []
 conditions h (show k choice) = []
+conditions h (change k parameter value) =
+    condition 1 (InOrder (h .node) → ⊥)
+    ∷ condition 5 (9 < k)
+    ∷ condition 13 (1 < parameter)
+    ∷ condition 14 (ValueRange parameter value → ⊥)
+    ∷ condition 15 (underWay (berthAt (h .node) k .rx) ≡ true)
+    ∷ []
 
 abbrev pub setUpConditions : ℕ → ℕ → ℕ → List Condition
 setUpConditions a bs stmin = condition 10 (SettingsRange a bs stmin → ⊥) ∷ []

@@ -8,11 +8,12 @@ use lib.Seq.{sets}
 use lib.Dec.{eqb}
 use Rattle.rules.specs.Tests.{pick}
 use Rattle.rules.specs.Numbers.{berthCount}
-use Rattle.rules.specs.Nodes.{fresh, berthAt, withBerths, withServed, Held}
+use Rattle.rules.specs.Nodes.{freshWith, berthAt, withBerths, withServed, Held}
 use Rattle.rules.specs.Arrivals.{Came, frameCame}
 use Rattle.rules.specs.Ticks.{ticked}
 use Rattle.rules.specs.Turns.{due, HandedOver, handOver}
 use Rattle.rules.specs.declared.Settings.{Settings}
+use Rattle.rules.specs.declared.BerthSettings.{BerthSettings}
 use Rattle.rules.specs.declared.Berth.{Berth}
 use Rattle.rules.specs.declared.Node.{Node}
 
@@ -42,10 +43,10 @@ tickedNode n = withBerths n (map ticked (n .berths))
 unfoldable pub servedNode : Node → ℕ → Berth → Node
 servedNode n k b = withServed (withBerths n (set (n .berths) k b)) k
 
--- ---- set-up fills the node whatever it held before: served 9, all sides idle, all last lengths 0
+-- ---- set-up fills the node whatever it held before: served 9, all ten berths with the same settings, all sides idle, all last lengths 0
 
-unfoldable pub setUpNode : Settings → Node
-setUpNode s = record { settings = s; served = berthCount - 1; berths = replicate berthCount fresh }
+unfoldable pub setUpNode : Settings → BerthSettings → Node
+setUpNode s own = record { settings = s; served = berthCount - 1; berths = replicate berthCount (freshWith own) }
 
 -- ---- the round: from the berth after the one served last
 
@@ -71,4 +72,4 @@ unfoldable pub cameAt : Held → ℕ → List ℕ → Came
 cameAt h k d = frameCame (h .node .settings) (berthAt (h .node) k) d
 
 unfoldable pub handedAt : Held → ℕ → HandedOver
-handedAt h k = handOver (h .node .settings) (berthAt (h .node) k) (areaOf (h .node .settings .area) k (h .outgoing))
+handedAt h k = handOver (berthAt (h .node) k) (areaOf (h .node .settings .area) k (h .outgoing))

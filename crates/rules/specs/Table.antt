@@ -3,7 +3,7 @@ use mathlib.Core.Path.{_≡_}
 use Prim.Native.Nat.{ℕ, zero, suc, _+_, _%_}
 use mathlib.Core.List.{List, [], _∷_}
 use lib.ListN.{length, replicate}
-use Rattle.rules.specs.Nodes.{fresh, Held, withRx, withTx}
+use Rattle.rules.specs.Nodes.{freshWith, Held, withRx, withTx}
 use Rattle.rules.specs.Frames.{framesNeeded}
 use Rattle.rules.specs.Turns.{sent as sentBerth}
 use Rattle.rules.specs.Answers.{Answer, heard, codes, sent, handed}
@@ -12,6 +12,7 @@ use Rattle.rules.specs.Cards.{zeroCard}
 use Rattle.rules.specs.Calls.{answers}
 use Rattle.rules.specs.Alone.{Part, Says, hands, saysAll}
 use Rattle.rules.specs.declared.Settings.{Settings}
+use Rattle.rules.specs.declared.BerthSettings.{BerthSettings}
 use Rattle.rules.specs.declared.Taking.{Taking}
 use Rattle.rules.specs.declared.Sending.{Sending}
 use Rattle.rules.specs.declared.Rx.{Rx}
@@ -41,6 +42,7 @@ lastFrame (x ∷ []) = frameIn x
     frameIn (Says.expires r s) = []
     frameIn Says.accepts = []
     frameIn (hands f c) = f
+    frameIn Says.adopts = []
 
 -- what a row claims, and that all rows hold
 abbrev pub Shown : Row → Type 0
@@ -54,11 +56,17 @@ AllShown (r ∷ rs) = Shown r × AllShown rs
 
 -- ---- starts
 
--- A 40, BS 2, STmin 05
+-- A 40; BS 2 and STmin 05, at every berth
 abbrev pub paper : Settings
-paper = record { area = 40; block = 2; stmin = 5 }
+paper = record { area = 40 }
 
--- these berths, 9 served last, and stores and cards of zeros; with all berths fresh; a turn's buffer
+abbrev pub paperOwn : BerthSettings
+paperOwn = record { block = 2; stmin = 5 }
+
+abbrev pub idle : Berth
+idle = freshWith paperOwn
+
+-- these berths, 9 served last, and stores and cards of zeros; with all berths idle; a turn's buffer
 abbrev pub heldBy : List Berth → Held
 heldBy bs =
     record {
@@ -69,7 +77,7 @@ heldBy bs =
     }
 
 abbrev pub start : Held
-start = heldBy (replicate 10 fresh)
+start = heldBy (replicate 10 idle)
 
 abbrev pub buffer : List ℕ
 buffer = replicate 8 0
@@ -81,10 +89,10 @@ rising (suc n) x = x ∷ rising n ((x + 1) % 256)
 
 -- a berth with this side, the other idle
 abbrev pub receiving : Rx → Berth
-receiving rx = withRx fresh rx 0
+receiving rx = withRx idle rx 0
 
 abbrev pub sending : Tx → Berth
-sending tx = withTx fresh tx
+sending tx = withTx idle tx
 
 -- a reception and a sending under way
 abbrev pub halfway : Taking
@@ -104,7 +112,7 @@ timed t =
     ∷ sending (Tx.FirstDue 8 t)
     ∷ sending (Tx.AwaitsFlow underway t)
     ∷ sending (Tx.Consecutive underway t)
-    ∷ replicate 3 fresh
+    ∷ replicate 3 idle
     )
 
 -- the codes of a berth's two sides
@@ -117,7 +125,7 @@ expired = pair 2 0 ∷ pair 2 0 ∷ pair 4 0 ∷ pair 0 2 ∷ pair 0 2 ∷ pair 
 
 -- the berth that is about to send the longest message
 abbrev pub longest : Part
-longest = record { berth = sentBerth fresh 4095; incoming = []; outgoing = rising 4095 0; card = zeroCard }
+longest = record { berth = sentBerth idle 4095; incoming = []; outgoing = rising 4095 0; card = zeroCard }
 
 -- the starred cases, in the paper's order
 abbrev pub table : List Row
@@ -136,7 +144,7 @@ table =
     ∷ needs-frames 20 3
     ∷ needs-frames 21 4
     ∷ needs-frames 4095 586
-    ∷ berthRun (record { area = 4095; block = 2; stmin = 5 }) longest (turns ∷ arrives (0x30 ∷ 0 ∷ 0 ∷ []) ∷ replicate 585 turns) 586 (0x29 ∷ 0xFE ∷ 0xCC ∷ 0xCC ∷ 0xCC ∷ 0xCC ∷ 0xCC ∷ 0xCC ∷ [])
+    ∷ berthRun (record { area = 4095 }) longest (turns ∷ arrives (0x30 ∷ 0 ∷ 0 ∷ []) ∷ replicate 585 turns) 586 (0x29 ∷ 0xFE ∷ 0xCC ∷ 0xCC ∷ 0xCC ∷ 0xCC ∷ 0xCC ∷ 0xCC ∷ [])
     -- first frame of 20
     ∷ nodeRun start (frame 0x640 (0x10 ∷ 20 ∷ 0 ∷ 1 ∷ 2 ∷ 3 ∷ 4 ∷ 5 ∷ []) ∷ turn buffer ∷ [])
     (heard 0 0 (Begun 20) ∷ handed 0x660 (0x30 ∷ 0x02 ∷ 0x05 ∷ 0xCC ∷ 0xCC ∷ 0xCC ∷ 0xCC ∷ 0xCC ∷ []) 0 0 ∷ [])

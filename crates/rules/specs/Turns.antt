@@ -9,7 +9,7 @@ use Rattle.rules.specs.Tests.{pick}
 use Rattle.rules.specs.Numbers.{singleMost, firstBytes, consecutiveMost, N-OK}
 use Rattle.rules.specs.Nodes.{withRx, withTx}
 use Rattle.rules.specs.Frames.{singleFrame, firstFrame, consecutiveFrame, goFrame, overflowFrame, firstSn, nextSn, counted, fillsBlock, share}
-use Rattle.rules.specs.declared.Settings.{Settings}
+use Rattle.rules.specs.declared.BerthSettings.{BerthSettings}
 use Rattle.rules.specs.declared.Taking.{Taking}
 use Rattle.rules.specs.declared.Sending.{Sending}
 use Rattle.rules.specs.declared.Rx.{Rx}
@@ -36,7 +36,7 @@ due b = flowDue (b .rx) || messageDue (b .tx)
 
 -- ---- flow control handed over: after go the side awaits, timer and block count 0; after overflow it is idle
 
-abbrev pub flowFrame : Settings → Rx → List ℕ
+abbrev pub flowFrame : BerthSettings → Rx → List ℕ
 flowFrame s Rx.Idle = []
 flowFrame s (Rx.OwesOverflow t) = overflowFrame
 flowFrame s (Rx.OwesGo p t) = goFrame s
@@ -109,10 +109,10 @@ pub record HandedOver : Type 0 where
   pub frame : List ℕ
   pub code : ℕ
 
-unfoldable pub handOver : Settings → Berth → List ℕ → HandedOver
-handOver s b area =
+unfoldable pub handOver : Berth → List ℕ → HandedOver
+handOver b area =
     pick (flowDue (b .rx))
-    (record { berth = withRx b (afterFlow (b .rx)) (b .last); frame = flowFrame s (b .rx); code = 0 })
+    (record { berth = withRx b (afterFlow (b .rx)) (b .last); frame = flowFrame (b .settings) (b .rx); code = 0 })
     (record { berth = withTx b (afterMessage (b .tx)); frame = messageFrame (b .tx) area; code = messageCode (b .tx) })
 
 -- ---- send: a message of n bytes begins as single due or first due, timer 0

@@ -11,23 +11,25 @@ use Rattle.rules.specs.Tests.{firstUnmet}
 use Rattle.rules.specs.Numbers.{berthCount, toBerth, frameSize}
 use Rattle.rules.specs.Nodes.{Held, withNode, withCards}
 use Rattle.rules.specs.Ticks.{codesOf}
-use Rattle.rules.specs.Events.{Call, frame, tick, send, turn, show, senderOf}
+use Rattle.rules.specs.Events.{Call, frame, tick, send, turn, show, change, senderOf}
 use Rattle.rules.specs.Stores.{passedOver, reached, cameAt, handedAt, servedNode, setUpNode}
-use Rattle.rules.specs.Answers.{handed, setUpSays, frameSays, tickSays, sendSays, turnSays}
+use Rattle.rules.specs.Answers.{handed, setUpSays, frameSays, tickSays, sendSays, turnSays, changeSays}
 use Rattle.rules.specs.Cards.{addedAt, turnAdds}
 use Rattle.rules.specs.Refusals.{needs, refusal, setUpRefusal}
 use Rattle.rules.specs.Calls.{Outcome, refusedOutcome, showable, shownLength, showing, afterFrame, afterTurn, done, reply, written, outcome, setUpOutcome}
 use Rattle.rules.specs.declared.Settings.{Settings}
+use Rattle.rules.specs.declared.BerthSettings.{BerthSettings}
 use Rattle.rules.specs.declared.Node.{Node}
 use Rattle.rules.specs.declared.SetUpAnswer.{SetUpAnswer}
 use Rattle.rules.specs.declared.FrameAnswer.{FrameAnswer}
 use Rattle.rules.specs.declared.SendAnswer.{SendAnswer}
 use Rattle.rules.specs.declared.TurnAnswer.{TurnAnswer}
+use Rattle.rules.specs.declared.ChangeAnswer.{ChangeAnswer}
 use Rattle.rules.proofs.Cases.{Tested, holds, fails, ltb-cases}
 use Rattle.rules.proofs.Handed.{handed-fit}
 use Rattle.node.specs.Promises.{lent, left, SetUpPromise, startsAt}
 use Rattle.node.proofs.Outcomes.{agrees, refuses, does}
-use Rattle.runs.specs.Chains.{Step, frameStep, tickStep, sendStep, turnStep, showStep, Chain, AfterSetUp, madeOf}
+use Rattle.runs.specs.Chains.{Step, frameStep, tickStep, sendStep, turnStep, showStep, changeStep, Chain, AfterSetUp, madeOf}
 use Rattle.runs.proofs.Runs.{step-is}
 
 module _ (h : Held) where
@@ -98,6 +100,18 @@ module _ (h : Held) where
           as-outcome (turnStep buffer (TurnAnswer.Refused (suc number)) (h .node) (h .cards) buffer
           (λ incoming. refuses (lent (h .node) (h .cards) incoming (h .outgoing)) (turn buffer) (suc number) (λ z. omega arith) refl refl (sym e)))
 
+  change-step : (k parameter value : ℕ) → Step h (change k parameter value) (outcome h (change k parameter value))
+  unfolding refusal needs changeSays reply done written
+  change-step k parameter value = go (refusal h (change k parameter value)) refl
+    where
+      go : (number : ℕ) → refusal h (change k parameter value) ≡ number → Step h (change k parameter value) (outcome h (change k parameter value))
+      go zero e =
+          as-outcome (changeStep k parameter value (ChangeAnswer.Changed k) (done h (change k parameter value) .node)
+          (λ cards incoming outgoing. does (lent (h .node) cards incoming outgoing) (change k parameter value) refl (sym e) refl))
+      go (suc number) e =
+          as-outcome (changeStep k parameter value (ChangeAnswer.Refused (suc number)) (h .node)
+          (λ cards incoming outgoing. refuses (lent (h .node) cards incoming outgoing) (change k parameter value) (suc number) (λ z. omega arith) refl refl (sym e)))
+
   -- EVERY CALL HAS A STEP
   pub every-step : (c : Call) → Step h c (outcome h c)
   unfolding showing shownLength showable
@@ -108,6 +122,7 @@ module _ (h : Held) where
   every-step (show k choice) =
       as-outcome (showStep k choice (showing h k choice) (0, 0) (0, 0) (startsAt h k choice (0, 0) (0, 0))
       (record { agrees = λ cards. unfold refusal needs firstUnmet reply done written in (does (withCards h cards) (show k choice) refl refl refl); starts = λ cards. refl }))
+  every-step (change k parameter value) = change-step k parameter value
 
 -- EVERY LIST OF CALLS HAS A CHAIN, from any start
 pub every-chain : (h : Held) (cs : List Call) → Chain h (madeOf h cs)
@@ -116,20 +131,23 @@ every-chain h [] = tt
 every-chain h (c ∷ cs) = (every-step h c, every-chain (outcome h c .held) cs)
 
 -- EVERY SET-UP HAS AN ANSWER THAT MEETS ITS PROMISE, and with allowed settings it is Ready
-every-ready : (n : Node) (s : Settings) → setUpRefusal (s .area) (s .block) (s .stmin) ≡ 0
-    → SetUpPromise n (s .area) (s .block) (s .stmin) SetUpAnswer.Ready (setUpNode s)
+every-ready : (n : Node) (s : Settings) (set : BerthSettings) → setUpRefusal (s .area) (set .block) (set .stmin) ≡ 0
+    → SetUpPromise n (s .area) (set .block) (set .stmin) SetUpAnswer.Ready (setUpNode s set)
 unfolding setUpSays setUpOutcome
-every-ready n s e cards incoming outgoing = rw e (agrees refl)
+every-ready n s set e cards incoming outgoing = rw e (agrees refl)
 
 pub every-set-up : (n : Node) (area block stmin : ℕ) → (a : SetUpAnswer) × (n′ : Node) × SetUpPromise n area block stmin a n′
 unfolding setUpSays setUpOutcome refusedOutcome
 every-set-up n area block stmin = go (setUpRefusal area block stmin) refl
   where
     go : (number : ℕ) → setUpRefusal area block stmin ≡ number → (a : SetUpAnswer) × (n′ : Node) × SetUpPromise n area block stmin a n′
-    go zero e = (SetUpAnswer.Ready, setUpNode (record { area = area; block = block; stmin = stmin }), every-ready n (record { area = area; block = block; stmin = stmin }) e)
+    go zero e =
+        let s : Settings = record { area = area } in
+        let set : BerthSettings = record { block = block; stmin = stmin } in
+        (SetUpAnswer.Ready, setUpNode s set, every-ready n s set e)
     go (suc number) e = (SetUpAnswer.Refused (suc number), n, λ cards incoming outgoing. rw e (agrees refl))
 
 -- and after one with allowed settings every list of calls has a chain
-pub every-after-set-up : (h : Held) (s : Settings) (cs : List Call) → setUpRefusal (s .area) (s .block) (s .stmin) ≡ 0
-    → AfterSetUp h s (setUpNode s) (madeOf (withNode h (setUpNode s)) cs)
-every-after-set-up h s cs e = record { ready = every-ready (h .node) s e; chain = every-chain (withNode h (setUpNode s)) cs }
+pub every-after-set-up : (h : Held) (s : Settings) (set : BerthSettings) (cs : List Call) → setUpRefusal (s .area) (set .block) (set .stmin) ≡ 0
+    → AfterSetUp h s set (setUpNode s set) (madeOf (withNode h (setUpNode s set)) cs)
+every-after-set-up h s set cs e = record { ready = every-ready (h .node) s set e; chain = every-chain (withNode h (setUpNode s set)) cs }

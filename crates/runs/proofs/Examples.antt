@@ -6,12 +6,13 @@ use mathlib.Core.List.{List, [], _∷_, _++_}
 use lib.ListN.{getD, replicate}
 use lib.Dec.{lit<, lit≤}
 use Rattle.rules.specs.Tests.{all, each, firstUnmet}
-use Rattle.rules.specs.Nodes.{berthAt, withBerth, Held, blankNode, withNode}
+use Rattle.rules.specs.Nodes.{zeroSettings, berthAt, withBerth, Held, blankNode, withNode}
 use Rattle.rules.specs.Ranges.{settingsAllowed, inBlock, takingInRange, berthInOrder, inOrder}
 use Rattle.rules.specs.Frames.{kind, low, singleFits, shortLength, escapeLength, announced, firstFits, consecutiveFits, share}
 use Rattle.rules.specs.Arrivals.{singleCame, begun, firstCame, piece, completed, awaitedCame, heardBy, byKind, frameCame}
 use Rattle.rules.specs.Turns.{due, handOver, beginsWith, sent as sentBerth}
-use Rattle.rules.specs.Events.{Call, frame, tick, send, turn, ticks, arrives, sends}
+use Rattle.rules.specs.Changes.{valueAllowed, changedSettings}
+use Rattle.rules.specs.Events.{Call, frame, tick, send, turn, change, ticks, arrives, sends, changes}
 use Rattle.rules.specs.Stores.{rightStore, areaOf, stored, servedNode, setUpNode, distance, leastDistance, passedOver, reached, cameAt, handedAt}
 use Rattle.rules.specs.Answers.{refused, send as sendSide}
 use Rattle.rules.specs.Cards.{rightCards, addedAt}
@@ -21,6 +22,7 @@ use Rattle.rules.specs.Alone.{partOf, stateAfter, partAfter, says, hears}
 use Rattle.rules.specs.Clocks.{Idle, mostTime}
 use Rattle.rules.specs.declared.Word.the-variants.{Delivered}
 use Rattle.rules.specs.declared.Settings.{Settings}
+use Rattle.rules.specs.declared.BerthSettings.{BerthSettings}
 use Rattle.rules.specs.declared.Tx.{Tx}
 use Rattle.laws.specs.Own.{ownDone, own, owns, over}
 use Rattle.laws.specs.Histories.{historyOf}
@@ -29,11 +31,11 @@ use Rattle.laws.specs.Gaps.{TwoFrames, Spaced}
 use Rattle.laws.specs.Free.{LeftAlone, ComesFree, AllComeFree}
 use Rattle.laws.specs.Rounds.{turnOf, StaysDue, Fair}
 use Rattle.laws.specs.Line.{blank}
-use Rattle.laws.proofs.Examples.{two, twoRun, afresh-computed, afresh-cards, crowd, crowdRun, crowd-computed, scheduler, toSix, sixFrames, stuck, stuck-sound, live, live-owned, dipped, sharp}
+use Rattle.laws.proofs.Examples.{two, twoOwn, twoRun, afresh-computed, afresh-cards, crowd, crowdRun, crowd-computed, scheduler, toSix, sixFrames, stuck, stuck-sound, live, live-owned, dipped, sharp}
 use Rattle.runs.specs.Chains.{Made, AfterSetUp, madeOf, callsOf, saidBy, leftBy, ownIn, DueIn, historyIn, EachAlone}
 use Rattle.runs.proofs.Runs.{chain-leaves, chain-owns, chain-history, chain-fair, chain-alone-after-set-up, chain-tallies-after-set-up, chain-spaced, chain-left-alone, chain-comes-free, chain-all-come-free, chain-free-after-set-up}
 use Rattle.runs.proofs.Every.{every-chain, every-after-set-up}
-use Rattle.runs.proofs.PoorNodes.{one-more, refusing-again, idle-again-timers, idle-again-message, counting-again, fixed-again, fixed-again-bytes}
+use Rattle.runs.proofs.PoorNodes.{one-more, refusing-again, idle-again-timers, idle-again-message, idle-again-settings, counting-again, fixed-again, fixed-again-bytes}
 
 -- a run of the rules as a chain has the same calls
 calls-made : (h : Held) (cs : List Call) → callsOf (madeOf h cs) ≡ cs
@@ -41,12 +43,12 @@ unfolding madeOf
 calls-made h [] = refl
 calls-made h (c ∷ cs) = ap (λ (ds : List Call). c ∷ ds) (calls-made (outcome h c .held) cs)
 
--- ---- demand 3: the run of eight calls after a set-up, and ten calls for a frame while all ten berths are due
+-- ---- demand 3: the run of ten calls after a set-up, and ten calls for a frame while all ten berths are due
 
-pub alone-here : EachAlone two (two .node .settings) (setUpNode (two .node .settings)) (madeOf (withNode two (setUpNode (two .node .settings))) twoRun)
+pub alone-here : EachAlone two (two .node .settings) twoOwn (setUpNode (two .node .settings) twoOwn) (madeOf (withNode two (setUpNode (two .node .settings) twoOwn)) twoRun)
 alone-here =
-    chain-alone-after-set-up two (two .node .settings) (setUpNode (two .node .settings)) (madeOf (withNode two (setUpNode (two .node .settings))) twoRun)
-    (every-after-set-up two (two .node .settings) twoRun (afresh-computed .0))
+    chain-alone-after-set-up two (two .node .settings) twoOwn (setUpNode (two .node .settings) twoOwn) (madeOf (withNode two (setUpNode (two .node .settings) twoOwn)) twoRun)
+    (every-after-set-up two (two .node .settings) twoOwn twoRun (afresh-computed .0))
 
 due-made : (k : ℕ) (h : Held) (cs : List Call) → StaysDue k h cs → DueIn k h (madeOf h cs)
 unfolding StaysDue DueIn madeOf
@@ -59,7 +61,7 @@ fair-here = chain-fair 4 (lit< tt) crowd (madeOf crowd crowdRun) (every-chain cr
 -- ---- the law of the cards: the same run and a tick, with cards of zeros
 
 abbrev start : Held
-start = withNode two (setUpNode (two .node .settings))
+start = withNode two (setUpNode (two .node .settings) twoOwn)
 
 abbrev lastTick : Made
 lastTick = record { call = tick; out = outcome (leftBy start (madeOf start twoRun)) tick }
@@ -67,8 +69,8 @@ lastTick = record { call = tick; out = outcome (leftBy start (madeOf start twoRu
 pub cards-here : TalliesAt 5 (leftBy start (madeOf start twoRun ++ lastTick ∷ [])) (historyIn 5 start (madeOf start twoRun ++ lastTick ∷ []))
 unfolding madeOf leftBy final setUpOutcome setUpRefusal firstUnmet settingsAllowed all
 cards-here =
-    chain-tallies-after-set-up two (two .node .settings) (setUpNode (two .node .settings)) (madeOf start twoRun) lastTick
-    (every-after-set-up two (two .node .settings) (twoRun ++ tick ∷ []) (afresh-computed .0)) refl 5 (lit< tt) (afresh-cards .0)
+    chain-tallies-after-set-up two (two .node .settings) twoOwn (setUpNode (two .node .settings) twoOwn) (madeOf start twoRun) lastTick
+    (every-after-set-up two (two .node .settings) twoOwn (twoRun ++ tick ∷ []) (afresh-computed .0)) refl 5 (lit< tt) (afresh-cards .0)
 
 -- ---- the law of the gaps: berth 6 asks for 5 ms
 
@@ -107,14 +109,14 @@ left-alone-here = chain-left-alone mostTime 6 stuck lived (every-chain stuck (li
 pub comes-free-here : ComesFree 6 stuck (saidBy lived) (leftBy stuck lived)
 comes-free-here = chain-comes-free mostTime 6 stuck lived (every-chain stuck (live ++ replicate 1127 tick)) (stuck-sound .order) (lit< tt) lived-owned (lit≤ tt)
 
--- after the run of eight calls after a set-up
+-- after the run of ten calls after a set-up
 abbrev afterTwo : Held
 afterTwo = leftBy start (madeOf start twoRun)
 
 pub free-after-set-up-here : AllComeFree afterTwo (saidBy (ticking afterTwo)) (leftBy afterTwo (ticking afterTwo))
 free-after-set-up-here =
-    chain-free-after-set-up two (two .node .settings) (setUpNode (two .node .settings)) (madeOf start twoRun)
-    (every-after-set-up two (two .node .settings) twoRun (afresh-computed .0)) refl (ticking afterTwo) (every-chain afterTwo (replicate mostTime tick))
+    chain-free-after-set-up two (two .node .settings) twoOwn (setUpNode (two .node .settings) twoOwn) (madeOf start twoRun)
+    (every-after-set-up two (two .node .settings) twoOwn twoRun (afresh-computed .0)) refl (ticking afterTwo) (every-chain afterTwo (replicate mostTime tick))
     mostTime (lit≤ tt) (calls-made afterTwo (replicate mostTime tick))
 
 -- and ticks that do not suffice, of the node in order that the calls of the power dip leave
@@ -129,31 +131,31 @@ abbrev unset : Held
 unset = record { node = blankNode; incoming = replicate 80 0; outgoing = replicate 80 0; cards = zeroCards }
 
 abbrev eight : Settings
-eight = record { area = 8; block = 0; stmin = 0 }
+eight = record { area = 8 }
 
 abbrev made : Call → Outcome → Made
 made c o = record { call = c; out = o }
 
 -- refusing: a tick that is answered with a refusal is no run
-pub refusing-here : (o : Outcome) (number : ℕ) → AfterSetUp unset eight (setUpNode eight) (made tick o ∷ []) → o .answer ≡ refused number → ⊥
-unfolding own ownDone leftBy refusal needs firstUnmet rightCards inOrder all each settingsAllowed berthInOrder setUpNode
+pub refusing-here : (o : Outcome) (number : ℕ) → AfterSetUp unset eight zeroSettings (setUpNode eight zeroSettings) (made tick o ∷ []) → o .answer ≡ refused number → ⊥
+unfolding own ownDone leftBy refusal needs firstUnmet rightCards inOrder all each berthInOrder setUpNode
 refusing-here o number r = refusing-again (one-more [] (made tick o) 0 ticks r (lit< tt) refl) number
 
 -- a fixed answer, and fixed bytes: two single frames of other lengths, and of other bytes
-pub fixed-here : (o q : Outcome) → AfterSetUp unset eight (setUpNode eight) (made (frame 0x640 (0x01 ∷ 7 ∷ [])) o ∷ [])
-    → AfterSetUp unset eight (setUpNode eight) (made (frame 0x640 (0x02 ∷ 7 ∷ 8 ∷ [])) q ∷ []) → o .answer ≡ q .answer → ⊥
+pub fixed-here : (o q : Outcome) → AfterSetUp unset eight zeroSettings (setUpNode eight zeroSettings) (made (frame 0x640 (0x01 ∷ 7 ∷ [])) o ∷ [])
+    → AfterSetUp unset eight zeroSettings (setUpNode eight zeroSettings) (made (frame 0x640 (0x02 ∷ 7 ∷ 8 ∷ [])) q ∷ []) → o .answer ≡ q .answer → ⊥
 unfolding
-    own ownDone leftBy refusal needs firstUnmet rightStore rightCards inOrder all each settingsAllowed berthInOrder setUpNode berthAt
+    own ownDone leftBy refusal needs firstUnmet rightStore rightCards inOrder all each berthInOrder setUpNode berthAt
     cameAt frameCame byKind kind low heardBy singleCame singleFits partOf says
 fixed-here o q r x =
     fixed-again (one-more [] (made (frame 0x640 (0x01 ∷ 7 ∷ [])) o) 0 (arrives (0x01 ∷ 7 ∷ [])) r (lit< tt) refl)
     (one-more [] (made (frame 0x640 (0x02 ∷ 7 ∷ 8 ∷ [])) q) 0 (arrives (0x02 ∷ 7 ∷ 8 ∷ [])) x (lit< tt) refl)
     (λ e. let f : hears 0 (Delivered 1) ≡ hears 0 (Delivered 2) = e in let z : _≡_ {A = ℕ} 1 2 = cc in omega arith)
 
-pub fixed-bytes-here : (o q : Outcome) → AfterSetUp unset eight (setUpNode eight) (made (frame 0x640 (0x01 ∷ 7 ∷ [])) o ∷ [])
-    → AfterSetUp unset eight (setUpNode eight) (made (frame 0x640 (0x01 ∷ 8 ∷ [])) q ∷ []) → partOf 0 (o .held) .incoming ≡ partOf 0 (q .held) .incoming → ⊥
+pub fixed-bytes-here : (o q : Outcome) → AfterSetUp unset eight zeroSettings (setUpNode eight zeroSettings) (made (frame 0x640 (0x01 ∷ 7 ∷ [])) o ∷ [])
+    → AfterSetUp unset eight zeroSettings (setUpNode eight zeroSettings) (made (frame 0x640 (0x01 ∷ 8 ∷ [])) q ∷ []) → partOf 0 (o .held) .incoming ≡ partOf 0 (q .held) .incoming → ⊥
 unfolding
-    own ownDone leftBy refusal needs firstUnmet rightStore rightCards inOrder all each settingsAllowed berthInOrder setUpNode berthAt
+    own ownDone leftBy refusal needs firstUnmet rightStore rightCards inOrder all each berthInOrder setUpNode berthAt
     cameAt frameCame byKind kind low heardBy singleCame singleFits partOf stateAfter partAfter areaOf
 fixed-bytes-here o q r x =
     fixed-again-bytes (one-more [] (made (frame 0x640 (0x01 ∷ 7 ∷ [])) o) 0 (arrives (0x01 ∷ 7 ∷ [])) r (lit< tt) refl)
@@ -162,31 +164,39 @@ fixed-bytes-here o q r x =
 
 -- doing nothing: a message was sent, and a tick leaves its berth as it was
 abbrev afterSend : List Made
-afterSend = madeOf (withNode unset (setUpNode eight)) (send 0 (1 ∷ []) ∷ [])
+afterSend = madeOf (withNode unset (setUpNode eight zeroSettings)) (send 0 (1 ∷ []) ∷ [])
 
-pub idle-here : (o : Outcome) → AfterSetUp unset eight (setUpNode eight) (afterSend ++ made tick o ∷ [])
-    → partOf 0 (o .held) .berth ≡ partOf 0 (leftBy (withNode unset (setUpNode eight)) afterSend) .berth → ⊥
+pub idle-here : (o : Outcome) → AfterSetUp unset eight zeroSettings (setUpNode eight zeroSettings) (afterSend ++ made tick o ∷ [])
+    → partOf 0 (o .held) .berth ≡ partOf 0 (leftBy (withNode unset (setUpNode eight zeroSettings)) afterSend) .berth → ⊥
 unfolding
-    madeOf own ownDone leftBy refusal needs firstUnmet rightStore rightCards inOrder all each settingsAllowed berthInOrder setUpNode berthAt
+    madeOf own ownDone leftBy refusal needs firstUnmet rightStore rightCards inOrder all each berthInOrder setUpNode berthAt
     outcome done withBerth sentBerth beginsWith partOf
 idle-here o r = idle-again-timers (one-more afterSend (made tick o) 0 ticks r (lit< tt) refl) (λ e. let f : Tx.SingleDue 1 0 ≡ Tx.Idle = e .1 in let z : _≡_ {A = ℕ} 0 1 = cc in omega arith)
 
 -- and a send leaves the outgoing area as it was
-pub idle-message-here : (o : Outcome) → AfterSetUp unset eight (setUpNode eight) (made (send 0 (1 ∷ [])) o ∷ [])
-    → partOf 0 (o .held) .outgoing ≡ partOf 0 (withNode unset (setUpNode eight)) .outgoing → ⊥
-unfolding own ownDone leftBy refusal needs firstUnmet rightStore rightCards inOrder all each settingsAllowed berthInOrder setUpNode berthAt partOf areaOf
+pub idle-message-here : (o : Outcome) → AfterSetUp unset eight zeroSettings (setUpNode eight zeroSettings) (made (send 0 (1 ∷ [])) o ∷ [])
+    → partOf 0 (o .held) .outgoing ≡ partOf 0 (withNode unset (setUpNode eight zeroSettings)) .outgoing → ⊥
+unfolding own ownDone leftBy refusal needs firstUnmet rightStore rightCards inOrder all each berthInOrder setUpNode berthAt partOf areaOf
 idle-message-here o r =
     idle-again-message (1 ∷ []) (one-more [] (made (send 0 (1 ∷ [])) o) 0 (sends (1 ∷ [])) r (lit< tt) refl)
     (λ e. let z : _≡_ {A = ℕ} 0 1 = ap (λ (l : List ℕ). getD l 0 0) e in omega arith)
 
+-- and a change of the block size leaves the settings as they were
+pub idle-settings-here : (o : Outcome) → AfterSetUp unset eight zeroSettings (setUpNode eight zeroSettings) (made (change 0 1 5) o ∷ [])
+    → partOf 0 (o .held) .berth .settings ≡ partOf 0 (withNode unset (setUpNode eight zeroSettings)) .berth .settings → ⊥
+unfolding own ownDone leftBy refusal needs firstUnmet inOrder all each berthInOrder valueAllowed setUpNode berthAt partOf changedSettings
+idle-settings-here o r =
+    idle-again-settings 1 5 (one-more [] (made (change 0 1 5) o) 0 (changes 1 5) r (lit< tt) refl)
+    (λ e. let z : _≡_ {A = ℕ} 5 0 = ap (λ (x : BerthSettings). x .block) e in omega arith)
+
 -- counting only: a first frame of eight bytes came in and go was handed over; the consecutive frame leaves the area as it was
 abbrev afterGo : List Made
-afterGo = madeOf (withNode unset (setUpNode eight)) (frame 0x640 (0x10 ∷ 8 ∷ 1 ∷ 2 ∷ 3 ∷ 4 ∷ 5 ∷ 6 ∷ []) ∷ turn blank ∷ [])
+afterGo = madeOf (withNode unset (setUpNode eight zeroSettings)) (frame 0x640 (0x10 ∷ 8 ∷ 1 ∷ 2 ∷ 3 ∷ 4 ∷ 5 ∷ 6 ∷ []) ∷ turn blank ∷ [])
 
-pub counting-here : (o : Outcome) → AfterSetUp unset eight (setUpNode eight) (afterGo ++ made (frame 0x640 (0x21 ∷ 7 ∷ 8 ∷ [])) o ∷ [])
-    → partOf 0 (o .held) .incoming ≡ partOf 0 (leftBy (withNode unset (setUpNode eight)) afterGo) .incoming → ⊥
+pub counting-here : (o : Outcome) → AfterSetUp unset eight zeroSettings (setUpNode eight zeroSettings) (afterGo ++ made (frame 0x640 (0x21 ∷ 7 ∷ 8 ∷ [])) o ∷ [])
+    → partOf 0 (o .held) .incoming ≡ partOf 0 (leftBy (withNode unset (setUpNode eight zeroSettings)) afterGo) .incoming → ⊥
 unfolding
-    madeOf own ownDone leftBy refusal needs firstUnmet rightStore rightCards inOrder all each settingsAllowed berthInOrder takingInRange inBlock setUpNode berthAt
+    madeOf own ownDone leftBy refusal needs firstUnmet rightStore rightCards inOrder all each berthInOrder takingInRange inBlock setUpNode berthAt
     outcome done afterFrame afterTurn addedAt stored withBerth cameAt frameCame byKind kind low heardBy firstCame firstFits announced shortLength escapeLength begun
     awaitedCame completed consecutiveFits piece share passedOver leastDistance distance due reached servedNode handedAt handOver partOf areaOf
 counting-here o r =

@@ -6,18 +6,20 @@ use mathlib.Core.Path.{_≡_, refl, sym, ap, ap₂, _∙_}
 use mathlib.Core.Bool.{Bool, true, false, _&&_}
 use mathlib.Core.List.{List, [], _∷_, _++_, append-assoc, append-nil, append-cancel-left}
 use lib.ListN.{length, take, drop, length-take}
-use lib.Dec.{T, eqb, ltb, leb}
+use lib.Dec.{T, eqb, ltb}
 use Rattle.rules.specs.Tests.{pick, unless}
-use Rattle.rules.specs.Numbers.{berthCount, singleKind, firstKind, consecutiveKind, firstBytes, consecutiveMost}
+use Rattle.rules.specs.Numbers.{berthCount, singleKind, firstKind, consecutiveKind, firstBytes}
 use Rattle.rules.specs.Nodes.{berthAt, Held, withNode}
 use Rattle.rules.specs.Frames.{kind, low, announced, firstFits, consecutiveFits}
-use Rattle.rules.specs.Arrivals.{Heard, ignored, aboveArea, turnedAway, begun, firstCame, missing, piece, took, awaitedCame, consecutiveCame, Came, heardBy, byKind, frameCame}
-use Rattle.rules.specs.Events.{Call, frame, tick, send, turn, show, senderOf, Event, arrives, ticks, sends, turns}
+use Rattle.rules.specs.Arrivals.{Heard, ignored, aboveArea, turnedAway, begun, firstCame, missing, piece, Came, heardBy, byKind, frameCame}
+use Rattle.rules.specs.Changes.{changedSettings, changed}
+use Rattle.rules.specs.Events.{Call, frame, tick, send, turn, show, change, senderOf, Event, arrives, ticks, sends, turns, changes}
 use Rattle.rules.specs.Stores.{passedOver, reached, cameAt}
 use Rattle.rules.specs.Answers.{refused}
 use Rattle.rules.specs.Refusals.{refusal}
 use Rattle.rules.specs.Alone.{Part, partOf, Says, stateAfter, partAfter, says, alone, saysAll}
 use Rattle.rules.specs.declared.Settings.{Settings}
+use Rattle.rules.specs.declared.BerthSettings.{BerthSettings}
 use Rattle.rules.specs.declared.Taking.{Taking}
 use Rattle.rules.specs.declared.Rx.{Rx}
 use Rattle.rules.specs.declared.Tx.{Tx}
@@ -57,12 +59,12 @@ module _ (k : ℕ) where
   said-more [] m = append-nil _
   said-more (x ∷ ms) m = ap (λ (r : List Says). saysOf k (x .out .answer) ++ r) (said-more ms m) ∙ sym (append-assoc (saysOf k (x .out .answer)) _ _)
 
-module _ {h : Held} {s : Settings} {n : Node} {ms : List Made} {k : ℕ} {p : Part} {e : Event} {m : Made} (r : OneMore h s n ms k p e m) where
+module _ {h : Held} {s : Settings} {set : BerthSettings} {n : Node} {ms : List Made} {k : ℕ} {p : Part} {e : Event} {m : Made} (r : OneMore h s set n ms k p e m) where
   own-now : ownIn k (withNode h n) (ms ++ m ∷ []) ≡ ownIn k (withNode h n) ms ++ (e ∷ [])
   own-now = own-more k (withNode h n) ms m ∙ ap (λ (es : List Event). ownIn k (withNode h n) ms ++ es) (r .its)
 
   -- what the events before it made of the berth
-  part-before : alone s (freshPart h s k) (ownIn k (withNode h n) ms) ≡ p
+  part-before : alone s (freshPart h s set k) (ownIn k (withNode h n) ms) ≡ p
   part-before = sym (r .without k (r .small) .part) ∙ r .given
 
   -- DEMAND 3 OF ONE CALL: the berth's part after it is what its own event makes of it alone,
@@ -110,16 +112,6 @@ module _ (a : ℕ) (six : firstBytes ≤ a) (s t : Settings) where
       (λ u. pick-either Hears (aboveArea s (announced d)) _ _ (λ v. omega arith) (λ v. omega (arith, length-take firstBytes (drop 2 d))))
       (λ u. omega arith)
 
-  -- a consecutive frame stores the same whatever the settings
-  consecutive-within : (rx : Rx) (last : ℕ) (d : List ℕ) → Hears (consecutiveCame t rx last d) → Hears (consecutiveCame s rx last d)
-  unfolding awaitedCame took
-  consecutive-within Rx.Idle last d = λ w. w
-  consecutive-within (Rx.OwesOverflow u) last d = λ w. w
-  consecutive-within (Rx.OwesGo q u) last d = λ w. w
-  consecutive-within (Rx.Awaits q u) last d =
-      pick-both Hears (consecutiveFits (missing q) d)
-      (pick-both Hears (eqb (low d) (q .sn .0)) (pick-both Hears (leb (missing q) consecutiveMost) (λ w. w) (λ w. w)) (λ w. w)) (λ w. w)
-
   -- so bytes that fit under some settings fit under any
   came-within : (b : Berth) (d : List ℕ) → Within a (frameCame t b d .place) (frameCame t b d .bytes) → Within a (frameCame s b d .place) (frameCame s b d .bytes)
   unfolding frameCame byKind heardBy
@@ -127,8 +119,7 @@ module _ (a : ℕ) (six : firstBytes ≤ a) (s t : Settings) where
       let F : Came → Type 0 = λ c. Within a (c .place) (c .bytes) in
       pick-both F (eqb (length d) 0) (λ w. w)
       (pick-both F (eqb (kind d) singleKind) (λ w. w)
-      (pick-both F (eqb (kind d) firstKind) (λ w. first-within (b .rx) (b .last) d)
-      (pick-both F (eqb (kind d) consecutiveKind) (consecutive-within (b .rx) (b .last) d) (λ w. w))))
+      (pick-both F (eqb (kind d) firstKind) (λ w. first-within (b .rx) (b .last) d) (λ w. w)))
 
 -- a call with an event of one kind has none of another
 not-other : (e f : Event) → (e ≡ f → ⊥) → (b : Bool) → pick b (e ∷ []) [] ≡ f ∷ [] → ⊥
@@ -158,6 +149,7 @@ module _ (k : ℕ) (g : Held) where
   own-frame (send j m) d q = absurd (not-other (sends m) (arrives d) (λ e. clash (cc)) (eqb j k) q)
   own-frame (turn buffer) d q = absurd (not-other turns (arrives d) (λ e. clash (cc)) (ltb (passedOver (g .node)) berthCount && eqb (reached (g .node)) k) q)
   own-frame (show j choice) d q = clash (cc)
+  own-frame (change j parameter value) d q = absurd (not-other (changes parameter value) (arrives d) (λ e. clash (cc)) (eqb j k) q)
 
   -- a message of the berth's own was sent to it
   own-send : (c : Call) (v : List ℕ) → ownDone k g c ≡ sends v ∷ [] → c ≡ send k v
@@ -171,6 +163,7 @@ module _ (k : ℕ) (g : Held) where
       go (fails t e) q = let z : [] ≡ sends v ∷ [] = rw t at q in clash (cc)
   own-send (turn buffer) v q = absurd (not-other turns (sends v) (λ e. clash (cc)) (ltb (passedOver (g .node)) berthCount && eqb (reached (g .node)) k) q)
   own-send (show j choice) v q = clash (cc)
+  own-send (change j parameter value) v q = absurd (not-other (changes parameter value) (sends v) (λ e. clash (cc)) (eqb j k) q)
 
   -- so its bytes fit the berth's area, under any settings
   frame-within : (c : Call) (d : List ℕ) (s : Settings) → k < berthCount → own k g c ≡ arrives d ∷ []
@@ -194,15 +187,15 @@ module _ (k : ℕ) (g : Held) where
       let room = area-length (g .node .settings .area) k (g .outgoing) (ok .mine) (ok .store) in
       omega (arith, ok .fits)
 
-module _ {h : Held} {s : Settings} {n : Node} {ms : List Made} {k : ℕ} {p : Part} {m : Made} where
+module _ {h : Held} {s : Settings} {set : BerthSettings} {n : Node} {ms : List Made} {k : ℕ} {p : Part} {m : Made} where
   -- DOING NOTHING, AGAIN: a tick of a berth with a side that is not idle does not leave the berth as it was,
-  pub idle-again-timers : OneMore h s n ms k p ticks m → ((p .berth .rx ≡ Rx.Idle) × (p .berth .tx ≡ Tx.Idle) → ⊥)
+  pub idle-again-timers : OneMore h s set n ms k p ticks m → ((p .berth .rx ≡ Rx.Idle) × (p .berth .tx ≡ Tx.Idle) → ⊥)
       → partOf k (m .out .held) .berth ≡ p .berth → ⊥
   unfolding stateAfter partAfter
   idle-again-timers r busy same = busy (still-idle (p .berth) (sym (ap (λ (q : Part). q .berth) (part-now r)) ∙ same))
 
   -- nor does a frame whose bytes differ from those at their place leave the berth's incoming area,
-  pub idle-again-bytes : (d : List ℕ) → OneMore h s n ms k p (arrives d) m
+  pub idle-again-bytes : (d : List ℕ) → OneMore h s set n ms k p (arrives d) m
       → (take (length (frameCame s (p .berth) d .bytes)) (drop (frameCame s (p .berth) d .place) (p .incoming)) ≡ frameCame s (p .berth) d .bytes → ⊥)
       → partOf k (m .out .held) .incoming ≡ p .incoming → ⊥
   unfolding stateAfter partAfter
@@ -211,15 +204,22 @@ module _ {h : Held} {s : Settings} {n : Node} {ms : List Made} {k : ℕ} {p : Pa
       differ (stood-before (p .incoming) _ _ fits (sym (ap (λ (q : Part). q .incoming) (part-now r)) ∙ same))
 
   -- nor a send whose message differs from the bytes at the front leave the outgoing one
-  pub idle-again-message : (v : List ℕ) → OneMore h s n ms k p (sends v) m → (take (length v) (p .outgoing) ≡ v → ⊥)
+  pub idle-again-message : (v : List ℕ) → OneMore h s set n ms k p (sends v) m → (take (length v) (p .outgoing) ≡ v → ⊥)
       → partOf k (m .out .held) .outgoing ≡ p .outgoing → ⊥
   unfolding stateAfter partAfter
   idle-again-message v r differ same =
       let fits = rw (r .given) at (message-within k (leftBy (withNode h n) ms) (m .call) v (r .its)) in
       differ (stood-before (p .outgoing) 0 v (omega arith) (sym (ap (λ (q : Part). q .outgoing) (part-now r)) ∙ same))
 
+  -- nor a change to another value leave the berth's settings
+  pub idle-again-settings : (parameter value : ℕ) → OneMore h s set n ms k p (changes parameter value) m
+      → (changedSettings (p .berth .settings) parameter value ≡ p .berth .settings → ⊥)
+      → partOf k (m .out .held) .berth .settings ≡ p .berth .settings → ⊥
+  unfolding stateAfter partAfter changed
+  idle-again-settings parameter value r differ same = differ (sym (ap (λ (q : Part). q .berth .settings) (part-now r)) ∙ same)
+
   -- COUNTING, AGAIN: so a right awaited consecutive frame does not leave the area
-  pub counting-again : (d : List ℕ) (q : Taking) (t : ℕ) → OneMore h s n ms k p (arrives d) m
+  pub counting-again : (d : List ℕ) (q : Taking) (t : ℕ) → OneMore h s set n ms k p (arrives d) m
       → p .berth .rx ≡ Rx.Awaits q t → kind d ≡ consecutiveKind → T (consecutiveFits (missing q) d) → low d ≡ q .sn .0
       → (take (length (piece q d)) (drop (q .got) (p .incoming)) ≡ piece q d → ⊥)
       → partOf k (m .out .held) .incoming ≡ p .incoming → ⊥
@@ -229,8 +229,8 @@ module _ {h : Held} {s : Settings} {n : Node} {ms : List Made} {k : ℕ} {p : Pa
 
 -- A FIXED ANSWER, AGAIN: two calls of which the rules say otherwise on the berth alone are not answered the same, and two of which they
 -- leave otherwise do not leave the same area
-module _ {h g : Held} {s t : Settings} {n o : Node} {ms ls : List Made} {k : ℕ} {p q : Part} {e f : Event} {m l : Made}
-    (r : OneMore h s n ms k p e m) (x : OneMore g t o ls k q f l) where
+module _ {h g : Held} {s t : Settings} {set other : BerthSettings} {n o : Node} {ms ls : List Made} {k : ℕ} {p q : Part} {e f : Event} {m l : Made}
+    (r : OneMore h s set n ms k p e m) (x : OneMore g t other o ls k q f l) where
   pub fixed-again : (says s p e ≡ says t q f → ⊥) → m .out .answer ≡ l .out .answer → ⊥
   fixed-again differ same =
       let z : says s p e ∷ [] ≡ says t q f ∷ [] = sym (says-now r) ∙ ap (saysOf k) same ∙ says-now x in
@@ -243,13 +243,13 @@ module _ {h g : Held} {s t : Settings} {n o : Node} {ms ls : List Made} {k : ℕ
 -- ---- the code's calls
 
 -- EVERY CALL OF THE CODE AFTER A SET-UP is such a call, so a chain in which one of the answers above stands is no run
-pub one-more : {h : Held} {s : Settings} {n : Node} (ms : List Made) (m : Made) (k : ℕ) (e : Event) → AfterSetUp h s n (ms ++ m ∷ []) → k < berthCount
-    → own k (leftBy (withNode h n) ms) (m .call) ≡ e ∷ [] → OneMore h s n ms k (partOf k (leftBy (withNode h n) ms)) e m
-one-more {h} {s} {n} ms m k e r l its =
+pub one-more : {h : Held} {s : Settings} {set : BerthSettings} {n : Node} (ms : List Made) (m : Made) (k : ℕ) (e : Event) → AfterSetUp h s set n (ms ++ m ∷ []) → k < berthCount
+    → own k (leftBy (withNode h n) ms) (m .call) ≡ e ∷ [] → OneMore h s set n ms k (partOf k (leftBy (withNode h n) ms)) e m
+one-more {h} {s} {set} {n} ms m k e r l its =
     record {
       small = l;
       given = refl;
       its = its;
-      without = chain-alone-after-set-up h s n ms (record { ready = r .ready; chain = chain-front (withNode h n) ms m (r .chain) });
-      with = chain-alone-after-set-up h s n (ms ++ m ∷ []) r;
+      without = chain-alone-after-set-up h s set n ms (record { ready = r .ready; chain = chain-front (withNode h n) ms m (r .chain) });
+      with = chain-alone-after-set-up h s set n (ms ++ m ∷ []) r;
     }

@@ -5,12 +5,13 @@ use mathlib.Core.Path.{_≡_}
 use mathlib.Core.List.{List, [], _∷_, _++_, map}
 use Rattle.rules.specs.Numbers.{berthCount}
 use Rattle.rules.specs.Nodes.{berthAt, Held, withNode, withIncoming, withOutgoing, withCards}
-use Rattle.rules.specs.Events.{Call, frame, tick, send, turn, show, Event}
-use Rattle.rules.specs.Answers.{Answer, shown, frameSays, tickSays, sendSays, turnSays}
+use Rattle.rules.specs.Events.{Call, frame, tick, send, turn, show, change, Event}
+use Rattle.rules.specs.Answers.{Answer, shown, frameSays, tickSays, sendSays, turnSays, changeSays}
 use Rattle.rules.specs.Calls.{Outcome, outcome}
 use Rattle.rules.specs.Alone.{Part, partOf}
 use Rattle.rules.specs.declared.Choice.{Choice}
 use Rattle.rules.specs.declared.Settings.{Settings}
+use Rattle.rules.specs.declared.BerthSettings.{BerthSettings}
 use Rattle.rules.specs.declared.Node.{Node}
 use Rattle.rules.specs.declared.Card.{Card}
 use Rattle.rules.specs.declared.SetUpAnswer.{SetUpAnswer}
@@ -18,7 +19,8 @@ use Rattle.rules.specs.declared.FrameAnswer.{FrameAnswer}
 use Rattle.rules.specs.declared.TickAnswer.{TickAnswer}
 use Rattle.rules.specs.declared.SendAnswer.{SendAnswer}
 use Rattle.rules.specs.declared.TurnAnswer.{TurnAnswer}
-use Rattle.node.specs.Promises.{left, SetUpPromise, FramePromise, TickPromise, SendPromise, TurnPromise, ShowPromise}
+use Rattle.rules.specs.declared.ChangeAnswer.{ChangeAnswer}
+use Rattle.node.specs.Promises.{left, SetUpPromise, FramePromise, TickPromise, SendPromise, TurnPromise, ShowPromise, ChangePromise}
 use Rattle.laws.specs.Own.{own, saysOf, freshPart, Alone}
 use Rattle.laws.specs.Histories.{Moment, moments}
 use Rattle.laws.specs.Rounds.{DueAt}
@@ -39,6 +41,8 @@ pub data Step (h : Held) : Call → Outcome → Type 0 where
   showStep : (k : ℕ) (choice : Choice) (part : List ℕ) (in-at out-at part-at : ℕ × ℕ)
       → ShowPromise (h .node) (h .incoming) (h .outgoing) k choice part in-at out-at part-at
       → Step h (show k choice) (left (shown part) h [])
+  changeStep : (k parameter value : ℕ) (a : ChangeAnswer) (n : Node) → ChangePromise (h .node) k parameter value a n
+      → Step h (change k parameter value) (left (changeSays a) (withNode h n) [])
 
 -- a call that was made, and what it answered and left
 pub record Made : Type 0 where
@@ -51,8 +55,8 @@ Chain h [] = Unit {0}
 Chain h (m ∷ ms) = Step h (m .call) (m .out) × Chain (m .out .held) ms
 
 -- a set-up that the code answered with Ready, and a chain on the node that it left, the stores and the cards, which it does not touch
-pub record AfterSetUp (h : Held) (s : Settings) (n : Node) (ms : List Made) : Type 0 where
-  pub ready : SetUpPromise (h .node) (s .area) (s .block) (s .stmin) SetUpAnswer.Ready n
+pub record AfterSetUp (h : Held) (s : Settings) (set : BerthSettings) (n : Node) (ms : List Made) : Type 0 where
+  pub ready : SetUpPromise (h .node) (s .area) (set .block) (set .stmin) SetUpAnswer.Ready n
   pub chain : Chain (withNode h n) ms
 
 -- a run of the rules as a chain: the calls of a list, each with the rule's outcome
@@ -90,14 +94,14 @@ historyIn k h (m ∷ ms) =
     moments (berthAt (h .node) k .rx) (own k h (m .call)) (saysOf k (m .out .answer)) ++ historyIn k (m .out .held) ms
 
 -- what demand 3 says of the answers and of what is left after a set-up, of every berth
-abbrev pub EachAlone : Held → Settings → Node → List Made → Type 0
-EachAlone h s n ms =
-    (k : ℕ) → k < berthCount → Alone s (freshPart h s k) k (withNode h n) (ownIn k (withNode h n) ms) (saidBy ms) (leftBy (withNode h n) ms)
+abbrev pub EachAlone : Held → Settings → BerthSettings → Node → List Made → Type 0
+EachAlone h s set n ms =
+    (k : ℕ) → k < berthCount → Alone s (freshPart h s set k) k (withNode h n) (ownIn k (withNode h n) ms) (saidBy ms) (leftBy (withNode h n) ms)
 
 -- a run after a set-up and one call more, which is given berth k's part p and is k's own event e: demand 3 holds with it and without it
-pub record OneMore (h : Held) (s : Settings) (n : Node) (ms : List Made) (k : ℕ) (p : Part) (e : Event) (m : Made) : Type 0 where
+pub record OneMore (h : Held) (s : Settings) (set : BerthSettings) (n : Node) (ms : List Made) (k : ℕ) (p : Part) (e : Event) (m : Made) : Type 0 where
   pub small : k < berthCount
   pub given : partOf k (leftBy (withNode h n) ms) ≡ p
   pub its : own k (leftBy (withNode h n) ms) (m .call) ≡ e ∷ []
-  pub without : EachAlone h s n ms
-  pub with : EachAlone h s n (ms ++ m ∷ [])
+  pub without : EachAlone h s set n ms
+  pub with : EachAlone h s set n (ms ++ m ∷ [])

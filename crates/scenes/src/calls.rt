@@ -114,6 +114,20 @@ pub(crate) fn turn(
     turned(number, node, cards, count, outgoing, &mut buffer[..n])
 }
 
+// The berth and the parameter may be any byte, the value any four.
+pub(crate) fn change(number: u64, node: Node, cards: [Card; 12], record: &[u8; 16]) -> Outcome {
+    let k = judged::two(0, record[1]);
+    let parameter = judged::two(0, record[2]);
+    let came = carumpek::local::change(node, k, parameter, judged::four(record, 3));
+    let answer = came.answer;
+    let after = came.node;
+    Outcome {
+        text: text::answers::change(number, answer),
+        node: after,
+        cards: cards,
+    }
+}
+
 fn set_up_text(number: u64, answer: SetUpAnswer) -> Text {
     match answer {
         SetUpAnswer::Refused(n) => text::answers::refused(number, n),

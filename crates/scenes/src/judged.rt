@@ -69,6 +69,8 @@ pub(crate) fn is_good(record: &[u8; 16]) -> bool {
         14 => fits(record, 9, 8, 7),
         15 => fits(record, 9, 0, 2),
         16 => fits(record, 12, 0, 2),
+        17 => fits(record, 9, 255, 4),
+        18 => fits(record, 255, 255, 7),
         _ => false,
     }
 }

@@ -1,8 +1,10 @@
 // The records that load a state, which the node may not be able to reach by its calls, and counts of cards.
+ghost use Prim.Native.Nat.{_<_};
 use crate::calls::Outcome;
 use crate::judged;
 use crate::sides;
 use rules::Berth;
+use rules::BerthSettings;
 use rules::Card;
 use rules::Node;
 use rules::Settings;
@@ -32,14 +34,43 @@ pub(crate) fn side(number: u64, node: Node, cards: [Card; 12], record: &[u8; 16]
     loaded(number, after, cards)
 }
 
-// The node's own.
+// A berth's settings, BS from a place of the record on and STmin behind it.
+fn own_settings(record: &[u8; 16], at: usize) -> BerthSettings
+    requires { ⌜ at < 15 ⌝ }
+{
+    BerthSettings {
+        block: record[at],
+        stmin: record[at + 1],
+    }
+}
+
+// One berth's settings.
+pub(crate) fn settings(number: u64, node: Node, cards: [Card; 12], record: &[u8; 16]) -> Outcome {
+    let k = (record[1] % 10) as usize;
+    let old = node.berths[k];
+    let mut after = node;
+    after.berths[k] = old.with_settings(own_settings(record, 2));
+    loaded(number, after, cards)
+}
+
+// All ten berths with these settings.
+fn all_with(node: Node, own: BerthSettings) -> Node {
+    let mut after = node;
+    let mut i: usize = 0;
+    while i < 10 {
+        let old = after.berths[i];
+        after.berths[i] = old.with_settings(own);
+        i += 1;
+    }
+    after
+}
+
+// The node's own: A and the berth served last; and settings for all ten berths.
 pub(crate) fn own(number: u64, node: Node, cards: [Card; 12], record: &[u8; 16]) -> Outcome {
     let settings = Settings {
         area: judged::two(record[2], record[3]),
-        block: record[4],
-        stmin: record[5],
     };
-    let mut after = node;
+    let mut after = all_with(node, own_settings(record, 4));
     after.settings = settings;
     after.served = record[1];
     loaded(number, after, cards)

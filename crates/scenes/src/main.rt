@@ -65,6 +65,8 @@ fn answered(
         12 => calls::set_up(number, node, cards, record, 1),
         14 => loads::count(number, node, cards, record),
         16 => loads::loaded(number, node, cards),
+        17 => loads::settings(number, node, cards, record),
+        18 => calls::change(number, node, cards, record),
         _ => Outcome {
             text: looks::text(number, node, cards, record),
             node: node,

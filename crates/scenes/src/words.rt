@@ -64,21 +64,19 @@ fn send_side(text: Text, tx: Tx) -> Text {
     }
 }
 
-// The number of each side's state and the fields that it carries, and between them the length of the last message arrived.
+// BS and STmin, then the number of each side's state and the fields that it carries, and between them the length of the last message
+// arrived.
 pub(crate) fn state(number: u64, berth: Berth) -> Text {
+    let own = berth.settings;
     let rx = berth.rx;
     let tx = berth.tx;
-    let text = receive_side(text::answers::numbered(number).put_all(b"state"), rx);
+    let named = text::answers::numbered(number).put_all(b"state set");
+    let text = receive_side(numbers(named, &[own.block as u64, own.stmin as u64]), rx);
     send_side(numbers(text.put_all(b" last"), &[berth.last as u64]), tx).put(b'\n')
 }
 
 pub(crate) fn own(number: u64, settings: Settings, served: u8) -> Text {
-    let list = [
-        settings.area as u64,
-        settings.block as u64,
-        settings.stmin as u64,
-        served as u64,
-    ];
+    let list = [settings.area as u64, served as u64];
     numbers(text::answers::numbered(number).put_all(b"node"), &list).put(b'\n')
 }
 

@@ -17,6 +17,7 @@ use Rattle.rules.specs.Events.{frame, senderOf}
 use Rattle.rules.specs.Refusals.{refusal}
 use Rattle.rules.specs.Calls.{done, afterFrame, reply, written}
 use Rattle.rules.specs.declared.Settings.{Settings}
+use Rattle.rules.specs.declared.BerthSettings.{BerthSettings}
 use Rattle.rules.specs.declared.Rx.{Rx}
 use Rattle.rules.specs.declared.Tx.{Tx}
 use Rattle.rules.specs.declared.Node.{Node}
@@ -78,24 +79,25 @@ pub counted : (r : Heard) (d : List ℕ) → r .from + r .count ≤ length d →
 counted r d within = simp (length-take, length-drop) (omega arith)
 
 -- what may be counted on
-pub record Hearable (s : Settings) (at : ℕ) (rx : Rx) (last : ℕ) (incoming : List ℕ) : Type 0 where
+pub record Hearable (s : Settings) (own : BerthSettings) (at : ℕ) (rx : Rx) (last : ℕ) (incoming : List ℕ) : Type 0 where
   pub mine : at < berthCount
-  pub range : RxRange s last rx
+  pub range : RxRange s (own .block) last rx
   pub store : length incoming ≡ berthCount * s .area
 
-module _ {n : Node} {cards : List Card} {id : ℕ} {s : Settings} {at : ℕ} {rx : Rx} {last : ℕ} {incoming d : List ℕ}
-    (h : Hearing n cards id s at rx last incoming d) where
-  pub hearable : Hearable s at rx last incoming
+module _ {n : Node} {cards : List Card} {id : ℕ} {s : Settings} {set : BerthSettings} {at : ℕ} {rx : Rx} {last : ℕ} {incoming d : List ℕ}
+    (h : Hearing n cards id s set at rx last incoming d) where
+  pub hearable : Hearable s set at rx last incoming
   hearable =
       let m = may-count (h .arriving) in
-      rw (h .side, h .length, h .settings, h .arriving .place)
+      rw (h .side, h .length, h .own-settings, h .settings, h .arriving .place)
       (record { mine = m .mine; range = in-order-range n (m .order) .berth (senderOf id) (m .mine) .receive; store = m .store })
 
   -- at the rule's own berth
-  own : rxCame s rx last d ≡ rxCame (n .settings) (berthAt n (senderOf id) .rx) (berthAt n (senderOf id) .last) d
-  own = rw (h .side, h .length, h .settings, h .arriving .place)
+  own : rxCame s (set .block) rx last d
+      ≡ rxCame (n .settings) (berthAt n (senderOf id) .settings .block) (berthAt n (senderOf id) .rx) (berthAt n (senderOf id) .last) d
+  own = rw (h .side, h .length, h .own-settings, h .settings, h .arriving .place)
 
-  module _ (r : Heard) (e : Hears r d (rxCame s rx last d)) where
+  module _ (r : Heard) (e : Hears r d (rxCame s (set .block) rx last d)) where
     is : frameCame (n .settings) (berthAt n (senderOf id)) d ≡ heardBy (berthAt n (senderOf id)) (asHeard r d)
     is = came-heard (n .settings) (berthAt n (senderOf id)) d (h .kind) ∙ ap (heardBy (berthAt n (senderOf id))) (sym (e .same ∙ own))
 

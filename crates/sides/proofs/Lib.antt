@@ -4,3 +4,4 @@ pub mod Ignoring
 pub mod Sending
 pub mod Turning
 pub mod Showing
+pub mod Changing

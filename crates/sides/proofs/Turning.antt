@@ -19,6 +19,7 @@ use Rattle.rules.specs.Answers.{turnSays}
 use Rattle.rules.specs.Events.{turn}
 use Rattle.rules.specs.Calls.{afterTurn, done, reply, written}
 use Rattle.rules.specs.declared.Settings.{Settings}
+use Rattle.rules.specs.declared.BerthSettings.{BerthSettings}
 use Rattle.rules.specs.declared.Rx.{Rx}
 use Rattle.rules.specs.declared.Tx.{Tx}
 use Rattle.rules.specs.declared.Node.{Node}
@@ -65,7 +66,7 @@ module _ {n : Node} {cards : List Card} {s : Settings} {at passed : ℕ} {outgoi
       })
 
   -- what the berth hands over, with the frame at the front of the buffer
-  hands : (h : HandedOver) → handOver s (berthAt n at) (areaOf (s .area) at outgoing) ≡ h → length (h .frame) ≡ frameSize
+  hands : (h : HandedOver) → handOver (berthAt n at) (areaOf (s .area) at outgoing) ≡ h → length (h .frame) ≡ frameSize
       → (a : TurnAnswer) → a ≡ TurnAnswer.HandedOver (toBerth + at) (h .code) passed
       → TurnPromise n cards outgoing buffer a (servedNode n at (h .berth)) (addedAt cards at (turnAdds (h .code))) (h .frame ++ drop frameSize buffer)
   unfolding turnSays afterTurn done reply written handedAt
@@ -75,15 +76,15 @@ module _ {n : Node} {cards : List Card} {s : Settings} {at passed : ℕ} {outgoi
       (simp (is, ← t .place, ← t .counted, lt-ltb _ _ (t .some), own, take-at (h .frame) (drop frameSize buffer) frameSize eight))
 
   -- flow control, where it is owed
-  module _ (rx : Rx) (owed : flowDue rx ≡ true) (side : rx ≡ berthAt n at .rx) where
-    pub flow-hands : (rx′ : Rx) → rx′ ≡ afterFlow rx → (frame : List ℕ) → frame ≡ flowFrame s rx → length frame ≡ frameSize
+  module _ (own : BerthSettings) (rx : Rx) (owed : flowDue rx ≡ true) (its : own ≡ berthAt n at .settings) (side : rx ≡ berthAt n at .rx) where
+    pub flow-hands : (rx′ : Rx) → rx′ ≡ afterFlow rx → (frame : List ℕ) → frame ≡ flowFrame own rx → length frame ≡ frameSize
         → (a : TurnAnswer) → a ≡ TurnAnswer.HandedOver (toBerth + at) 0 passed
         → TurnPromise n cards outgoing buffer a (servedNode n at (withRx (berthAt n at) rx′ (berthAt n at .last))) cards (frame ++ drop frameSize buffer)
     unfolding handOver
     flow-hands rx′ after frame laid eight a is =
         let b = berthAt n at in
         rw (no-code-adds cards at) at
-        (hands (record { berth = withRx b rx′ (b .last); frame = frame; code = 0 }) (rw (rw side at owed, after, laid, side)) eight a is)
+        (hands (record { berth = withRx b rx′ (b .last); frame = frame; code = 0 }) (rw (rw side at owed, after, laid, side, its)) eight a is)
 
   -- a frame of the message, where no flow control is owed
   module _ (tx : Tx) (none : flowDue (berthAt n at .rx) ≡ false) (side : tx ≡ berthAt n at .tx) where

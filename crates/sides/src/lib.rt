@@ -5,10 +5,11 @@ ghost use mathlib.Core.Bool.{true, false};
 ghost use mathlib.Core.List.{List};
 ghost use Prim.Native.Nat.{ℕ, _+_, _*_, _≤_, _<_};
 ghost use Rattle.rules.specs.Numbers.{berthCount, toBerth};
-ghost use Rattle.rules.specs.Nodes.{berthAt, withRx, withTx, withBerth};
+ghost use Rattle.rules.specs.Nodes.{berthAt, withSettings, withRx, withTx, withBerth};
 ghost use Rattle.rules.specs.Turns.{flowDue, lengthSending};
 ghost use Rattle.rules.specs.Stores.{servedNode};
 ghost use Rattle.rules.specs.Calls.{chosen};
+ghost use Rattle.rules.specs.declared.Settings.{Settings};
 ghost use Rattle.rules.specs.declared.Node.{Node};
 ghost use Rattle.rules.specs.declared.Card.{Card};
 ghost use Rattle.rules.specs.Cards.{addedAt, turnAdds};
@@ -16,8 +17,10 @@ ghost use Rattle.cards.specs.Counting.{answerAdded};
 ghost use Rattle.rules.specs.declared.TurnAnswer.{TurnAnswer};
 ghost use Rattle.rules.specs.Answers.{heard, frameSays};
 ghost use Rattle.rules.specs.declared.Word.the-variants.{Ignored};
-ghost use Rattle.node.specs.Promises.{FramePromise, SendPromise, TurnPromise, ShowPromise};
-ghost use Rattle.sides.specs.Parts.{Telling, Hearing, Sends, Turning, Showing};
+ghost use Rattle.node.specs.Promises.{FramePromise, SendPromise, TurnPromise, ShowPromise, ChangePromise};
+ghost use Rattle.sides.specs.Parts.{Telling, Hearing, Sends, Turning, Showing, Changing};
+use rules::BerthSettings;
+use rules::ChangeAnswer;
 use rules::Choice;
 use rules::FrameAnswer;
 use rules::Rx;
@@ -45,16 +48,17 @@ pub struct HeardAt {
 // A frame that is no flow control. That its bytes end inside the area is a fact of the ranges, so it is not tested.
 pub fn heard(
     settings: Settings,
+    own: BerthSettings,
     at: usize,
     rx: Rx,
     last: u32,
     incoming: &mut [u8],
     payload: &[u8],
 ) -> HeardAt
-    requires { ⌜ ((n : Node) × ((cards : List Card) × ((id : ℕ) × Hearing n cards id settings at rx last (now incoming) (now payload)))) ⌝ }
-    ensures { λ r. ⌜ ((n : Node) (cards : List Card) (id : ℕ) → Hearing n cards id settings at rx last (now (incoming .entry)) (now (payload .entry)) → FramePromise n cards (now (incoming .entry)) id (now (payload .entry)) (r .answer) (withBerth n at (withRx (berthAt n at) (r .rx) (r .last))) (answerAdded cards at (now (payload .entry)) (r .answer)) (now (incoming .exit))) ⌝ }
+    requires { ⌜ ((n : Node) × ((cards : List Card) × ((id : ℕ) × Hearing n cards id settings own at rx last (now incoming) (now payload)))) ⌝ }
+    ensures { λ r. ⌜ ((n : Node) (cards : List Card) (id : ℕ) → Hearing n cards id settings own at rx last (now (incoming .entry)) (now (payload .entry)) → FramePromise n cards (now (incoming .entry)) id (now (payload .entry)) (r .answer) (withBerth n at (withRx (berthAt n at) (r .rx) (r .last))) (answerAdded cards at (now (payload .entry)) (r .answer)) (now (incoming .exit))) ⌝ }
 {
-    let came = arrivals::rx_came(settings, rx, last, payload);
+    let came = arrivals::rx_came(settings, own.block, rx, last, payload);
     let lo = area_start(at, settings.area);
     let hi = lo + settings.area as usize;
     arrivals::areas::keep(
@@ -151,16 +155,16 @@ pub struct FlowHanded {
 }
 
 pub fn flow_handed(
-    settings: Settings,
+    own: BerthSettings,
     at: usize,
     rx: Rx,
     passed: u8,
     buffer: &mut [u8],
 ) -> FlowHanded
-    requires { ⌜ (flowDue rx ≡ true) × ((n : Node) × ((cards : List Card) × ((outgoing : List ℕ) × Turning n cards settings at passed outgoing (now buffer)))) ⌝ }
-    ensures { λ r. ⌜ ((n : Node) (cards : List Card) (outgoing : List ℕ) → rx ≡ berthAt n at .rx → Turning n cards settings at passed outgoing (now (buffer .entry)) → TurnPromise n cards outgoing (now (buffer .entry)) (r .answer) (servedNode n at (withRx (berthAt n at) (r .rx) (berthAt n at .last))) cards (now (buffer .exit))) ⌝ }
+    requires { ⌜ (flowDue rx ≡ true) × ((n : Node) × ((cards : List Card) × ((s : Settings) × ((outgoing : List ℕ) × Turning n cards s at passed outgoing (now buffer))))) ⌝ }
+    ensures { λ r. ⌜ ((n : Node) (cards : List Card) (s : Settings) (outgoing : List ℕ) → own ≡ berthAt n at .settings → rx ≡ berthAt n at .rx → Turning n cards s at passed outgoing (now (buffer .entry)) → TurnPromise n cards outgoing (now (buffer .entry)) (r .answer) (servedNode n at (withRx (berthAt n at) (r .rx) (berthAt n at .last))) cards (now (buffer .exit))) ⌝ }
 {
-    berth::turns::flow_frame(settings, rx, &mut buffer[..8]);
+    berth::turns::flow_frame(own, rx, &mut buffer[..8]);
     let after = berth::turns::after_flow(rx);
     FlowHanded {
         rx: after,
@@ -233,4 +237,21 @@ pub fn shown<'a>(
         }
     }
     &incoming[..0]
+}
+
+// What a change leaves of a berth's own settings, and the answer.
+pub struct ChangedAt {
+    pub own: BerthSettings,
+    pub answer: ChangeAnswer,
+}
+
+pub fn changed(own: BerthSettings, at: usize, parameter: u32, value: u32) -> ChangedAt
+    requires { ⌜ ((n : Node) × Changing n own at parameter value) ⌝ }
+    ensures { λ r. ⌜ ((n : Node) → Changing n own at parameter value → ChangePromise n at parameter value (r .answer) (withBerth n at (withSettings (berthAt n at) (r .own)))) ⌝ }
+{
+    let changed = berth::changes::changed_settings(own, parameter, value);
+    ChangedAt {
+        own: changed,
+        answer: ChangeAnswer::Changed(at as u8),
+    }
 }

@@ -8,7 +8,7 @@ use mathlib.Core.List.{List, [], _∷_, _++_}
 use lib.ListN.{length, length-append}
 use lib.Dec.{eqb}
 use Rattle.rules.specs.Tests.{pick}
-use Rattle.rules.specs.Answers.{Answer, refused, ready, heard, codes, sent, handed, none, shown}
+use Rattle.rules.specs.Answers.{Answer, refused, ready, heard, codes, sent, handed, none, shown, changed}
 use Rattle.rules.specs.declared.Word.{Word}
 use Rattle.rules.specs.declared.Word.the-variants.{Delivered, Begun, Failed, Ignored, TooLong, Took, Going, Waiting}
 use Rattle.rules.specs.declared.Codes.{Codes}
@@ -62,6 +62,7 @@ Short (sent k) = Unit {0}
 Short (handed id frame code passed) = length frame ≤ 8
 Short (none passed) = Unit {0}
 Short (shown part) = ⊥
+Short (changed k) = Unit {0}
 
 words-length : (a : Answer) → Short a → length (wordsOf a) ≤ 106
 unfolding wordsOf idText hexText
@@ -75,6 +76,7 @@ words-length (handed id frame code passed) s =
     simp (length-append, hex-length) (omega (arith, decimal-length 3 code, decimal-length 3 passed))
 words-length (none passed) s = omega arith
 words-length (shown part) s = absurd s
+words-length (changed k) s = omega (arith, decimal-length 3 k)
 
 pub text-whole : (n : ℕ) (words : List ℕ) → length words ≤ 170 → clipped (numberedText n words) ≡ numberedText n words
 unfolding numberedText

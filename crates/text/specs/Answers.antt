@@ -5,7 +5,7 @@ use mathlib.Core.List.{List, [], _∷_, _++_}
 use lib.ListN.{length}
 use lib.Dec.{eqb}
 use Rattle.rules.specs.Tests.{pick}
-use Rattle.rules.specs.Answers.{Answer, refused, ready, heard, codes, sent, handed, none, shown}
+use Rattle.rules.specs.Answers.{Answer, refused, ready, heard, codes, sent, handed, none, shown, changed}
 use Rattle.rules.specs.declared.Word.{Word}
 use Rattle.rules.specs.declared.Word.the-variants.{Delivered, Begun, Failed, Ignored, TooLong, Took, Going, Waiting}
 use Rattle.rules.specs.declared.Codes.{Codes}
@@ -89,12 +89,15 @@ badWord = 98 ∷ 97 ∷ 100 ∷ []
 abbrev pub shortWord : List ℕ
 shortWord = 115 ∷ 104 ∷ 111 ∷ 114 ∷ 116 ∷ []
 
--- set-up and show have no line in the paper; these are the words of the scenes: "setup", "show"
+-- set-up, show and change have no line in the paper; these are the words of the scenes: "setup", "show", "changed "
 abbrev pub setupWord : List ℕ
 setupWord = 115 ∷ 101 ∷ 116 ∷ 117 ∷ 112 ∷ []
 
 abbrev pub showWord : List ℕ
 showWord = 115 ∷ 104 ∷ 111 ∷ 119 ∷ []
+
+abbrev pub changedWord : List ℕ
+changedWord = 99 ∷ 104 ∷ 97 ∷ 110 ∷ 103 ∷ 101 ∷ 100 ∷ 32 ∷ []
 
 abbrev pub space : ℕ
 space = 32
@@ -141,6 +144,7 @@ wordsOf (handed id frame code passed) =
     frameWord ++ (idText id ++ (space ∷ (hexText frame ++ (passedWord ++ (decimal smallPlaces passed ++ (codeWord ++ decimal smallPlaces code))))))
 wordsOf (none passed) = noneWord
 wordsOf (shown part) = pick (eqb (length part) 0) showWord (showWord ++ (space ∷ hexText part))
+wordsOf (changed k) = changedWord ++ decimal smallPlaces k
 
 -- the record's number, a space, the words, LF
 unfoldable pub numberedText : ℕ → List ℕ → List ℕ

@@ -3,10 +3,11 @@ ghost use mathlib.Core.Path.{_≡_};
 ghost use mathlib.Core.List.{[], _∷_, _++_};
 ghost use lib.ListN.{take};
 ghost use Rattle.rules.specs.Numbers.{frameSize};
-ghost use Rattle.rules.specs.Answers.{refused as Answers·refused, frameSays, tickSays, sendSays, turnSays};
+ghost use Rattle.rules.specs.Answers.{refused as Answers·refused, frameSays, tickSays, sendSays, turnSays, changeSays};
 ghost use Rattle.text.specs.Building.{textOf, clipped, decimal, numberPlaces, hexText};
 ghost use Rattle.text.specs.Answers.{space, idText, wordText, codeText, codesText, answerText, badText, shortText};
 use crate::building::Text;
+use rules::ChangeAnswer;
 use rules::Codes;
 use rules::FrameAnswer;
 use rules::SendAnswer;
@@ -123,6 +124,20 @@ pub fn send(number: u64, answer: SendAnswer) -> Text
     match answer {
         SendAnswer::Refused(n) => refused(number, n),
         SendAnswer::Sent(berth) => numbered(number).put_all(b"sent ").small(berth).put(b'\n'),
+    }
+}
+
+pub fn change(number: u64, answer: ChangeAnswer) -> Text
+    ensures { λ r. ⌜ textOf r ≡ answerText number (changeSays answer) ⌝ }
+{
+    match answer {
+        ChangeAnswer::Refused(n) => refused(number, n),
+        ChangeAnswer::Changed(berth) => {
+            numbered(number)
+                .put_all(b"changed ")
+                .small(berth)
+                .put(b'\n')
+        }
     }
 }
 

@@ -9,7 +9,7 @@ enum-known-rx : tie.Need-enum-known-rx
 enum-known-rx c = search needs
 
 awaited-came-requires : tie.Need-awaited-came-requires
-awaited-came-requires c κs = (search needs, (rw (c .before .rx .given .1) at (c .before .before .before .before .pre .1)) .1)
+awaited-came-requires c κs = (search needs, (c .before .before .before .before .pre .1 .0, (rw (c .before .rx .given .1) at (c .before .before .before .before .pre .1 .1)) .1))
 
 ignored-requires : tie.Need-ignored-requires
 ignored-requires c κs = search needs

@@ -10,7 +10,7 @@ enum-known-rx : tie.Need-enum-known-rx
 enum-known-rx c = search needs
 
 missing-requires : tie.Need-missing-requires
-missing-requires c κs = (rw (c .before .rx .given .1) at (c .before .before .before .before .pre .1 .1)) .1 .got-most
+missing-requires c κs = (rw (c .before .rx .given .1) at (c .before .before .before .before .pre .1 .1 .1)) .1 .got-most
 
 consecutive-fits-requires : tie.Need-consecutive-fits-requires
 consecutive-fits-requires c κs = search needs

@@ -206,9 +206,9 @@ module _ {M : Type 1} (𝓤 : URA M) (H : Heap 𝓤) (A : Atoms 𝓤) (W : Given
         drop ! $
         -- let tx = node.berths[at].tx;
         assigns ! (bin ! (load ! (from ! (stop !)) (look ! 30 refl)) (lit ! tt) (record { fits = bytes-fit j· (placed k ej) })) (from ! (stop !)) (init ! 20 refl (tt, record { fits = bytes-fit j· (placed k ej) })) $
-        assigns ! (addr ! (from ! (hop ! (look ! 44 refl) (fld ! {τ = tyArray B′.mir 10} {d = 12} refl (stop !))))) (from ! (stop !)) (init ! 18 refl (tt, tt)) $
-        assigns ! (bin ! (load ! (from ! (stop !)) (look ! 18 refl)) (load ! (from ! (stop !)) (look ! 20 refl)) tt) (from ! (stop !)) (init ! 16 refl (tt, tt)) $ rewrite ! 16 (λ (m : ℕ). ‵ (fat fullShare tyPtr l₁₅ 0 (vptr b m))) (sym (place-is 48 (o + 12) j·)) refl $
-        assigns ! (of-opd ! (load ! (from ! (hop ! (look ! 16 refl) (fld ! {τ = X′.mir} {d = 24} refl (stop !)))) (look-in ! 0 (sub ! 2 {τ = X′.mir} {d = 24} refl (item ! (us (h .berths)) j· (FB .val fresh) (us-within h was j· (placed k ej)) (us-length h was) (us-at (h .berths) j· ∙ see-parts (getD (h .berths) j· fresh)) (sub ! 2 {τ = tyArray B′.mir 10} {d = 12} refl (whole !))))))) (from ! (stop !)) (init ! 28 refl (FX .lawful 𝓤 H A W .typed ((getD (h .berths) j· fresh) .tx) _ (LL.owed B.the-type B′.the-laws (getD (h .berths) j· fresh) _ (berth-is h was j· (placed k ej)) .1 .1 .0) .0)) $
+        assigns ! (addr ! (from ! (hop ! (look ! 44 refl) (fld ! {τ = tyArray B′.mir 10} {d = 8} refl (stop !))))) (from ! (stop !)) (init ! 18 refl (tt, tt)) $
+        assigns ! (bin ! (load ! (from ! (stop !)) (look ! 18 refl)) (load ! (from ! (stop !)) (look ! 20 refl)) tt) (from ! (stop !)) (init ! 16 refl (tt, tt)) $ rewrite ! 16 (λ (m : ℕ). ‵ (fat fullShare tyPtr l₁₅ 0 (vptr b m))) (sym (place-is 52 (o + 8) j·)) refl $
+        assigns ! (of-opd ! (load ! (from ! (hop ! (look ! 16 refl) (fld ! {τ = X′.mir} {d = 24} refl (stop !)))) (look-in ! 0 (sub ! 2 {τ = X′.mir} {d = 24} refl (item ! (us (h .berths)) j· (FB .val fresh) (us-within h was j· (placed k ej)) (us-length h was) (us-at (h .berths) j· ∙ see-parts (getD (h .berths) j· fresh)) (sub ! 2 {τ = tyArray B′.mir 10} {d = 8} refl (whole !))))))) (from ! (stop !)) (init ! 28 refl (FX .lawful 𝓤 H A W .typed ((getD (h .berths) j· fresh) .tx) _ (LL.owed B.the-type B′.the-laws (getD (h .berths) j· fresh) _ (berth-is h was j· (placed k ej)) .1 .1 .0) .0)) $
         -- let number = node::refusals::send(ordered, area, tx, outgoing.len(), berth, message.len());
         assigns ! (of-opd ! (load ! (from ! (fld ! refl (stop !))) (look-in ! 42 (sub ! 1 refl (whole !))))) (from ! (stop !)) (store ! 20 refl ((uint w64) .lawful 𝓤 H A W .typed (length (outgoing .now)) _ (refl, outgoing-is .0 .1 .0) .0)) $
         assigns ! (of-opd ! (load ! (from ! (fld ! refl (stop !))) (look-in ! 38 (sub ! 1 refl (whole !))))) (from ! (stop !)) (init ! 14 refl ((uint w64) .lawful 𝓤 H A W .typed (length (message .now)) _ (refl, message-is .0 .1 .0) .0)) $

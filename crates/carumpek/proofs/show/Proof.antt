@@ -180,14 +180,14 @@ module _ {M : Type 1} (𝓤 : URA M) (H : Heap 𝓤) (A : Atoms 𝓤) (W : Given
         drop ! $
         -- let last = node.berths[at].last;
         assigns ! (bin ! (load ! (from ! (stop !)) (look ! 17 refl)) (lit ! tt) (record { fits = bytes-fit slot (slot-within slot k slot-said) })) (from ! (stop !)) (init ! 11 refl (tt, record { fits = bytes-fit slot (slot-within slot k slot-said) })) $
-        assigns ! (addr ! (from ! (hop ! (look ! 33 refl) (fld ! {τ = tyArray B′.mir 10} {d = 12} refl (stop !))))) (from ! (stop !)) (init ! 9 refl (tt, tt)) $
-        assigns ! (bin ! (load ! (from ! (stop !)) (look ! 9 refl)) (load ! (from ! (stop !)) (look ! 11 refl)) tt) (from ! (stop !)) (init ! 7 refl (tt, tt)) $ rewrite ! 7 (λ (m : ℕ). ‵ (fat fullShare tyPtr l₁₄ 0 (vptr b m))) (sym (place-is 48 (o + 12) slot)) refl $
-        assigns ! (of-opd ! (load ! (from ! (hop ! (look ! 7 refl) (fld ! {τ = tyInt w32} {d = 20} refl (stop !)))) (look-in ! 0 (sub ! 1 {τ = tyInt w32} {d = 20} refl (item ! (us (h .berths)) slot (FB .val fresh) (us-within h was slot (slot-within slot k slot-said)) (us-length h was) (us-at (h .berths) slot ∙ see-parts (getD (h .berths) slot fresh)) (sub ! 2 {τ = tyArray B′.mir 10} {d = 12} refl (whole !))))))) (from ! (stop !)) (init ! 15 refl ((uint w32) .lawful 𝓤 H A W .typed ((getD (h .berths) slot fresh) .last) _ (LL.owed B.the-type B′.the-laws (getD (h .berths) slot fresh) _ (berth-is h was slot (slot-within slot k slot-said)) .1 .0) .0)) $
+        assigns ! (addr ! (from ! (hop ! (look ! 33 refl) (fld ! {τ = tyArray B′.mir 10} {d = 8} refl (stop !))))) (from ! (stop !)) (init ! 9 refl (tt, tt)) $
+        assigns ! (bin ! (load ! (from ! (stop !)) (look ! 9 refl)) (load ! (from ! (stop !)) (look ! 11 refl)) tt) (from ! (stop !)) (init ! 7 refl (tt, tt)) $ rewrite ! 7 (λ (m : ℕ). ‵ (fat fullShare tyPtr l₁₄ 0 (vptr b m))) (sym (place-is 52 (o + 8) slot)) refl $
+        assigns ! (of-opd ! (load ! (from ! (hop ! (look ! 7 refl) (fld ! {τ = tyInt w32} {d = 20} refl (stop !)))) (look-in ! 0 (sub ! 1 {τ = tyInt w32} {d = 20} refl (item ! (us (h .berths)) slot (FB .val fresh) (us-within h was slot (slot-within slot k slot-said)) (us-length h was) (us-at (h .berths) slot ∙ see-parts (getD (h .berths) slot fresh)) (sub ! 2 {τ = tyArray B′.mir 10} {d = 8} refl (whole !))))))) (from ! (stop !)) (init ! 15 refl ((uint w32) .lawful 𝓤 H A W .typed ((getD (h .berths) slot fresh) .last) _ (LL.owed B.the-type B′.the-laws (getD (h .berths) slot fresh) _ (berth-is h was slot (slot-within slot k slot-said)) .1 .0) .0)) $
         -- let tx = node.berths[at].tx;
         assigns ! (bin ! (load ! (from ! (stop !)) (look ! 17 refl)) (lit ! tt) (record { fits = bytes-fit slot (slot-within slot k slot-said) })) (from ! (stop !)) (store ! 11 refl (tt, record { fits = bytes-fit slot (slot-within slot k slot-said) })) $
-        assigns ! (addr ! (from ! (hop ! (look ! 33 refl) (fld ! {τ = tyArray B′.mir 10} {d = 12} refl (stop !))))) (from ! (stop !)) (init ! 5 refl (tt, tt)) $
-        assigns ! (bin ! (load ! (from ! (stop !)) (look ! 5 refl)) (load ! (from ! (stop !)) (look ! 11 refl)) tt) (from ! (stop !)) (init ! 3 refl (tt, tt)) $ rewrite ! 3 (λ (m : ℕ). ‵ (fat fullShare tyPtr l₁₆ 0 (vptr b m))) (sym (place-is 48 (o + 12) slot)) refl $
-        assigns ! (of-opd ! (load ! (from ! (hop ! (look ! 3 refl) (fld ! {τ = X′.mir} {d = 24} refl (stop !)))) (look-in ! 0 (sub ! 2 {τ = X′.mir} {d = 24} refl (item ! (us (h .berths)) slot (FB .val fresh) (us-within h was slot (slot-within slot k slot-said)) (us-length h was) (us-at (h .berths) slot ∙ see-parts (getD (h .berths) slot fresh)) (sub ! 2 {τ = tyArray B′.mir 10} {d = 12} refl (whole !))))))) (from ! (stop !)) (init ! 13 refl (FX .lawful 𝓤 H A W .typed ((getD (h .berths) slot fresh) .tx) _ (LL.owed B.the-type B′.the-laws (getD (h .berths) slot fresh) _ (berth-is h was slot (slot-within slot k slot-said)) .1 .1 .0) .0)) $
+        assigns ! (addr ! (from ! (hop ! (look ! 33 refl) (fld ! {τ = tyArray B′.mir 10} {d = 8} refl (stop !))))) (from ! (stop !)) (init ! 5 refl (tt, tt)) $
+        assigns ! (bin ! (load ! (from ! (stop !)) (look ! 5 refl)) (load ! (from ! (stop !)) (look ! 11 refl)) tt) (from ! (stop !)) (init ! 3 refl (tt, tt)) $ rewrite ! 3 (λ (m : ℕ). ‵ (fat fullShare tyPtr l₁₆ 0 (vptr b m))) (sym (place-is 52 (o + 8) slot)) refl $
+        assigns ! (of-opd ! (load ! (from ! (hop ! (look ! 3 refl) (fld ! {τ = X′.mir} {d = 24} refl (stop !)))) (look-in ! 0 (sub ! 2 {τ = X′.mir} {d = 24} refl (item ! (us (h .berths)) slot (FB .val fresh) (us-within h was slot (slot-within slot k slot-said)) (us-length h was) (us-at (h .berths) slot ∙ see-parts (getD (h .berths) slot fresh)) (sub ! 2 {τ = tyArray B′.mir 10} {d = 8} refl (whole !))))))) (from ! (stop !)) (init ! 13 refl (FX .lawful 𝓤 H A W .typed ((getD (h .berths) slot fresh) .tx) _ (LL.owed B.the-type B′.the-laws (getD (h .berths) slot fresh) _ (berth-is h was slot (slot-within slot k slot-said)) .1 .1 .0) .0)) $
         -- sides::shown(
         use1 W (‵ (cellAt q′ (T.the-row .mir) (FT .val h ∷ []) b o)) (W .laws .at-raw q′ T′.mir b o (FT .val h)) $ shut ! tt FT q′ h b o was $
         move ! (37 ∷ []) $ use1 W (‵ incoming·own ⊛ ‵ incoming·own) (shr-slice-copy 𝓤 H A W (named 1) κ1 u8 .twice incoming (incoming·v ∷ [])) $ split ! $

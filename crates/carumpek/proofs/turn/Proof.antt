@@ -251,7 +251,7 @@ module _ {M : Type 1} (𝓤 : URA M) (H : Heap 𝓤) (A : Atoms 𝓤) (W : Given
         skips ! $
         exec ! C Λ (env-of body.locals (l₀ ∷ l₁ ∷ l₂ ∷ l₃ ∷ l₄ ∷ l₅ ∷ l₆ ∷ l₇ ∷ l₈ ∷ l₉ ∷ l₁₀ ∷ l₁₁ ∷ l₁₂ ∷ l₁₃ ∷ l₁₄ ∷ l₁₅ ∷ l₁₆ ∷ l₁₇ ∷ l₁₈ ∷ l₁₉ ∷ l₂₀ ∷ l₂₁ ∷ l₂₂ ∷ [])) (body.t-15) (atRet (env-of body.locals (l₀ ∷ l₁ ∷ l₂ ∷ l₃ ∷ l₄ ∷ l₅ ∷ l₆ ∷ l₇ ∷ l₈ ∷ l₉ ∷ l₁₀ ∷ l₁₁ ∷ l₁₂ ∷ l₁₃ ∷ l₁₄ ∷ l₁₅ ∷ l₁₆ ∷ l₁₇ ∷ l₁₈ ∷ l₁₉ ∷ l₂₀ ∷ l₂₁ ∷ l₂₂ ∷ [])) Post) $
         -- let at = looks::probe(node.served, passed);
-        assigns ! (of-opd ! (load ! (from ! (hop ! (look ! 46 refl) (fld ! {τ = tyInt w8} {d = 8} refl (stop !)))) (look-in ! 0 (sub ! 1 {τ = tyInt w8} {d = 8} refl (whole !))))) (from ! (stop !)) (init ! 14 refl ((uint w8) .lawful 𝓤 H A W .typed (h .served) _ (LL.owed T.the-type T′.the-laws h _ was .1 .0) .0)) $
+        assigns ! (of-opd ! (load ! (from ! (hop ! (look ! 46 refl) (fld ! {τ = tyInt w8} {d = 4} refl (stop !)))) (look-in ! 0 (sub ! 1 {τ = tyInt w8} {d = 4} refl (whole !))))) (from ! (stop !)) (init ! 14 refl ((uint w8) .lawful 𝓤 H A W .typed (h .served) _ (LL.owed T.the-type T′.the-laws h _ was .1 .0) .0)) $
         use0 W (raw (C4 𝓤 H A at-mem run .pre ((tt, tt, tt, ((h .served), (p·, tt)), ((uint w8) .val (h .served) ∷ [], ((uint w8) .val p· ∷ [], tt))), tt))) (goes-c4 (h .served) p· (LL.owed T.the-type T′.the-laws h _ was .1 .0) p-is) $
         calls-at ! fm (C4 𝓤 H A at-mem run) known-c4 ((tt, tt, tt, ((h .served), (p·, tt)), ((uint w8) .val (h .served) ∷ [], ((uint w8) .val p· ∷ [], tt))), tt) (and-then ! (load ! (from ! (stop !)) (look ! 15 refl)) (and-then ! (load ! (from ! (stop !)) (look ! 31 refl)) (no-more !))) (λ v4.
         use1 W (later (some (λ (j· : ℕ). ((‵ ftrue) ⊛ ‵ (usize .own j· (v4 ∷ []))) ⊛ raw (ensured 𝓤 H A c4.ended (c4.clauses 𝓤 H A at-mem run) tt ((h .served), (p·, tt)) tt j·)))) (id⊢ 𝓤 _) $ await ! tt $ pick ! (λ j·.

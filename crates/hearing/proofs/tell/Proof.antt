@@ -149,9 +149,9 @@ module _ {M : Type 1} (𝓤 : URA M) (H : Heap 𝓤) (A : Atoms 𝓤) (W : Given
         move ! (22 ∷ 23 ∷ 24 ∷ []) $ opened ! tt FT {h = h} b o (λ was. use1 W (‵ (fat fullShare T′.mir b o (FT .val h))) (W .laws .raw-at fullShare T′.mir b o (FT .val h)) $
         -- let tx = node.berths[at].tx;
         assigns ! (bin ! (load ! (from ! (stop !)) (look ! 20 refl)) (lit ! tt) (record { fits = bytes-fit j· (arrived-within (within .1 .1 .1 .1)) })) (from ! (stop !)) (init ! 12 refl (tt, record { fits = bytes-fit j· (arrived-within (within .1 .1 .1 .1)) })) $
-        assigns ! (addr ! (from ! (hop ! (look ! 22 refl) (fld ! {τ = tyArray B′.mir 10} {d = 12} refl (stop !))))) (from ! (stop !)) (init ! 10 refl (tt, tt)) $
-        assigns ! (bin ! (load ! (from ! (stop !)) (look ! 10 refl)) (load ! (from ! (stop !)) (look ! 12 refl)) tt) (from ! (stop !)) (init ! 8 refl (tt, tt)) $ rewrite ! 8 (λ (m : ℕ). ‵ (fat fullShare tyPtr l₈ 0 (vptr b m))) (sym (place-is 48 (o + 12) j·)) refl $
-        assigns ! (of-opd ! (load ! (from ! (hop ! (look ! 8 refl) (fld ! {τ = X′.mir} {d = 24} refl (stop !)))) (look-in ! 0 (sub ! 2 {τ = X′.mir} {d = 24} refl (item ! (us (h .berths)) j· (FB .val fresh) (us-within h was j· (arrived-within (within .1 .1 .1 .1))) (us-length h was) (us-at (h .berths) j· ∙ see-parts (getD (h .berths) j· fresh)) (sub ! 2 {τ = tyArray B′.mir 10} {d = 12} refl (whole !))))))) (from ! (stop !)) (init ! 16 refl (FX .lawful 𝓤 H A W .typed ((getD (h .berths) j· fresh) .tx) _ (LL.owed B.the-type B′.the-laws (getD (h .berths) j· fresh) _ (berth-is h was j· (arrived-within (within .1 .1 .1 .1))) .1 .1 .0) .0)) $
+        assigns ! (addr ! (from ! (hop ! (look ! 22 refl) (fld ! {τ = tyArray B′.mir 10} {d = 8} refl (stop !))))) (from ! (stop !)) (init ! 10 refl (tt, tt)) $
+        assigns ! (bin ! (load ! (from ! (stop !)) (look ! 10 refl)) (load ! (from ! (stop !)) (look ! 12 refl)) tt) (from ! (stop !)) (init ! 8 refl (tt, tt)) $ rewrite ! 8 (λ (m : ℕ). ‵ (fat fullShare tyPtr l₈ 0 (vptr b m))) (sym (place-is 52 (o + 8) j·)) refl $
+        assigns ! (of-opd ! (load ! (from ! (hop ! (look ! 8 refl) (fld ! {τ = X′.mir} {d = 24} refl (stop !)))) (look-in ! 0 (sub ! 2 {τ = X′.mir} {d = 24} refl (item ! (us (h .berths)) j· (FB .val fresh) (us-within h was j· (arrived-within (within .1 .1 .1 .1))) (us-length h was) (us-at (h .berths) j· ∙ see-parts (getD (h .berths) j· fresh)) (sub ! 2 {τ = tyArray B′.mir 10} {d = 8} refl (whole !))))))) (from ! (stop !)) (init ! 16 refl (FX .lawful 𝓤 H A W .typed ((getD (h .berths) j· fresh) .tx) _ (LL.owed B.the-type B′.the-laws (getD (h .berths) j· fresh) _ (berth-is h was j· (arrived-within (within .1 .1 .1 .1))) .1 .1 .0) .0)) $
         -- let told = sides::told(at, tx, payload);
         move ! (26 ∷ []) $ use1 W (‵ payload·own ⊛ ‵ payload·own) (shr-slice-copy 𝓤 H A W (named 1) κ1 u8 .twice payload (payload·v ∷ [])) $ split ! $
         move ! (28 ∷ 0 ∷ []) $ uses W (‵ (flft (κ1) q1) ∷ ‵ payload·own ∷ []) (raw (C1 𝓤 H A at-mem run .pre (((κ1, tt), (q1, tt), tt, (j·, (((getD (h .berths) j· fresh) .tx), (payload, tt))), ((uint w64) .val j· ∷ [], (FX .val ((getD (h .berths) j· fresh) .tx) ∷ [], (payload·v ∷ [], tt)))), tt))) (goes-c1 j· ((getD (h .berths) j· fresh) .tx) j·-is (LL.owed B.the-type B′.the-laws (getD (h .berths) j· fresh) _ (berth-is h was j· (arrived-within (within .1 .1 .1 .1))) .1 .1 .0) (h, (within .1 .0, (within .1 .1 .0, (within .1 .1 .1 .0, telling (within .1 .1 .1 .1) (within .0)))))) $

@@ -98,9 +98,9 @@ module _ {M : Type 1} (𝓤 : URA M) (H : Heap 𝓤) (A : Atoms 𝓤) (W : Given
         move ! (14 ∷ 15 ∷ []) $ looked ! tt FT {h = h} b o (λ q′ was. use1 W (‵ (fat q′ T′.mir b o (FT .val h))) (W .laws .raw-at q′ T′.mir b o (FT .val h)) $
         -- match node.berths[k].rx {
         assigns ! (bin ! (load ! (from ! (stop !)) (look ! 10 refl)) (lit ! tt) (record { fits = bytes-fit k within })) (from ! (stop !)) (init ! 8 refl (tt, record { fits = bytes-fit k within })) $
-        assigns ! (addr ! (from ! (hop ! (look ! 12 refl) (fld ! {τ = tyArray B′.mir 10} {d = 12} refl (stop !))))) (from ! (stop !)) (init ! 6 refl (tt, tt)) $
-        assigns ! (bin ! (load ! (from ! (stop !)) (look ! 6 refl)) (load ! (from ! (stop !)) (look ! 8 refl)) tt) (from ! (stop !)) (init ! 4 refl (tt, tt)) $ rewrite ! 4 (λ (m : ℕ). ‵ (fat fullShare tyPtr l₅ 0 (vptr b m))) (sym (place-is 48 (o + 12) k)) refl $
-        first ! $ by-variants ! 0 (sub ! 0 {τ = R′.mir} {d = 0} refl (item ! (us (h .berths)) k (FB .val fresh) (us-within h was k within) (us-length h was) (us-at (h .berths) k ∙ see-rx (getD (h .berths) k fresh)) (sub ! 2 {τ = tyArray B′.mir 10} {d = 12} refl (whole !)))) (load ! (from ! (hop ! (look ! 4 refl) (fld ! {τ = R′.mir} {d = 0} refl (vrt ! refl (fld ! {τ = tyInt w8} {d = 0} refl (stop !)))))) (look-tag ! 0 (sub ! 0 {τ = R′.mir} {d = 0} refl (item ! (us (h .berths)) k (FB .val fresh) (us-within h was k within) (us-length h was) (us-at (h .berths) k ∙ see-rx (getD (h .berths) k fresh)) (sub ! 2 {τ = tyArray B′.mir 10} {d = 12} refl (whole !)))))) tt (
+        assigns ! (addr ! (from ! (hop ! (look ! 12 refl) (fld ! {τ = tyArray B′.mir 10} {d = 8} refl (stop !))))) (from ! (stop !)) (init ! 6 refl (tt, tt)) $
+        assigns ! (bin ! (load ! (from ! (stop !)) (look ! 6 refl)) (load ! (from ! (stop !)) (look ! 8 refl)) tt) (from ! (stop !)) (init ! 4 refl (tt, tt)) $ rewrite ! 4 (λ (m : ℕ). ‵ (fat fullShare tyPtr l₅ 0 (vptr b m))) (sym (place-is 52 (o + 8) k)) refl $
+        first ! $ by-variants ! 0 (sub ! 0 {τ = R′.mir} {d = 0} refl (item ! (us (h .berths)) k (FB .val fresh) (us-within h was k within) (us-length h was) (us-at (h .berths) k ∙ see-rx (getD (h .berths) k fresh)) (sub ! 2 {τ = tyArray B′.mir 10} {d = 8} refl (whole !)))) (load ! (from ! (hop ! (look ! 4 refl) (fld ! {τ = R′.mir} {d = 0} refl (vrt ! refl (fld ! {τ = tyInt w8} {d = 0} refl (stop !)))))) (look-tag ! 0 (sub ! 0 {τ = R′.mir} {d = 0} refl (item ! (us (h .berths)) k (FB .val fresh) (us-within h was k within) (us-length h was) (us-at (h .berths) k ∙ see-rx (getD (h .berths) k fresh)) (sub ! 2 {τ = tyArray B′.mir 10} {d = 8} refl (whole !)))))) tt (
           (λ tag.
               -- Rx::Idle => false,
               assigns-last ! (of-opd ! (false-lit !)) (from ! (stop !)) (init ! 2 refl (tt, tt)) $

@@ -1,22 +1,18 @@
--- The tests are those of the list.
-use mathlib.Core.Bool.{and-true}
+-- The tests are those of the rule's list.
+use mathlib.Core.Path.{ap}
+use mathlib.Core.Bool.{Bool, _&&_}
+use lib.Dec.{ltb}
+use Rattle.rules.specs.Numbers.{berthCount}
 use borrow.Author.Needs.{needs}
-use Rattle.rules.specs.Tests.{all}
+use Rattle.berth.proofs.Chains.{both}
 use Rattle.looks.proofs.front_in_order.Statement.{statement}
 use Rattle.looks.proofs.front_in_order.Tie as tie
 
-cast-settings-allowed : tie.Need-cast-settings-allowed
-cast-settings-allowed c = search needs
-
-cast-settings-allowed-2 : tie.Need-cast-settings-allowed-2
-cast-settings-allowed-2 c = search needs
-
-settings-allowed-requires : tie.Need-settings-allowed-requires
-settings-allowed-requires c κs = search needs
+area-allowed-requires : tie.Need-area-allowed-requires
+area-allowed-requires c κs = search needs
 
 returns : tie.Need-returns
-unfolding all
-returns c = simp (c .settings-allowed .ensures, and-true)
+returns c = both _ _ (ap (λ (area : Bool). area && ltb (c .before .args .served) berthCount) (c .area-allowed .ensures))
 
 pub front-in-order-spec : {M : Type 1} → statement M
-front-in-order-spec = tie.close (tie.spec cast-settings-allowed cast-settings-allowed-2 settings-allowed-requires returns)
+front-in-order-spec = tie.close (tie.spec area-allowed-requires returns)

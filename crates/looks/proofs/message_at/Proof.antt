@@ -105,9 +105,9 @@ module _ {M : Type 1} (𝓤 : URA M) (H : Heap 𝓤) (A : Atoms 𝓤) (W : Given
         move ! (16 ∷ 17 ∷ []) $ looked ! tt FT {h = h} b o (λ q′ was. use1 W (‵ (fat q′ T′.mir b o (FT .val h))) (W .laws .raw-at q′ T′.mir b o (FT .val h)) $
         -- match node.berths[k].tx {
         assigns ! (bin ! (load ! (from ! (stop !)) (look ! 12 refl)) (lit ! tt) (record { fits = bytes-fit k within })) (from ! (stop !)) (init ! 8 refl (tt, record { fits = bytes-fit k within })) $
-        assigns ! (addr ! (from ! (hop ! (look ! 14 refl) (fld ! {τ = tyArray B′.mir 10} {d = 12} refl (stop !))))) (from ! (stop !)) (init ! 6 refl (tt, tt)) $
-        assigns ! (bin ! (load ! (from ! (stop !)) (look ! 6 refl)) (load ! (from ! (stop !)) (look ! 8 refl)) tt) (from ! (stop !)) (init ! 4 refl (tt, tt)) $ rewrite ! 4 (λ (m : ℕ). ‵ (fat fullShare tyPtr l₆ 0 (vptr b m))) (sym (place-is 48 (o + 12) k)) refl $
-        first ! $ by-variants ! 0 (sub ! 2 {τ = X′.mir} {d = 24} refl (item ! (us (h .berths)) k (FB .val fresh) (us-within h was k within) (us-length h was) (us-at (h .berths) k ∙ see-tx (getD (h .berths) k fresh)) (sub ! 2 {τ = tyArray B′.mir 10} {d = 12} refl (whole !)))) (load ! (from ! (hop ! (look ! 4 refl) (fld ! {τ = X′.mir} {d = 24} refl (vrt ! refl (fld ! {τ = tyInt w8} {d = 0} refl (stop !)))))) (look-tag ! 0 (sub ! 2 {τ = X′.mir} {d = 24} refl (item ! (us (h .berths)) k (FB .val fresh) (us-within h was k within) (us-length h was) (us-at (h .berths) k ∙ see-tx (getD (h .berths) k fresh)) (sub ! 2 {τ = tyArray B′.mir 10} {d = 12} refl (whole !)))))) tt (
+        assigns ! (addr ! (from ! (hop ! (look ! 14 refl) (fld ! {τ = tyArray B′.mir 10} {d = 8} refl (stop !))))) (from ! (stop !)) (init ! 6 refl (tt, tt)) $
+        assigns ! (bin ! (load ! (from ! (stop !)) (look ! 6 refl)) (load ! (from ! (stop !)) (look ! 8 refl)) tt) (from ! (stop !)) (init ! 4 refl (tt, tt)) $ rewrite ! 4 (λ (m : ℕ). ‵ (fat fullShare tyPtr l₆ 0 (vptr b m))) (sym (place-is 52 (o + 8) k)) refl $
+        first ! $ by-variants ! 0 (sub ! 2 {τ = X′.mir} {d = 24} refl (item ! (us (h .berths)) k (FB .val fresh) (us-within h was k within) (us-length h was) (us-at (h .berths) k ∙ see-tx (getD (h .berths) k fresh)) (sub ! 2 {τ = tyArray B′.mir 10} {d = 8} refl (whole !)))) (load ! (from ! (hop ! (look ! 4 refl) (fld ! {τ = X′.mir} {d = 24} refl (vrt ! refl (fld ! {τ = tyInt w8} {d = 0} refl (stop !)))))) (look-tag ! 0 (sub ! 2 {τ = X′.mir} {d = 24} refl (item ! (us (h .berths)) k (FB .val fresh) (us-within h was k within) (us-length h was) (us-at (h .berths) k ∙ see-tx (getD (h .berths) k fresh)) (sub ! 2 {τ = tyArray B′.mir 10} {d = 8} refl (whole !)))))) tt (
           (λ tag.
               -- Tx::Idle => false,
               assigns-last ! (of-opd ! (false-lit !)) (from ! (stop !)) (init ! 2 refl (tt, tt)) $
@@ -150,7 +150,7 @@ module _ {M : Type 1} (𝓤 : URA M) (H : Heap 𝓤) (A : Atoms 𝓤) (W : Given
                 (
                   (λ tag.
                       -- Tx::Consecutive(Sending { left: left, .. }, _) => left == 0,
-                      assigns ! (of-opd ! (load ! (from ! (hop ! (look ! 4 refl) (fld ! {τ = X′.mir} {d = 24} refl (vrt ! refl (fld ! {τ = D′.mir} {d = 4} refl (fld ! {τ = tyInt w8} {d = 12} refl (stop !))))))) (look-in ! 0 (sub ! 6 {τ = tyInt w8} {d = 12} refl (in-variant ! 4 0 {τ = D′.mir} {d = 4} refl refl (sub ! 2 {τ = X′.mir} {d = 24} refl (item ! (us (h .berths)) k (FB .val fresh) (us-within h was k within) (us-length h was) (us-at (h .berths) k ∙ tx-seen (getD (h .berths) k fresh) ((as-tx-Consecutive ((getD (h .berths) k fresh) .tx) tag) .1 .1)) (sub ! 2 {τ = tyArray B′.mir 10} {d = 12} refl (whole !))))))))) (from ! (stop !)) (init ! 10 refl (tt, record { fits = LL.owed D.the-type D′.the-laws ((as-tx-Consecutive ((getD (h .berths) k fresh) .tx) tag) .0) _ (EL.owed X.the-type X′.the-laws (Tx.Consecutive ((as-tx-Consecutive ((getD (h .berths) k fresh) .tx) tag) .0) ((as-tx-Consecutive ((getD (h .berths) k fresh) .tx) tag) .1 .0)) _ (tx-as (getD (h .berths) k fresh) (berth-is h was k within) ((as-tx-Consecutive ((getD (h .berths) k fresh) .tx) tag) .1 .1)) .0) .1 .1 .1 .1 .1 .1 .0 .1 })) $
+                      assigns ! (of-opd ! (load ! (from ! (hop ! (look ! 4 refl) (fld ! {τ = X′.mir} {d = 24} refl (vrt ! refl (fld ! {τ = D′.mir} {d = 4} refl (fld ! {τ = tyInt w8} {d = 12} refl (stop !))))))) (look-in ! 0 (sub ! 6 {τ = tyInt w8} {d = 12} refl (in-variant ! 4 0 {τ = D′.mir} {d = 4} refl refl (sub ! 2 {τ = X′.mir} {d = 24} refl (item ! (us (h .berths)) k (FB .val fresh) (us-within h was k within) (us-length h was) (us-at (h .berths) k ∙ tx-seen (getD (h .berths) k fresh) ((as-tx-Consecutive ((getD (h .berths) k fresh) .tx) tag) .1 .1)) (sub ! 2 {τ = tyArray B′.mir 10} {d = 8} refl (whole !))))))))) (from ! (stop !)) (init ! 10 refl (tt, record { fits = LL.owed D.the-type D′.the-laws ((as-tx-Consecutive ((getD (h .berths) k fresh) .tx) tag) .0) _ (EL.owed X.the-type X′.the-laws (Tx.Consecutive ((as-tx-Consecutive ((getD (h .berths) k fresh) .tx) tag) .0) ((as-tx-Consecutive ((getD (h .berths) k fresh) .tx) tag) .1 .0)) _ (tx-as (getD (h .berths) k fresh) (berth-is h was k within) ((as-tx-Consecutive ((getD (h .berths) k fresh) .tx) tag) .1 .1)) .0) .1 .1 .1 .1 .1 .1 .0 .1 })) $
                       assigns-last ! (bin ! (load ! (from ! (stop !)) (look ! 10 refl)) (lit ! tt) tt) (from ! (stop !)) (init ! 2 refl (tt, tt)) $
                       exec ! C Λ _ body.t-5 (atRet _ Post) $
                       assigns ! (of-opd ! (load ! (from ! (stop !)) (look ! 2 refl))) (from ! (stop !)) (init ! 16 refl (boolean .lawful 𝓤 H A W .typed (eqb ((as-tx-Consecutive ((getD (h .berths) k fresh) .tx) tag) .0 .left) 0) _ refl .0)) $

@@ -1,4 +1,4 @@
--- The settings and the berth served last go to a covered function; then the idle berths at the front are counted, and the others decide.
+-- A and the berth served last go to a covered function; then the idle berths at the front are counted, and the others decide.
 -- A walk, written by tools/walks.
 use mathlib.Core.Path.{_≡_, refl, sym, _∙_}
 use mathlib.Core.Bool.{Bool}
@@ -48,7 +48,7 @@ use Rattle.looks.proofs.Ten.{FT, FG, ten-length, settings-is, served-fi
 use lib.Dec.{ltb}
 use lib.ListN.{drop as dropL}
 use Rattle.rules.specs.Tests.{all, each}
-use Rattle.rules.specs.Ranges.{settingsAllowed, berthInOrder}
+use Rattle.rules.specs.Ranges.{areaAllowed, berthInOrder}
 use Rattle.looks.specs.Order.{Spared, orderOf}
 use Rattle.looks.proofs.Ordered.{front-fails, berths-fail, berths-pass}
 use Rattle.looks.proofs.front_in_order as c1
@@ -130,12 +130,12 @@ module _ {M : Type 1} (𝓤 : URA M) (H : Heap 𝓤) (A : Atoms 𝓤) (W : Given
         move ! (14 ∷ 15 ∷ []) $ looked ! tt FT {h = h} b o (λ q′ was. use1 W (‵ (fat q′ T′.mir b o (FT .val h))) (W .laws .raw-at q′ T′.mir b o (FT .val h)) $
         -- if front_in_order(node.settings, node.served) {
         assigns ! (of-opd ! (load ! (from ! (hop ! (look ! 12 refl) (fld ! {τ = G′.mir} {d = 0} refl (stop !)))) (look-in ! 0 (sub ! 0 {τ = G′.mir} {d = 0} refl (whole !))))) (from ! (stop !)) (init ! 6 refl (FG .lawful 𝓤 H A W .typed (h .settings) _ (settings-is h was) .0)) $
-        assigns ! (of-opd ! (load ! (from ! (hop ! (look ! 12 refl) (fld ! {τ = tyInt w8} {d = 8} refl (stop !)))) (look-in ! 0 (sub ! 1 {τ = tyInt w8} {d = 8} refl (whole !))))) (from ! (stop !)) (init ! 4 refl ((uint w8) .lawful 𝓤 H A W .typed (h .served) _ (refl, served-fits h was) .0)) $
+        assigns ! (of-opd ! (load ! (from ! (hop ! (look ! 12 refl) (fld ! {τ = tyInt w8} {d = 4} refl (stop !)))) (look-in ! 0 (sub ! 1 {τ = tyInt w8} {d = 4} refl (whole !))))) (from ! (stop !)) (init ! 4 refl ((uint w8) .lawful 𝓤 H A W .typed (h .served) _ (refl, served-fits h was) .0)) $
         use1 W (‵ (cellAt q′ (T.the-row .mir) (FT .val h ∷ []) b o)) (W .laws .at-raw q′ T′.mir b o (FT .val h)) $ shut ! tt FT q′ h b o was $
         use0 W (raw (C1 𝓤 H A at-mem run .pre ((tt, tt, tt, ((h .settings), ((h .served), tt)), (FG .val (h .settings) ∷ [], ((uint w8) .val (h .served) ∷ [], tt))), tt))) (goes-c1 (h .settings) (h .served) (settings-is h was) (refl, served-fits h was)) $
         calls-at ! fm (C1 𝓤 H A at-mem run) known-c1 ((tt, tt, tt, ((h .settings), ((h .served), tt)), (FG .val (h .settings) ∷ [], ((uint w8) .val (h .served) ∷ [], tt))), tt) (and-then ! (load ! (from ! (stop !)) (look ! 6 refl)) (and-then ! (load ! (from ! (stop !)) (look ! 4 refl)) (no-more !))) (λ v1.
         use1 W (later (some (λ (r : Bool). (‵ ftrue ⊛ ‵ (bool .own r (v1 ∷ []))) ⊛ raw (ensured 𝓤 H A c1.ended (c1.clauses 𝓤 H A at-mem run) tt ((h .settings), ((h .served), tt)) tt r)))) (id⊢ 𝓤 _) $ await ! tt $ pick ! (λ r.
-        split ! $ move ! (1 ∷ []) $ use1 W (raw (fact 𝓤 (r ≡ all (settingsAllowed ((h .settings) .area) ((h .settings) .block) ((h .settings) .stmin) ∷ ltb (h .served) berthCount ∷ [])))) (exE 𝓤 _ (λ ws. snd∗ 𝓤 (sem 𝓤 H A (lasts c1.ended tt ((h .settings), ((h .served), tt)) ws)) (fact 𝓤 (r ≡ all (settingsAllowed ((h .settings) .area) ((h .settings) .block) ((h .settings) .stmin) ∷ ltb (h .served) berthCount ∷ []))))) $ heard ! (r ≡ all (settingsAllowed ((h .settings) .area) ((h .settings) .block) ((h .settings) .stmin) ∷ ltb (h .served) berthCount ∷ [])) (λ e. split ! $ drop ! $ returned ! boolean r v1 (λ is.
+        split ! $ move ! (1 ∷ []) $ use1 W (raw (fact 𝓤 (r ≡ all (areaAllowed ((h .settings) .area) ∷ ltb (h .served) berthCount ∷ [])))) (exE 𝓤 _ (λ ws. snd∗ 𝓤 (sem 𝓤 H A (lasts c1.ended tt ((h .settings), ((h .served), tt)) ws)) (fact 𝓤 (r ≡ all (areaAllowed ((h .settings) .area) ∷ ltb (h .served) berthCount ∷ []))))) $ heard ! (r ≡ all (areaAllowed ((h .settings) .area) ∷ ltb (h .served) berthCount ∷ [])) (λ e. split ! $ drop ! $ returned ! boolean r v1 (λ is.
         land ! (from ! (stop !)) (init ! 7 refl (boolean .lawful 𝓤 H A W .typed r _ is .0)) $
         first ! $ branches ! (load ! (from ! (stop !)) (look ! 7 refl))
         (λ yes.

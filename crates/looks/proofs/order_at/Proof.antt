@@ -1,4 +1,4 @@
--- The receive side of one berth is copied out from behind the `&` and tested; where it is in range, the send side decides.
+-- The settings and the receive side of one berth are copied out from behind the `&` and tested; where they are in range, the send side decides.
 -- A walk, written by tools/walks.
 use mathlib.Core.Path.{_≡_, refl, sym, _∙_, ap}
 use mathlib.Core.Bool.{Bool, false}
@@ -43,6 +43,7 @@ use Rattle.rules.specs.declared.Settings.{Settings}
 use Rattle.rules.specs.declared.Node.{Node}
 use Rattle.rules.proofs.Settings as G
 use Rattle.rules.proofs.Settings.Laws as G′
+use Rattle.rules.proofs.BerthSettings.Laws as O′
 use Rattle.rules.proofs.Rx.Laws as R′
 use Rattle.rules.proofs.Tx.Laws as X′
 use Rattle.rules.proofs.Berth.Laws as B′
@@ -52,16 +53,19 @@ use Rattle.rules.proofs.Cases.{is-true, is-false}
 use Rattle.looks.proofs.Lent.{uint, boolean, looked, shut, returned, had}
 use Rattle.looks.proofs.Item.{item}
 use Rattle.looks.proofs.Ten.{FT, FB, FG, us, us-at, us-length, us-within, at-is, berth-is, settings-is, bytes-fit}
+use Rattle.rules.specs.Tests.{all}
+use Rattle.rules.specs.declared.BerthSettings.{BerthSettings}
 use Rattle.rules.specs.declared.Rx.{Rx}
 use Rattle.rules.specs.declared.Tx.{Tx}
+use Rattle.rules.proofs.BerthSettings as O
 use Rattle.rules.proofs.Rx as R
 use Rattle.rules.proofs.Tx as X
-use Rattle.looks.proofs.Sides.{FR, FX, see-parts, rx-of, last-of, tx-of, side-fails, side-passes}
-use Rattle.rules.specs.Ranges.{berthInOrder, rxInRange, txInRange}
-use Rattle.berth.proofs.ranges.rx_in_range as c1
-use Rattle.berth.proofs.ranges.rx_in_range.Symbol as c1-def
-use Rattle.berth.proofs.ranges.rx_in_range.Symbol.{name as #c1}
-use Rattle.berth.proofs.ranges.rx_in_range.Met as c1-thm
+use Rattle.looks.proofs.Sides.{FR, FX, FO, see-parts, rx-of, last-of, tx-of, own-of, side-fails, side-passes}
+use Rattle.rules.specs.Ranges.{berthInOrder, ownAllowed, rxInRange, txInRange}
+use Rattle.berth.proofs.ranges.receive_in_order as c1
+use Rattle.berth.proofs.ranges.receive_in_order.Symbol as c1-def
+use Rattle.berth.proofs.ranges.receive_in_order.Symbol.{name as #c1}
+use Rattle.berth.proofs.ranges.receive_in_order.Met as c1-thm
 use Rattle.berth.proofs.ranges.tx_in_range as c2
 use Rattle.berth.proofs.ranges.tx_in_range.Symbol as c2-def
 use Rattle.berth.proofs.ranges.tx_in_range.Symbol.{name as #c2}
@@ -105,8 +109,8 @@ module _ {M : Type 1} (𝓤 : URA M) (H : Heap 𝓤) (A : Atoms 𝓤) (W : Given
       qed W (‵ (flft κ q) ∷ ‵ OwnP ∷ []) ∵ suffices ! _ (ends-at 𝓤 H A self.ended stayed (self.clauses 𝓤 H A at-mem run) W (((κ, tt), (q, tt), tt, x, at), tt) (boolean .val r) r (tt, (tt, tt)) (tt, (tt, tt))) $ says ! e $
       nothing ! $ move ! (1 ∷ 0 ∷ []) $ join ! $ frame ! $ nothing ! $ had ! (uint w64) k k-is $ fjoin ! $ move ! (1 ∷ 0 ∷ []) $ fjoin ! $ frame ! $ had ! boolean r is $ done !
 
-  goes-c1 : (a₀ : Settings) (a₁ : ℕ) (a₂ : Rx) (a₀-is : Is G.the-row a₀ (FG .val a₀ ∷ [])) (a₁-is : Is u32 a₁ ((uint w32) .val a₁ ∷ [])) (a₂-is : Is R.the-row a₂ (FR .val a₂ ∷ [])) → ent 𝓤 (emp 𝓤) (C1 𝓤 H A at-mem run .pre ((tt, tt, tt, (a₀, (a₁, (a₂, tt))), (FG .val a₀ ∷ [], ((uint w32) .val a₁ ∷ [], (FR .val a₂ ∷ [], tt)))), tt))
-  goes-c1 a₀ a₁ a₂ a₀-is a₁-is a₂-is = qed W [] ∵ nothing ! $ had ! FR a₂ a₂-is $ fjoin ! $ had ! (uint w32) a₁ a₁-is $ fjoin ! $ had ! FG a₀ a₀-is $ fjoin ! $ nothing ! $ join ! $ nothing ! $ move ! (1 ∷ 0 ∷ []) $ join ! $ done !
+  goes-c1 : (a₀ : Settings) (a₁ : BerthSettings) (a₂ : ℕ) (a₃ : Rx) (a₀-is : Is G.the-row a₀ (FG .val a₀ ∷ [])) (a₁-is : Is O.the-row a₁ (FO .val a₁ ∷ [])) (a₂-is : Is u32 a₂ ((uint w32) .val a₂ ∷ [])) (a₃-is : Is R.the-row a₃ (FR .val a₃ ∷ [])) → ent 𝓤 (emp 𝓤) (C1 𝓤 H A at-mem run .pre ((tt, tt, tt, (a₀, (a₁, (a₂, (a₃, tt)))), (FG .val a₀ ∷ [], (FO .val a₁ ∷ [], ((uint w32) .val a₂ ∷ [], (FR .val a₃ ∷ [], tt))))), tt))
+  goes-c1 a₀ a₁ a₂ a₃ a₀-is a₁-is a₂-is a₃-is = qed W [] ∵ nothing ! $ had ! FR a₃ a₃-is $ fjoin ! $ had ! (uint w32) a₂ a₂-is $ fjoin ! $ had ! FO a₁ a₁-is $ fjoin ! $ had ! FG a₀ a₀-is $ fjoin ! $ nothing ! $ join ! $ nothing ! $ move ! (1 ∷ 0 ∷ []) $ join ! $ done !
 
   goes-c2 : (a₀ : Settings) (a₁ : Tx) (a₀-is : Is G.the-row a₀ (FG .val a₀ ∷ [])) (a₁-is : Is X.the-row a₁ (FX .val a₁ ∷ [])) → ent 𝓤 (emp 𝓤) (C2 𝓤 H A at-mem run .pre ((tt, tt, tt, (a₀, (a₁, tt)), (FG .val a₀ ∷ [], (FX .val a₁ ∷ [], tt))), tt))
   goes-c2 a₀ a₁ a₀-is a₁-is = qed W [] ∵ nothing ! $ had ! FX a₁ a₁-is $ fjoin ! $ had ! FG a₀ a₀-is $ fjoin ! $ nothing ! $ join ! $ nothing ! $ move ! (1 ∷ 0 ∷ []) $ join ! $ done !
@@ -122,51 +126,56 @@ module _ {M : Type 1} (𝓤 : URA M) (H : Heap 𝓤) (A : Atoms 𝓤) (W : Given
     walk =
         qed W ((‵ (flft κ q) ⊛ ‵ ftrue) ∷ ‵ (owns (ShrRef (named 0) κ T.the-row ∷ usize ∷ []) x at) ∷ []) ∵ split ! $ move ! (2 ∷ []) $ fsplit ! $ use1 W (‵ OwnP ⊛ ‵ OwnP) (shr-copy 𝓤 H A W (named 0) κ T.the-row .twice p (vptr b o ∷ [])) $ split ! $ keep ! (0 ∷ 3 ∷ 1 ∷ []) $
         enter ! C Λ code.function (vptr b o ∷ (uint w64) .val k ∷ []) _ $
-        alloc1 ! (λ l₀. alloc1 ! (λ l₁. alloc1 ! (λ l₂. alloc1 ! (λ l₃. alloc1 ! (λ l₄. alloc1 ! (λ l₅. alloc1 ! (λ l₆. alloc1 ! (λ l₇. alloc1 ! (λ l₈. alloc1 ! (λ l₉. alloc1 ! (λ l₁₀. alloc1 ! (λ l₁₁. alloc1 ! (λ l₁₂. alloc1 ! (λ l₁₃. alloc1 ! (λ l₁₄. alloc1 ! (λ l₁₅. alloc0 ! $ params1 ! $
-        pass1 ! (init ! 28 refl (tt, tt)) $ pass1 ! (init ! 26 refl ((uint w64) .lawful 𝓤 H A W .typed k _ k-is .0)) $ pass0 ! $
-        move ! (32 ∷ 33 ∷ []) $ looked ! tt FT {h = h} b o (λ q′ was. use1 W (‵ (fat q′ T′.mir b o (FT .val h))) (W .laws .raw-at q′ T′.mir b o (FT .val h)) $
+        alloc1 ! (λ l₀. alloc1 ! (λ l₁. alloc1 ! (λ l₂. alloc1 ! (λ l₃. alloc1 ! (λ l₄. alloc1 ! (λ l₅. alloc1 ! (λ l₆. alloc1 ! (λ l₇. alloc1 ! (λ l₈. alloc1 ! (λ l₉. alloc1 ! (λ l₁₀. alloc1 ! (λ l₁₁. alloc1 ! (λ l₁₂. alloc1 ! (λ l₁₃. alloc1 ! (λ l₁₄. alloc1 ! (λ l₁₅. alloc1 ! (λ l₁₆. alloc1 ! (λ l₁₇. alloc1 ! (λ l₁₈. alloc0 ! $ params1 ! $
+        pass1 ! (init ! 34 refl (tt, tt)) $ pass1 ! (init ! 32 refl ((uint w64) .lawful 𝓤 H A W .typed k _ k-is .0)) $ pass0 ! $
+        move ! (38 ∷ 39 ∷ []) $ looked ! tt FT {h = h} b o (λ q′ was. use1 W (‵ (fat q′ T′.mir b o (FT .val h))) (W .laws .raw-at q′ T′.mir b o (FT .val h)) $
         -- let settings = node.settings;
-        assigns ! (of-opd ! (load ! (from ! (hop ! (look ! 30 refl) (fld ! {τ = G′.mir} {d = 0} refl (stop !)))) (look-in ! 0 (sub ! 0 {τ = G′.mir} {d = 0} refl (whole !))))) (from ! (stop !)) (init ! 26 refl (FG .lawful 𝓤 H A W .typed (h .settings) _ (settings-is h was) .0)) $
+        assigns ! (of-opd ! (load ! (from ! (hop ! (look ! 36 refl) (fld ! {τ = G′.mir} {d = 0} refl (stop !)))) (look-in ! 0 (sub ! 0 {τ = G′.mir} {d = 0} refl (whole !))))) (from ! (stop !)) (init ! 32 refl (FG .lawful 𝓤 H A W .typed (h .settings) _ (settings-is h was) .0)) $
+        -- let own = node.berths[k].settings;
+        assigns ! (bin ! (load ! (from ! (stop !)) (look ! 34 refl)) (lit ! tt) (record { fits = bytes-fit k within })) (from ! (stop !)) (init ! 22 refl (tt, record { fits = bytes-fit k within })) $
+        assigns ! (addr ! (from ! (hop ! (look ! 36 refl) (fld ! {τ = tyArray B′.mir 10} {d = 8} refl (stop !))))) (from ! (stop !)) (init ! 20 refl (tt, tt)) $
+        assigns ! (bin ! (load ! (from ! (stop !)) (look ! 20 refl)) (load ! (from ! (stop !)) (look ! 22 refl)) tt) (from ! (stop !)) (init ! 18 refl (tt, tt)) $ rewrite ! 18 (λ (m : ℕ). ‵ (fat fullShare tyPtr l₁₀ 0 (vptr b m))) (sym (place-is 52 (o + 8) k)) refl $
+        assigns ! (of-opd ! (load ! (from ! (hop ! (look ! 18 refl) (fld ! {τ = O′.mir} {d = 48} refl (stop !)))) (look-in ! 0 (sub ! 3 {τ = O′.mir} {d = 48} refl (item ! (us (h .berths)) k (FB .val fresh) (us-within h was k within) (us-length h was) (us-at (h .berths) k ∙ see-parts (getD (h .berths) k fresh)) (sub ! 2 {τ = tyArray B′.mir 10} {d = 8} refl (whole !))))))) (from ! (stop !)) (init ! 30 refl (FO .lawful 𝓤 H A W .typed ((getD (h .berths) k fresh) .settings) _ (own-of (getD (h .berths) k fresh) (berth-is h was k within)) .0)) $
         -- let last = node.berths[k].last;
-        assigns ! (bin ! (load ! (from ! (stop !)) (look ! 28 refl)) (lit ! tt) (record { fits = bytes-fit k within })) (from ! (stop !)) (init ! 18 refl (tt, record { fits = bytes-fit k within })) $
-        assigns ! (addr ! (from ! (hop ! (look ! 30 refl) (fld ! {τ = tyArray B′.mir 10} {d = 12} refl (stop !))))) (from ! (stop !)) (init ! 16 refl (tt, tt)) $
-        assigns ! (bin ! (load ! (from ! (stop !)) (look ! 16 refl)) (load ! (from ! (stop !)) (look ! 18 refl)) tt) (from ! (stop !)) (init ! 14 refl (tt, tt)) $ rewrite ! 14 (λ (m : ℕ). ‵ (fat fullShare tyPtr l₉ 0 (vptr b m))) (sym (place-is 48 (o + 12) k)) refl $
-        assigns ! (of-opd ! (load ! (from ! (hop ! (look ! 14 refl) (fld ! {τ = tyInt w32} {d = 20} refl (stop !)))) (look-in ! 0 (sub ! 1 {τ = tyInt w32} {d = 20} refl (item ! (us (h .berths)) k (FB .val fresh) (us-within h was k within) (us-length h was) (us-at (h .berths) k ∙ see-parts (getD (h .berths) k fresh)) (sub ! 2 {τ = tyArray B′.mir 10} {d = 12} refl (whole !))))))) (from ! (stop !)) (init ! 24 refl ((uint w32) .lawful 𝓤 H A W .typed ((getD (h .berths) k fresh) .last) _ (last-of (getD (h .berths) k fresh) (berth-is h was k within)) .0)) $
+        assigns ! (bin ! (load ! (from ! (stop !)) (look ! 34 refl)) (lit ! tt) (record { fits = bytes-fit k within })) (from ! (stop !)) (store ! 22 refl (tt, record { fits = bytes-fit k within })) $
+        assigns ! (addr ! (from ! (hop ! (look ! 36 refl) (fld ! {τ = tyArray B′.mir 10} {d = 8} refl (stop !))))) (from ! (stop !)) (init ! 16 refl (tt, tt)) $
+        assigns ! (bin ! (load ! (from ! (stop !)) (look ! 16 refl)) (load ! (from ! (stop !)) (look ! 22 refl)) tt) (from ! (stop !)) (init ! 14 refl (tt, tt)) $ rewrite ! 14 (λ (m : ℕ). ‵ (fat fullShare tyPtr l₁₂ 0 (vptr b m))) (sym (place-is 52 (o + 8) k)) refl $
+        assigns ! (of-opd ! (load ! (from ! (hop ! (look ! 14 refl) (fld ! {τ = tyInt w32} {d = 20} refl (stop !)))) (look-in ! 0 (sub ! 1 {τ = tyInt w32} {d = 20} refl (item ! (us (h .berths)) k (FB .val fresh) (us-within h was k within) (us-length h was) (us-at (h .berths) k ∙ see-parts (getD (h .berths) k fresh)) (sub ! 2 {τ = tyArray B′.mir 10} {d = 8} refl (whole !))))))) (from ! (stop !)) (init ! 28 refl ((uint w32) .lawful 𝓤 H A W .typed ((getD (h .berths) k fresh) .last) _ (last-of (getD (h .berths) k fresh) (berth-is h was k within)) .0)) $
         -- let rx = node.berths[k].rx;
-        assigns ! (bin ! (load ! (from ! (stop !)) (look ! 28 refl)) (lit ! tt) (record { fits = bytes-fit k within })) (from ! (stop !)) (store ! 18 refl (tt, record { fits = bytes-fit k within })) $
-        assigns ! (addr ! (from ! (hop ! (look ! 30 refl) (fld ! {τ = tyArray B′.mir 10} {d = 12} refl (stop !))))) (from ! (stop !)) (init ! 12 refl (tt, tt)) $
-        assigns ! (bin ! (load ! (from ! (stop !)) (look ! 12 refl)) (load ! (from ! (stop !)) (look ! 18 refl)) tt) (from ! (stop !)) (init ! 10 refl (tt, tt)) $ rewrite ! 10 (λ (m : ℕ). ‵ (fat fullShare tyPtr l₁₁ 0 (vptr b m))) (sym (place-is 48 (o + 12) k)) refl $
-        assigns ! (of-opd ! (load ! (from ! (hop ! (look ! 10 refl) (fld ! {τ = R′.mir} {d = 0} refl (stop !)))) (look-in ! 0 (sub ! 0 {τ = R′.mir} {d = 0} refl (item ! (us (h .berths)) k (FB .val fresh) (us-within h was k within) (us-length h was) (us-at (h .berths) k ∙ see-parts (getD (h .berths) k fresh)) (sub ! 2 {τ = tyArray B′.mir 10} {d = 12} refl (whole !))))))) (from ! (stop !)) (init ! 22 refl (FR .lawful 𝓤 H A W .typed ((getD (h .berths) k fresh) .rx) _ (rx-of (getD (h .berths) k fresh) (berth-is h was k within)) .0)) $
-        -- if berth::ranges::rx_in_range(settings, last, rx) {
-        use0 W (raw (C1 𝓤 H A at-mem run .pre ((tt, tt, tt, ((h .settings), (((getD (h .berths) k fresh) .last), (((getD (h .berths) k fresh) .rx), tt))), (FG .val (h .settings) ∷ [], ((uint w32) .val ((getD (h .berths) k fresh) .last) ∷ [], (FR .val ((getD (h .berths) k fresh) .rx) ∷ [], tt)))), tt))) (goes-c1 (h .settings) ((getD (h .berths) k fresh) .last) ((getD (h .berths) k fresh) .rx) (settings-is h was) (last-of (getD (h .berths) k fresh) (berth-is h was k within)) (rx-of (getD (h .berths) k fresh) (berth-is h was k within))) $
-        calls-at ! fm (C1 𝓤 H A at-mem run) known-c1 ((tt, tt, tt, ((h .settings), (((getD (h .berths) k fresh) .last), (((getD (h .berths) k fresh) .rx), tt))), (FG .val (h .settings) ∷ [], ((uint w32) .val ((getD (h .berths) k fresh) .last) ∷ [], (FR .val ((getD (h .berths) k fresh) .rx) ∷ [], tt)))), tt) (and-then ! (load ! (from ! (stop !)) (look ! 27 refl)) (and-then ! (load ! (from ! (stop !)) (look ! 25 refl)) (and-then ! (load ! (from ! (stop !)) (look ! 23 refl)) (no-more !)))) (λ v1.
-        use1 W (later (some (λ (r : Bool). (‵ ftrue ⊛ ‵ (bool .own r (v1 ∷ []))) ⊛ raw (ensured 𝓤 H A c1.ended (c1.clauses 𝓤 H A at-mem run) tt ((h .settings), (((getD (h .berths) k fresh) .last), (((getD (h .berths) k fresh) .rx), tt))) tt r)))) (id⊢ 𝓤 _) $ await ! tt $ pick ! (λ r.
-        split ! $ move ! (1 ∷ []) $ use1 W (raw (fact 𝓤 (r ≡ rxInRange (h .settings) ((getD (h .berths) k fresh) .last) ((getD (h .berths) k fresh) .rx)))) (exE 𝓤 _ (λ ws. snd∗ 𝓤 (sem 𝓤 H A (lasts c1.ended tt ((h .settings), (((getD (h .berths) k fresh) .last), (((getD (h .berths) k fresh) .rx), tt))) ws)) (fact 𝓤 (r ≡ rxInRange (h .settings) ((getD (h .berths) k fresh) .last) ((getD (h .berths) k fresh) .rx))))) $ heard ! (r ≡ rxInRange (h .settings) ((getD (h .berths) k fresh) .last) ((getD (h .berths) k fresh) .rx)) (λ e. split ! $ drop ! $ returned ! boolean r v1 (λ is.
+        assigns ! (bin ! (load ! (from ! (stop !)) (look ! 34 refl)) (lit ! tt) (record { fits = bytes-fit k within })) (from ! (stop !)) (store ! 22 refl (tt, record { fits = bytes-fit k within })) $
+        assigns ! (addr ! (from ! (hop ! (look ! 36 refl) (fld ! {τ = tyArray B′.mir 10} {d = 8} refl (stop !))))) (from ! (stop !)) (init ! 12 refl (tt, tt)) $
+        assigns ! (bin ! (load ! (from ! (stop !)) (look ! 12 refl)) (load ! (from ! (stop !)) (look ! 22 refl)) tt) (from ! (stop !)) (init ! 10 refl (tt, tt)) $ rewrite ! 10 (λ (m : ℕ). ‵ (fat fullShare tyPtr l₁₄ 0 (vptr b m))) (sym (place-is 52 (o + 8) k)) refl $
+        assigns ! (of-opd ! (load ! (from ! (hop ! (look ! 10 refl) (fld ! {τ = R′.mir} {d = 0} refl (stop !)))) (look-in ! 0 (sub ! 0 {τ = R′.mir} {d = 0} refl (item ! (us (h .berths)) k (FB .val fresh) (us-within h was k within) (us-length h was) (us-at (h .berths) k ∙ see-parts (getD (h .berths) k fresh)) (sub ! 2 {τ = tyArray B′.mir 10} {d = 8} refl (whole !))))))) (from ! (stop !)) (init ! 26 refl (FR .lawful 𝓤 H A W .typed ((getD (h .berths) k fresh) .rx) _ (rx-of (getD (h .berths) k fresh) (berth-is h was k within)) .0)) $
+        -- if berth::ranges::receive_in_order(settings, own, last, rx) {
+        use0 W (raw (C1 𝓤 H A at-mem run .pre ((tt, tt, tt, ((h .settings), (((getD (h .berths) k fresh) .settings), (((getD (h .berths) k fresh) .last), (((getD (h .berths) k fresh) .rx), tt)))), (FG .val (h .settings) ∷ [], (FO .val ((getD (h .berths) k fresh) .settings) ∷ [], ((uint w32) .val ((getD (h .berths) k fresh) .last) ∷ [], (FR .val ((getD (h .berths) k fresh) .rx) ∷ [], tt))))), tt))) (goes-c1 (h .settings) ((getD (h .berths) k fresh) .settings) ((getD (h .berths) k fresh) .last) ((getD (h .berths) k fresh) .rx) (settings-is h was) (own-of (getD (h .berths) k fresh) (berth-is h was k within)) (last-of (getD (h .berths) k fresh) (berth-is h was k within)) (rx-of (getD (h .berths) k fresh) (berth-is h was k within))) $
+        calls-at ! fm (C1 𝓤 H A at-mem run) known-c1 ((tt, tt, tt, ((h .settings), (((getD (h .berths) k fresh) .settings), (((getD (h .berths) k fresh) .last), (((getD (h .berths) k fresh) .rx), tt)))), (FG .val (h .settings) ∷ [], (FO .val ((getD (h .berths) k fresh) .settings) ∷ [], ((uint w32) .val ((getD (h .berths) k fresh) .last) ∷ [], (FR .val ((getD (h .berths) k fresh) .rx) ∷ [], tt))))), tt) (and-then ! (load ! (from ! (stop !)) (look ! 33 refl)) (and-then ! (load ! (from ! (stop !)) (look ! 31 refl)) (and-then ! (load ! (from ! (stop !)) (look ! 29 refl)) (and-then ! (load ! (from ! (stop !)) (look ! 27 refl)) (no-more !))))) (λ v1.
+        use1 W (later (some (λ (r : Bool). (‵ ftrue ⊛ ‵ (bool .own r (v1 ∷ []))) ⊛ raw (ensured 𝓤 H A c1.ended (c1.clauses 𝓤 H A at-mem run) tt ((h .settings), (((getD (h .berths) k fresh) .settings), (((getD (h .berths) k fresh) .last), (((getD (h .berths) k fresh) .rx), tt)))) tt r)))) (id⊢ 𝓤 _) $ await ! tt $ pick ! (λ r.
+        split ! $ move ! (1 ∷ []) $ use1 W (raw (fact 𝓤 (r ≡ all (ownAllowed (((getD (h .berths) k fresh) .settings) .block) (((getD (h .berths) k fresh) .settings) .stmin) ∷ rxInRange (h .settings) (((getD (h .berths) k fresh) .settings) .block) ((getD (h .berths) k fresh) .last) ((getD (h .berths) k fresh) .rx) ∷ [])))) (exE 𝓤 _ (λ ws. snd∗ 𝓤 (sem 𝓤 H A (lasts c1.ended tt ((h .settings), (((getD (h .berths) k fresh) .settings), (((getD (h .berths) k fresh) .last), (((getD (h .berths) k fresh) .rx), tt)))) ws)) (fact 𝓤 (r ≡ all (ownAllowed (((getD (h .berths) k fresh) .settings) .block) (((getD (h .berths) k fresh) .settings) .stmin) ∷ rxInRange (h .settings) (((getD (h .berths) k fresh) .settings) .block) ((getD (h .berths) k fresh) .last) ((getD (h .berths) k fresh) .rx) ∷ []))))) $ heard ! (r ≡ all (ownAllowed (((getD (h .berths) k fresh) .settings) .block) (((getD (h .berths) k fresh) .settings) .stmin) ∷ rxInRange (h .settings) (((getD (h .berths) k fresh) .settings) .block) ((getD (h .berths) k fresh) .last) ((getD (h .berths) k fresh) .rx) ∷ [])) (λ e. split ! $ drop ! $ returned ! boolean r v1 (λ is.
         land ! (from ! (stop !)) (init ! 8 refl (boolean .lawful 𝓤 H A W .typed r _ is .0)) $
         first ! $ branches ! (load ! (from ! (stop !)) (look ! 8 refl))
         (λ yes.
         -- let tx = node.berths[k].tx;
-        assigns ! (bin ! (load ! (from ! (stop !)) (look ! 28 refl)) (lit ! tt) (record { fits = bytes-fit k within })) (from ! (stop !)) (init ! 6 refl (tt, record { fits = bytes-fit k within })) $
-        assigns ! (addr ! (from ! (hop ! (look ! 30 refl) (fld ! {τ = tyArray B′.mir 10} {d = 12} refl (stop !))))) (from ! (stop !)) (init ! 4 refl (tt, tt)) $
-        assigns ! (bin ! (load ! (from ! (stop !)) (look ! 4 refl)) (load ! (from ! (stop !)) (look ! 6 refl)) tt) (from ! (stop !)) (init ! 2 refl (tt, tt)) $ rewrite ! 2 (λ (m : ℕ). ‵ (fat fullShare tyPtr l₁₅ 0 (vptr b m))) (sym (place-is 48 (o + 12) k)) refl $
-        assigns ! (of-opd ! (load ! (from ! (hop ! (look ! 2 refl) (fld ! {τ = X′.mir} {d = 24} refl (stop !)))) (look-in ! 0 (sub ! 2 {τ = X′.mir} {d = 24} refl (item ! (us (h .berths)) k (FB .val fresh) (us-within h was k within) (us-length h was) (us-at (h .berths) k ∙ see-parts (getD (h .berths) k fresh)) (sub ! 2 {τ = tyArray B′.mir 10} {d = 12} refl (whole !))))))) (from ! (stop !)) (init ! 20 refl (FX .lawful 𝓤 H A W .typed ((getD (h .berths) k fresh) .tx) _ (tx-of (getD (h .berths) k fresh) (berth-is h was k within)) .0)) $
+        assigns ! (bin ! (load ! (from ! (stop !)) (look ! 34 refl)) (lit ! tt) (record { fits = bytes-fit k within })) (from ! (stop !)) (init ! 6 refl (tt, record { fits = bytes-fit k within })) $
+        assigns ! (addr ! (from ! (hop ! (look ! 36 refl) (fld ! {τ = tyArray B′.mir 10} {d = 8} refl (stop !))))) (from ! (stop !)) (init ! 4 refl (tt, tt)) $
+        assigns ! (bin ! (load ! (from ! (stop !)) (look ! 4 refl)) (load ! (from ! (stop !)) (look ! 6 refl)) tt) (from ! (stop !)) (init ! 2 refl (tt, tt)) $ rewrite ! 2 (λ (m : ℕ). ‵ (fat fullShare tyPtr l₁₈ 0 (vptr b m))) (sym (place-is 52 (o + 8) k)) refl $
+        assigns ! (of-opd ! (load ! (from ! (hop ! (look ! 2 refl) (fld ! {τ = X′.mir} {d = 24} refl (stop !)))) (look-in ! 0 (sub ! 2 {τ = X′.mir} {d = 24} refl (item ! (us (h .berths)) k (FB .val fresh) (us-within h was k within) (us-length h was) (us-at (h .berths) k ∙ see-parts (getD (h .berths) k fresh)) (sub ! 2 {τ = tyArray B′.mir 10} {d = 8} refl (whole !))))))) (from ! (stop !)) (init ! 24 refl (FX .lawful 𝓤 H A W .typed ((getD (h .berths) k fresh) .tx) _ (tx-of (getD (h .berths) k fresh) (berth-is h was k within)) .0)) $
         -- return berth::ranges::tx_in_range(settings, tx);
         use0 W (raw (C2 𝓤 H A at-mem run .pre ((tt, tt, tt, ((h .settings), (((getD (h .berths) k fresh) .tx), tt)), (FG .val (h .settings) ∷ [], (FX .val ((getD (h .berths) k fresh) .tx) ∷ [], tt))), tt))) (goes-c2 (h .settings) ((getD (h .berths) k fresh) .tx) (settings-is h was) (tx-of (getD (h .berths) k fresh) (berth-is h was k within))) $
-        calls-at ! fm (C2 𝓤 H A at-mem run) known-c2 ((tt, tt, tt, ((h .settings), (((getD (h .berths) k fresh) .tx), tt)), (FG .val (h .settings) ∷ [], (FX .val ((getD (h .berths) k fresh) .tx) ∷ [], tt))), tt) (and-then ! (load ! (from ! (stop !)) (look ! 27 refl)) (and-then ! (load ! (from ! (stop !)) (look ! 21 refl)) (no-more !))) (λ v2.
+        calls-at ! fm (C2 𝓤 H A at-mem run) known-c2 ((tt, tt, tt, ((h .settings), (((getD (h .berths) k fresh) .tx), tt)), (FG .val (h .settings) ∷ [], (FX .val ((getD (h .berths) k fresh) .tx) ∷ [], tt))), tt) (and-then ! (load ! (from ! (stop !)) (look ! 33 refl)) (and-then ! (load ! (from ! (stop !)) (look ! 25 refl)) (no-more !))) (λ v2.
         use1 W (later (some (λ (t : Bool). (‵ ftrue ⊛ ‵ (bool .own t (v2 ∷ []))) ⊛ raw (ensured 𝓤 H A c2.ended (c2.clauses 𝓤 H A at-mem run) tt ((h .settings), (((getD (h .berths) k fresh) .tx), tt)) tt t)))) (id⊢ 𝓤 _) $ await ! tt $ pick ! (λ t.
         split ! $ move ! (1 ∷ []) $ use1 W (raw (fact 𝓤 (t ≡ txInRange (h .settings) ((getD (h .berths) k fresh) .tx)))) (exE 𝓤 _ (λ ws. snd∗ 𝓤 (sem 𝓤 H A (lasts c2.ended tt ((h .settings), (((getD (h .berths) k fresh) .tx), tt)) ws)) (fact 𝓤 (t ≡ txInRange (h .settings) ((getD (h .berths) k fresh) .tx))))) $ heard ! (t ≡ txInRange (h .settings) ((getD (h .berths) k fresh) .tx)) (λ et. split ! $ drop ! $ returned ! boolean t v2 (λ t-is.
-        land ! (from ! (stop !)) (init ! 32 refl (boolean .lawful 𝓤 H A W .typed t _ t-is .0)) $
+        land ! (from ! (stop !)) (init ! 38 refl (boolean .lawful 𝓤 H A W .typed t _ t-is .0)) $
         use1 W (‵ (cellAt q′ (T.the-row .mir) (FT .val h ∷ []) b o)) (W .laws .at-raw q′ T′.mir b o (FT .val h)) $ shut ! tt FT q′ h b o was $
-        returns-within ! Post refl (look ! 31 refl) $ forget ! 1 refl $ forget ! 3 refl $ forget ! 5 refl $ forget ! 7 refl $ forget ! 9 refl $ forget ! 11 refl $ forget ! 13 refl $ forget ! 15 refl $ forget ! 17 refl $ forget ! 19 refl $ forget ! 21 refl $ forget ! 23 refl $ forget ! 25 refl $ forget ! 27 refl $ forget ! 29 refl $ forget ! 31 refl $
-        move ! (31 ∷ 32 ∷ []) $ free1 ! $ move ! (29 ∷ 30 ∷ []) $ free1 ! $ move ! (27 ∷ 28 ∷ []) $ free1 ! $ move ! (25 ∷ 26 ∷ []) $ free1 ! $ move ! (23 ∷ 24 ∷ []) $ free1 ! $ move ! (21 ∷ 22 ∷ []) $ free1 ! $ move ! (19 ∷ 20 ∷ []) $ free1 ! $ move ! (17 ∷ 18 ∷ []) $ free1 ! $ move ! (15 ∷ 16 ∷ []) $ free1 ! $ move ! (13 ∷ 14 ∷ []) $ free1 ! $ move ! (11 ∷ 12 ∷ []) $ free1 ! $ move ! (9 ∷ 10 ∷ []) $ free1 ! $ move ! (7 ∷ 8 ∷ []) $ free1 ! $ move ! (5 ∷ 6 ∷ []) $ free1 ! $ move ! (3 ∷ 4 ∷ []) $ free1 ! $ move ! (1 ∷ 2 ∷ []) $ free1 ! $ free0 ! $
+        returns-within ! Post refl (look ! 37 refl) $ forget ! 1 refl $ forget ! 3 refl $ forget ! 5 refl $ forget ! 7 refl $ forget ! 9 refl $ forget ! 11 refl $ forget ! 13 refl $ forget ! 15 refl $ forget ! 17 refl $ forget ! 19 refl $ forget ! 21 refl $ forget ! 23 refl $ forget ! 25 refl $ forget ! 27 refl $ forget ! 29 refl $ forget ! 31 refl $ forget ! 33 refl $ forget ! 35 refl $ forget ! 37 refl $
+        move ! (37 ∷ 38 ∷ []) $ free1 ! $ move ! (35 ∷ 36 ∷ []) $ free1 ! $ move ! (33 ∷ 34 ∷ []) $ free1 ! $ move ! (31 ∷ 32 ∷ []) $ free1 ! $ move ! (29 ∷ 30 ∷ []) $ free1 ! $ move ! (27 ∷ 28 ∷ []) $ free1 ! $ move ! (25 ∷ 26 ∷ []) $ free1 ! $ move ! (23 ∷ 24 ∷ []) $ free1 ! $ move ! (21 ∷ 22 ∷ []) $ free1 ! $ move ! (19 ∷ 20 ∷ []) $ free1 ! $ move ! (17 ∷ 18 ∷ []) $ free1 ! $ move ! (15 ∷ 16 ∷ []) $ free1 ! $ move ! (13 ∷ 14 ∷ []) $ free1 ! $ move ! (11 ∷ 12 ∷ []) $ free1 ! $ move ! (9 ∷ 10 ∷ []) $ free1 ! $ move ! (7 ∷ 8 ∷ []) $ free1 ! $ move ! (5 ∷ 6 ∷ []) $ free1 ! $ move ! (3 ∷ 4 ∷ []) $ free1 ! $ move ! (1 ∷ 2 ∷ []) $ free1 ! $ free0 ! $
         keep ! (0 ∷ 1 ∷ []) $ by ! (exits t (side-passes (h .settings) (getD (h .berths) k fresh) (sym e ∙ is-true r yes) et ∙ ap (berthInOrder (h .settings)) (sym (at-is h k))) t-is))))))
-        (λ no. skips ! $ exec ! C Λ _ body.t-12 (atRet _ Post) $
+        (λ no. skips ! $ exec ! C Λ _ body.t-16 (atRet _ Post) $
         -- false
-        assigns ! (of-opd ! (false-lit !)) (from ! (stop !)) (init ! 32 refl (tt, tt)) $
+        assigns ! (of-opd ! (false-lit !)) (from ! (stop !)) (init ! 38 refl (tt, tt)) $
         use1 W (‵ (cellAt q′ (T.the-row .mir) (FT .val h ∷ []) b o)) (W .laws .at-raw q′ T′.mir b o (FT .val h)) $ shut ! tt FT q′ h b o was $
-        returns ! (look ! 31 refl) $ forget ! 7 refl $ forget ! 9 refl $ forget ! 11 refl $ forget ! 13 refl $ forget ! 15 refl $ forget ! 17 refl $ forget ! 21 refl $ forget ! 23 refl $ forget ! 25 refl $ forget ! 27 refl $ forget ! 29 refl $ forget ! 31 refl $
-        move ! (31 ∷ 32 ∷ []) $ free1 ! $ move ! (29 ∷ 30 ∷ []) $ free1 ! $ move ! (27 ∷ 28 ∷ []) $ free1 ! $ move ! (25 ∷ 26 ∷ []) $ free1 ! $ move ! (23 ∷ 24 ∷ []) $ free1 ! $ move ! (21 ∷ 22 ∷ []) $ free1 ! $ move ! (19 ∷ 20 ∷ []) $ free1 ! $ move ! (17 ∷ 18 ∷ []) $ free1 ! $ move ! (15 ∷ 16 ∷ []) $ free1 ! $ move ! (13 ∷ 14 ∷ []) $ free1 ! $ move ! (11 ∷ 12 ∷ []) $ free1 ! $ move ! (9 ∷ 10 ∷ []) $ free1 ! $ move ! (7 ∷ 8 ∷ []) $ free1 ! $ move ! (5 ∷ 6 ∷ []) $ free1 ! $ move ! (3 ∷ 4 ∷ []) $ free1 ! $ move ! (1 ∷ 2 ∷ []) $ free1 ! $ free0 ! $
-        keep ! (0 ∷ 1 ∷ []) $ by ! (exits false (side-fails (h .settings) (getD (h .berths) k fresh) (sym e ∙ is-false r no) ∙ ap (berthInOrder (h .settings)) (sym (at-is h k))) refl)))))))))))))))))))))))
+        returns ! (look ! 37 refl) $ forget ! 7 refl $ forget ! 9 refl $ forget ! 11 refl $ forget ! 13 refl $ forget ! 15 refl $ forget ! 17 refl $ forget ! 19 refl $ forget ! 21 refl $ forget ! 25 refl $ forget ! 27 refl $ forget ! 29 refl $ forget ! 31 refl $ forget ! 33 refl $ forget ! 35 refl $ forget ! 37 refl $
+        move ! (37 ∷ 38 ∷ []) $ free1 ! $ move ! (35 ∷ 36 ∷ []) $ free1 ! $ move ! (33 ∷ 34 ∷ []) $ free1 ! $ move ! (31 ∷ 32 ∷ []) $ free1 ! $ move ! (29 ∷ 30 ∷ []) $ free1 ! $ move ! (27 ∷ 28 ∷ []) $ free1 ! $ move ! (25 ∷ 26 ∷ []) $ free1 ! $ move ! (23 ∷ 24 ∷ []) $ free1 ! $ move ! (21 ∷ 22 ∷ []) $ free1 ! $ move ! (19 ∷ 20 ∷ []) $ free1 ! $ move ! (17 ∷ 18 ∷ []) $ free1 ! $ move ! (15 ∷ 16 ∷ []) $ free1 ! $ move ! (13 ∷ 14 ∷ []) $ free1 ! $ move ! (11 ∷ 12 ∷ []) $ free1 ! $ move ! (9 ∷ 10 ∷ []) $ free1 ! $ move ! (7 ∷ 8 ∷ []) $ free1 ! $ move ! (5 ∷ 6 ∷ []) $ free1 ! $ move ! (3 ∷ 4 ∷ []) $ free1 ! $ move ! (1 ∷ 2 ∷ []) $ free1 ! $ free0 ! $
+        keep ! (0 ∷ 1 ∷ []) $ by ! (exits false (side-fails (h .settings) (getD (h .berths) k fresh) (sym e ∙ is-false r no) ∙ ap (berthInOrder (h .settings)) (sym (at-is h k))) refl))))))))))))))))))))))))))
 
 module _ {M : Type 1} (𝓤 : URA M) (H : Heap 𝓤) (A : Atoms 𝓤) (W : Given 𝓤 H A) (at-mem : Memory → SProp 𝓤) (run : Routine → Fun 𝓤) where
   walks : (𝓣 : Tables 𝓤 H) → FmC 𝓤 H (W .laws) (𝓣 .C) → Triple 𝓤 (𝓣 .C #c1) (C1 𝓤 H A at-mem run) → Triple 𝓤 (𝓣 .C #c2) (C2 𝓤 H A at-mem run) → Walks 𝓤 H A self.ended stayed (WpFn 𝓤 H (𝓣 .C) (𝓣 .Λ) code.function) (self.clauses 𝓤 H A at-mem run)
@@ -183,5 +192,5 @@ order-at-spec 𝓤 H 𝓜 𝓖 𝓡 =
     entered 𝓤 H (tripleOf 𝓤 H (𝓖 .A) self.signature (self.spec 𝓤 H (𝓖 .A) (𝓜 .mem) (𝓡 .run)))
     (tables 𝓤 H 𝓜 𝓡 code.env .C) (tables 𝓤 H 𝓜 𝓡 code.env .Λ) #self code.function (code.unfolded 𝓤 H 𝓜 𝓡)
     (meets 𝓤 H (𝓖 .A) (givenOf 𝓤 H 𝓜 𝓖) (𝓜 .mem) (𝓡 .run) (tablesOf 𝓤 H 𝓜 (tables 𝓤 H 𝓜 𝓡 code.env))
-    (cited 𝓤 H (C1 𝓤 H (𝓖 .A) (𝓜 .mem) (𝓡 .run)) 𝓜 𝓡 code.env #c1 c1-def.routine code.calls-berth·ranges·rx-in-range (c1-thm.met 𝓤 H 𝓜 𝓖 𝓡))
+    (cited 𝓤 H (C1 𝓤 H (𝓖 .A) (𝓜 .mem) (𝓡 .run)) 𝓜 𝓡 code.env #c1 c1-def.routine code.calls-berth·ranges·receive-in-order (c1-thm.met 𝓤 H 𝓜 𝓖 𝓡))
     (cited 𝓤 H (C2 𝓤 H (𝓖 .A) (𝓜 .mem) (𝓡 .run)) 𝓜 𝓡 code.env #c2 c2-def.routine code.calls-berth·ranges·tx-in-range (c2-thm.met 𝓤 H 𝓜 𝓖 𝓡)))

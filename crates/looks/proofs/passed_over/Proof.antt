@@ -114,7 +114,7 @@ module _ {M : Type 1} (𝓤 : URA M) (H : Heap 𝓤) (A : Atoms 𝓤) (W : Given
         pass1 ! (init ! 6 refl (tt, tt)) $ pass1 ! (init ! 4 refl ((uint w64) .lawful 𝓤 H A W .typed idle _ idle-is .0)) $ pass0 ! $
         move ! (10 ∷ 11 ∷ []) $ looked ! tt FT {h = h} b o (λ q′ was. use1 W (‵ (fat q′ T′.mir b o (FT .val h))) (W .laws .raw-at q′ T′.mir b o (FT .val h)) $
         -- let served = node.served;
-        assigns ! (of-opd ! (load ! (from ! (hop ! (look ! 8 refl) (fld ! {τ = tyInt w8} {d = 8} refl (stop !)))) (look-in ! 0 (sub ! 1 {τ = tyInt w8} {d = 8} refl (whole !))))) (from ! (stop !)) (init ! 4 refl ((uint w8) .lawful 𝓤 H A W .typed (h .served) _ (refl, served-fits h was) .0)) $
+        assigns ! (of-opd ! (load ! (from ! (hop ! (look ! 8 refl) (fld ! {τ = tyInt w8} {d = 4} refl (stop !)))) (look-in ! 0 (sub ! 1 {τ = tyInt w8} {d = 4} refl (whole !))))) (from ! (stop !)) (init ! 4 refl ((uint w8) .lawful 𝓤 H A W .typed (h .served) _ (refl, served-fits h was) .0)) $
         use1 W (‵ (cellAt q′ (T.the-row .mir) (FT .val h ∷ []) b o)) (W .laws .at-raw q′ T′.mir b o (FT .val h)) $ shut ! tt FT q′ h b o was $
         -- let bits = due_bits(node, idle);
         move ! (11 ∷ []) $ use1 W (‵ OwnP ⊛ ‵ OwnP) (shr-copy 𝓤 H A W (named 0) κ T.the-row .twice p (vptr b o ∷ [])) $ split ! $

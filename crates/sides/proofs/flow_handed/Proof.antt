@@ -9,8 +9,8 @@ use borrow.Author.Needs.{needs}
 use Rattle.sides.proofs.flow_handed.Statement.{statement}
 use Rattle.sides.proofs.flow_handed.Tie as tie
 
-met : (s : tie.Start) → let a = s .args in Ready (s .pre .1 .0) (a .settings) (a .at) (s .pre .1 .1 .1 .0) (now (a .buffer))
-met s = ready (s .pre .1 .1 .1 .1)
+met : (s : tie.Start) → let a = s .args in Ready (s .pre .1 .0) (s .pre .1 .1 .1 .0) (a .at) (s .pre .1 .1 .1 .1 .0) (now (a .buffer))
+met s = ready (s .pre .1 .1 .1 .1 .1)
 
 slice-relend-prefix-flow-frame : tie.Need-slice-relend-prefix-flow-frame
 slice-relend-prefix-flow-frame c = met (c .before) .room
@@ -34,7 +34,7 @@ returns : tie.Need-returns
 returns c = let laid = c .before .before .before .before in
     let s = laid .before .before .before in
     let eight : length (laid .flow-frame .last .1 .1 .0) ≡ frameSize = laid .flow-frame .kept .1 .1 .0 ∙ simp length-take (omega (arith, met s .room)) in
-    λ n cards outgoing side t. flow-hands t (s .args .rx) (s .pre .0) side (c .before .after-flow .result) (c .before .after-flow .ensures) _ (laid .flow-frame .ensures) eight (c .handed-over .result) (c .handed-over .ensures)
+    λ n cards settings outgoing its side t. flow-hands t (s .args .own) (s .args .rx) (s .pre .0) its side (c .before .after-flow .result) (c .before .after-flow .ensures) _ (laid .flow-frame .ensures) eight (c .handed-over .result) (c .handed-over .ensures)
 
 pub flow-handed-spec : {M : Type 1} → statement M
 flow-handed-spec =

@@ -11,7 +11,7 @@ use borrow.Author.Needs.{needs}
 use Rattle.sides.proofs.heard.Statement.{statement}
 use Rattle.sides.proofs.heard.Tie as tie
 
-met : (s : tie.Start) → let a = s .args in Hearable (a .settings) (a .at) (a .rx) (a .last) (now (a .incoming))
+met : (s : tie.Start) → let a = s .args in Hearable (a .settings) (a .own) (a .at) (a .rx) (a .last) (now (a .incoming))
 met s = hearable (s .pre .1 .1 .1)
 
 abbrev start : tie.After-rx-came → tie.Start
@@ -45,8 +45,8 @@ keep-requires : tie.Need-keep-requires
 keep-requires c κs = let t = c .before .before .before in
     (simp (length-take, length-drop) (omega (arith, fits t, c .before .before .area-start .ensures, met (start t) .store)), t .rx-came .ensures .within)
 
-cast-t17 : tie.Need-cast-t17
-cast-t17 c = omega (arith, met (start (c .before .before .before .before .before .before)) .mine)
+cast-t18 : tie.Need-cast-t18
+cast-t18 c = omega (arith, met (start (c .before .before .before .before .before .before)) .mine)
 
 same-length : tie.Need-same-length
 same-length c = search needs
@@ -75,6 +75,6 @@ heard-spec =
     part-keep-start
     part-keep-end
     keep-requires
-    cast-t17
+    cast-t18
     same-length
     returns)

@@ -16,8 +16,8 @@ blank-requires c κs = search needs
 loop-holds : tie.Need-loop-holds Inv-loop μ-loop
 loop-holds c = search needs
 
-busy-berth-requires : tie.Need-busy-berth-requires Inv-loop μ-loop
-busy-berth-requires c κs = search needs
+berth-at-requires : tie.Need-berth-at-requires Inv-loop μ-loop
+berth-at-requires c κs = search needs
 
 mul-t10 : tie.Need-mul-t10 Inv-loop μ-loop
 mul-t10 c = search needs
@@ -45,7 +45,7 @@ with-busy-spec =
     μ-loop
     blank-requires
     loop-holds
-    busy-berth-requires
+    berth-at-requires
     mul-t10
     element-set-from-n
     add-i

@@ -1,17 +1,21 @@
 -- The tests are those of the rule's list.
-use mathlib.Core.Bool.{and-assoc, and-true}
-use Rattle.rules.specs.Ranges.{settingsAllowed}
-use Rattle.rules.specs.Tests.{all}
+use mathlib.Core.Path.{ap₂}
+use mathlib.Core.Bool.{_&&_}
 use borrow.Author.Needs.{needs}
+use Rattle.rules.specs.Ranges.{settingsAllowed}
+use Rattle.berth.proofs.Chains.{both}
 use Rattle.berth.proofs.ranges.settings_allowed.Statement.{statement}
 use Rattle.berth.proofs.ranges.settings_allowed.Tie as tie
 
-stmin-allowed-requires : tie.Need-stmin-allowed-requires
-stmin-allowed-requires c κs = search needs
+area-allowed-requires : tie.Need-area-allowed-requires
+area-allowed-requires c κs = search needs
+
+own-allowed-requires : tie.Need-own-allowed-requires
+own-allowed-requires c κs = search needs
 
 returns : tie.Need-returns
-unfolding settingsAllowed all
-returns c = simp (c .stmin-allowed .ensures, and-assoc, and-true)
+unfolding settingsAllowed
+returns c = both _ _ (ap₂ _&&_ (c .before .area-allowed .ensures) (c .own-allowed .ensures))
 
 pub settings-allowed-spec : {M : Type 1} → statement M
-settings-allowed-spec = tie.close (tie.spec stmin-allowed-requires returns)
+settings-allowed-spec = tie.close (tie.spec area-allowed-requires own-allowed-requires returns)

@@ -94,15 +94,15 @@ module _ {M : Type 1} (𝓤 : URA M) (H : Heap 𝓤) (A : Atoms 𝓤) (W : Given
         move ! (20 ∷ 21 ∷ 22 ∷ []) $ opened ! tt FT {h = h} b o (λ was. use1 W (‵ (fat fullShare T′.mir b o (FT .val h))) (W .laws .raw-at fullShare T′.mir b o (FT .val h)) $
         -- node.berths[at].rx = rx;
         assigns ! (bin ! (load ! (from ! (stop !)) (look ! 18 refl)) (lit ! tt) (record { fits = bytes-fit j· within })) (from ! (stop !)) (init ! 12 refl (tt, record { fits = bytes-fit j· within })) $
-        assigns ! (addr ! (from ! (hop ! (look ! 20 refl) (fld ! {τ = tyArray B′.mir 10} {d = 12} refl (stop !))))) (from ! (stop !)) (init ! 10 refl (tt, tt)) $
-        assigns ! (bin ! (load ! (from ! (stop !)) (look ! 10 refl)) (load ! (from ! (stop !)) (look ! 12 refl)) tt) (from ! (stop !)) (init ! 8 refl (tt, tt)) $ rewrite ! 8 (λ (m : ℕ). ‵ (fat fullShare tyPtr l₇ 0 (vptr b m))) (sym (place-is 48 (o + 12) j·)) refl $
-        assigns ! (of-opd ! (load ! (from ! (stop !)) (look ! 16 refl))) (from ! (hop ! (look ! 8 refl) (fld ! {τ = R′.mir} {d = 0} refl (stop !)))) (store-in ! 0 (sub ! 0 {τ = R′.mir} {d = 0} refl (item ! (us (h .berths)) j· (FB .val fresh) (us-within h was j· within) (us-length h was) (us-at (h .berths) j· ∙ see-parts (getD (h .berths) j· fresh)) (sub ! 2 {τ = tyArray B′.mir 10} {d = 12} refl (whole !)))) (FR .lawful 𝓤 H A W .typed x· _ x·-is .0)) $
+        assigns ! (addr ! (from ! (hop ! (look ! 20 refl) (fld ! {τ = tyArray B′.mir 10} {d = 8} refl (stop !))))) (from ! (stop !)) (init ! 10 refl (tt, tt)) $
+        assigns ! (bin ! (load ! (from ! (stop !)) (look ! 10 refl)) (load ! (from ! (stop !)) (look ! 12 refl)) tt) (from ! (stop !)) (init ! 8 refl (tt, tt)) $ rewrite ! 8 (λ (m : ℕ). ‵ (fat fullShare tyPtr l₇ 0 (vptr b m))) (sym (place-is 52 (o + 8) j·)) refl $
+        assigns ! (of-opd ! (load ! (from ! (stop !)) (look ! 16 refl))) (from ! (hop ! (look ! 8 refl) (fld ! {τ = R′.mir} {d = 0} refl (stop !)))) (store-in ! 0 (sub ! 0 {τ = R′.mir} {d = 0} refl (item ! (us (h .berths)) j· (FB .val fresh) (us-within h was j· within) (us-length h was) (us-at (h .berths) j· ∙ see-parts (getD (h .berths) j· fresh)) (sub ! 2 {τ = tyArray B′.mir 10} {d = 8} refl (whole !)))) (FR .lawful 𝓤 H A W .typed x· _ x·-is .0)) $
         rewrite ! 0 (λ (ws : List Val). ‵ (fat fullShare T′.mir b o (valWith h (h .served) ws))) (us-set (h .berths) j· (put-rx·berth h j· x·)) refl $
         -- node.berths[at].last = last;
         assigns ! (bin ! (load ! (from ! (stop !)) (look ! 18 refl)) (lit ! tt) (record { fits = bytes-fit j· within })) (from ! (stop !)) (store ! 12 refl (tt, record { fits = bytes-fit j· within })) $
-        assigns ! (addr ! (from ! (hop ! (look ! 20 refl) (fld ! {τ = tyArray B′.mir 10} {d = 12} refl (stop !))))) (from ! (stop !)) (init ! 6 refl (tt, tt)) $
-        assigns ! (bin ! (load ! (from ! (stop !)) (look ! 6 refl)) (load ! (from ! (stop !)) (look ! 12 refl)) tt) (from ! (stop !)) (init ! 4 refl (tt, tt)) $ rewrite ! 4 (λ (m : ℕ). ‵ (fat fullShare tyPtr l₉ 0 (vptr b m))) (sym (place-is 48 (o + 12) j·)) refl $
-        assigns ! (of-opd ! (load ! (from ! (stop !)) (look ! 14 refl))) (from ! (hop ! (look ! 4 refl) (fld ! {τ = tyInt w32} {d = 20} refl (stop !)))) (store-in ! 0 (sub ! 1 {τ = tyInt w32} {d = 20} refl (item ! (us ((put-rx h j· x·) .berths)) j· (FB .val fresh) (us-within (put-rx h j· x·) (put-rx-is h was j· within x· x·-is) j· within) (us-length (put-rx h j· x·) (put-rx-is h was j· within x· x·-is)) (us-at ((put-rx h j· x·) .berths) j· ∙ see-parts (getD ((put-rx h j· x·) .berths) j· fresh)) (sub ! 2 {τ = tyArray B′.mir 10} {d = 12} refl (whole !)))) ((uint w32) .lawful 𝓤 H A W .typed l· _ l·-is .0)) $
+        assigns ! (addr ! (from ! (hop ! (look ! 20 refl) (fld ! {τ = tyArray B′.mir 10} {d = 8} refl (stop !))))) (from ! (stop !)) (init ! 6 refl (tt, tt)) $
+        assigns ! (bin ! (load ! (from ! (stop !)) (look ! 6 refl)) (load ! (from ! (stop !)) (look ! 12 refl)) tt) (from ! (stop !)) (init ! 4 refl (tt, tt)) $ rewrite ! 4 (λ (m : ℕ). ‵ (fat fullShare tyPtr l₉ 0 (vptr b m))) (sym (place-is 52 (o + 8) j·)) refl $
+        assigns ! (of-opd ! (load ! (from ! (stop !)) (look ! 14 refl))) (from ! (hop ! (look ! 4 refl) (fld ! {τ = tyInt w32} {d = 20} refl (stop !)))) (store-in ! 0 (sub ! 1 {τ = tyInt w32} {d = 20} refl (item ! (us ((put-rx h j· x·) .berths)) j· (FB .val fresh) (us-within (put-rx h j· x·) (put-rx-is h was j· within x· x·-is) j· within) (us-length (put-rx h j· x·) (put-rx-is h was j· within x· x·-is)) (us-at ((put-rx h j· x·) .berths) j· ∙ see-parts (getD ((put-rx h j· x·) .berths) j· fresh)) (sub ! 2 {τ = tyArray B′.mir 10} {d = 8} refl (whole !)))) ((uint w32) .lawful 𝓤 H A W .typed l· _ l·-is .0)) $
         rewrite ! 0 (λ (ws : List Val). ‵ (fat fullShare T′.mir b o (valWith (put-rx h j· x·) ((put-rx h j· x·) .served) ws))) (us-set ((put-rx h j· x·) .berths) j· (put-last·berth (put-rx h j· x·) j· l·)) refl $
         -- }
         assigns ! (of-opd ! (unit-lit !)) (from ! (stop !)) (init ! 22 refl (unit .lawful 𝓤 H A W .typed tt _ refl .0)) $

@@ -95,12 +95,12 @@ module _ {M : Type 1} (𝓤 : URA M) (H : Heap 𝓤) (A : Atoms 𝓤) (W : Given
         move ! (16 ∷ 17 ∷ 18 ∷ []) $ opened ! tt FT {h = h} b o (λ was. use1 W (‵ (fat fullShare T′.mir b o (FT .val h))) (W .laws .raw-at fullShare T′.mir b o (FT .val h)) $
         -- node.served = at as u8;
         assigns ! (un ! (load ! (from ! (stop !)) (look ! 14 refl)) (record { fits = byte-fits within })) (from ! (stop !)) (init ! 10 refl (tt, record { fits = byte-fits within })) $
-        assigns ! (of-opd ! (load ! (from ! (stop !)) (look ! 10 refl))) (from ! (hop ! (look ! 16 refl) (fld ! {τ = tyInt w8} {d = 8} refl (stop !)))) (store-in ! 0 (sub ! 1 {τ = tyInt w8} {d = 8} refl (whole !)) ((uint w8) .lawful 𝓤 H A W .typed j· _ (refl, byte-fits within) .0)) $
+        assigns ! (of-opd ! (load ! (from ! (stop !)) (look ! 10 refl))) (from ! (hop ! (look ! 16 refl) (fld ! {τ = tyInt w8} {d = 4} refl (stop !)))) (store-in ! 0 (sub ! 1 {τ = tyInt w8} {d = 4} refl (whole !)) ((uint w8) .lawful 𝓤 H A W .typed j· _ (refl, byte-fits within) .0)) $
         -- node.berths[at].rx = rx;
         assigns ! (bin ! (load ! (from ! (stop !)) (look ! 14 refl)) (lit ! tt) (record { fits = bytes-fit j· within })) (from ! (stop !)) (init ! 8 refl (tt, record { fits = bytes-fit j· within })) $
-        assigns ! (addr ! (from ! (hop ! (look ! 16 refl) (fld ! {τ = tyArray B′.mir 10} {d = 12} refl (stop !))))) (from ! (stop !)) (init ! 6 refl (tt, tt)) $
-        assigns ! (bin ! (load ! (from ! (stop !)) (look ! 6 refl)) (load ! (from ! (stop !)) (look ! 8 refl)) tt) (from ! (stop !)) (init ! 4 refl (tt, tt)) $ rewrite ! 4 (λ (m : ℕ). ‵ (fat fullShare tyPtr l₇ 0 (vptr b m))) (sym (place-is 48 (o + 12) j·)) refl $
-        assigns ! (of-opd ! (load ! (from ! (stop !)) (look ! 12 refl))) (from ! (hop ! (look ! 4 refl) (fld ! {τ = R′.mir} {d = 0} refl (stop !)))) (store-in ! 0 (sub ! 0 {τ = R′.mir} {d = 0} refl (item ! (us ((put-served h j·) .berths)) j· (FB .val fresh) (us-within (put-served h j·) (put-served-is h was j· (refl, byte-fits within)) j· within) (us-length (put-served h j·) (put-served-is h was j· (refl, byte-fits within))) (us-at ((put-served h j·) .berths) j· ∙ see-parts (getD ((put-served h j·) .berths) j· fresh)) (sub ! 2 {τ = tyArray B′.mir 10} {d = 12} refl (whole !)))) (FR .lawful 𝓤 H A W .typed x· _ x·-is .0)) $
+        assigns ! (addr ! (from ! (hop ! (look ! 16 refl) (fld ! {τ = tyArray B′.mir 10} {d = 8} refl (stop !))))) (from ! (stop !)) (init ! 6 refl (tt, tt)) $
+        assigns ! (bin ! (load ! (from ! (stop !)) (look ! 6 refl)) (load ! (from ! (stop !)) (look ! 8 refl)) tt) (from ! (stop !)) (init ! 4 refl (tt, tt)) $ rewrite ! 4 (λ (m : ℕ). ‵ (fat fullShare tyPtr l₇ 0 (vptr b m))) (sym (place-is 52 (o + 8) j·)) refl $
+        assigns ! (of-opd ! (load ! (from ! (stop !)) (look ! 12 refl))) (from ! (hop ! (look ! 4 refl) (fld ! {τ = R′.mir} {d = 0} refl (stop !)))) (store-in ! 0 (sub ! 0 {τ = R′.mir} {d = 0} refl (item ! (us ((put-served h j·) .berths)) j· (FB .val fresh) (us-within (put-served h j·) (put-served-is h was j· (refl, byte-fits within)) j· within) (us-length (put-served h j·) (put-served-is h was j· (refl, byte-fits within))) (us-at ((put-served h j·) .berths) j· ∙ see-parts (getD ((put-served h j·) .berths) j· fresh)) (sub ! 2 {τ = tyArray B′.mir 10} {d = 8} refl (whole !)))) (FR .lawful 𝓤 H A W .typed x· _ x·-is .0)) $
         rewrite ! 0 (λ (ws : List Val). ‵ (fat fullShare T′.mir b o (valWith (put-served h j·) ((put-served h j·) .served) ws))) (us-set ((put-served h j·) .berths) j· (put-rx·berth (put-served h j·) j· x·)) refl $
         -- }
         assigns ! (of-opd ! (unit-lit !)) (from ! (stop !)) (init ! 18 refl (unit .lawful 𝓤 H A W .typed tt _ refl .0)) $

@@ -94,9 +94,9 @@ module _ {M : Type 1} (𝓤 : URA M) (H : Heap 𝓤) (A : Atoms 𝓤) (W : Given
         move ! (14 ∷ 15 ∷ 16 ∷ []) $ opened ! tt FT {h = h} b o (λ was. use1 W (‵ (fat fullShare T′.mir b o (FT .val h))) (W .laws .raw-at fullShare T′.mir b o (FT .val h)) $
         -- node.berths[at].tx = tx;
         assigns ! (bin ! (load ! (from ! (stop !)) (look ! 12 refl)) (lit ! tt) (record { fits = bytes-fit j· within })) (from ! (stop !)) (init ! 8 refl (tt, record { fits = bytes-fit j· within })) $
-        assigns ! (addr ! (from ! (hop ! (look ! 14 refl) (fld ! {τ = tyArray B′.mir 10} {d = 12} refl (stop !))))) (from ! (stop !)) (init ! 6 refl (tt, tt)) $
-        assigns ! (bin ! (load ! (from ! (stop !)) (look ! 6 refl)) (load ! (from ! (stop !)) (look ! 8 refl)) tt) (from ! (stop !)) (init ! 4 refl (tt, tt)) $ rewrite ! 4 (λ (m : ℕ). ‵ (fat fullShare tyPtr l₆ 0 (vptr b m))) (sym (place-is 48 (o + 12) j·)) refl $
-        assigns ! (of-opd ! (load ! (from ! (stop !)) (look ! 10 refl))) (from ! (hop ! (look ! 4 refl) (fld ! {τ = X′.mir} {d = 24} refl (stop !)))) (store-in ! 0 (sub ! 2 {τ = X′.mir} {d = 24} refl (item ! (us (h .berths)) j· (FB .val fresh) (us-within h was j· within) (us-length h was) (us-at (h .berths) j· ∙ see-parts (getD (h .berths) j· fresh)) (sub ! 2 {τ = tyArray B′.mir 10} {d = 12} refl (whole !)))) (FX .lawful 𝓤 H A W .typed x· _ x·-is .0)) $
+        assigns ! (addr ! (from ! (hop ! (look ! 14 refl) (fld ! {τ = tyArray B′.mir 10} {d = 8} refl (stop !))))) (from ! (stop !)) (init ! 6 refl (tt, tt)) $
+        assigns ! (bin ! (load ! (from ! (stop !)) (look ! 6 refl)) (load ! (from ! (stop !)) (look ! 8 refl)) tt) (from ! (stop !)) (init ! 4 refl (tt, tt)) $ rewrite ! 4 (λ (m : ℕ). ‵ (fat fullShare tyPtr l₆ 0 (vptr b m))) (sym (place-is 52 (o + 8) j·)) refl $
+        assigns ! (of-opd ! (load ! (from ! (stop !)) (look ! 10 refl))) (from ! (hop ! (look ! 4 refl) (fld ! {τ = X′.mir} {d = 24} refl (stop !)))) (store-in ! 0 (sub ! 2 {τ = X′.mir} {d = 24} refl (item ! (us (h .berths)) j· (FB .val fresh) (us-within h was j· within) (us-length h was) (us-at (h .berths) j· ∙ see-parts (getD (h .berths) j· fresh)) (sub ! 2 {τ = tyArray B′.mir 10} {d = 8} refl (whole !)))) (FX .lawful 𝓤 H A W .typed x· _ x·-is .0)) $
         rewrite ! 0 (λ (ws : List Val). ‵ (fat fullShare T′.mir b o (valWith h (h .served) ws))) (us-set (h .berths) j· (put-tx·berth h j· x·)) refl $
         -- }
         assigns ! (of-opd ! (unit-lit !)) (from ! (stop !)) (init ! 16 refl (unit .lawful 𝓤 H A W .typed tt _ refl .0)) $

@@ -110,9 +110,9 @@ module _ {M : Type 1} (𝓤 : URA M) (H : Heap 𝓤) (A : Atoms 𝓤) (W : Given
         assigns ! (bin ! (load ! (from ! (stop !)) (look ! 24 refl)) (lit ! tt) (record { fits = next-fits t less })) (from ! (stop !)) (init ! 20 refl (tt, record { fits = next-fits t less })) $
         assigns ! (agg ! (and-then ! (lit ! tt) (and-then ! (load ! (from ! (stop !)) (look ! 26 refl)) (and-then ! (load ! (from ! (stop !)) (look ! 20 refl)) (no-more !))))) (from ! (stop !)) (init ! 18 refl (FR .lawful 𝓤 H A W .typed (Rx.Awaits p· (t + 1)) _ (EL.owes R.the-type R′.the-laws (Rx.Awaits p· (t + 1)) (p·-is, ((refl, next-fits t less), tt))) .0)) $
         assigns ! (bin ! (load ! (from ! (stop !)) (look ! 28 refl)) (lit ! tt) (record { fits = bytes-fit k (within .0) })) (from ! (stop !)) (init ! 16 refl (tt, record { fits = bytes-fit k (within .0) })) $
-        assigns ! (addr ! (from ! (hop ! (look ! 30 refl) (fld ! {τ = tyArray B′.mir 10} {d = 12} refl (stop !))))) (from ! (stop !)) (init ! 14 refl (tt, tt)) $
-        assigns ! (bin ! (load ! (from ! (stop !)) (look ! 14 refl)) (load ! (from ! (stop !)) (look ! 16 refl)) tt) (from ! (stop !)) (init ! 12 refl (tt, tt)) $ rewrite ! 12 (λ (m : ℕ). ‵ (fat fullShare tyPtr l₁₀ 0 (vptr b m))) (sym (place-is 48 (o + 12) k)) refl $
-        assigns ! (of-opd ! (load ! (from ! (stop !)) (look ! 18 refl))) (from ! (hop ! (look ! 12 refl) (fld ! {τ = R′.mir} {d = 0} refl (stop !)))) (store-in ! 0 (sub ! 0 {τ = R′.mir} {d = 0} refl (item ! (us (h .berths)) k (FB .val fresh) (us-within h was k (within .0)) (us-length h was) (us-at (h .berths) k ∙ see-parts (getD (h .berths) k fresh)) (sub ! 2 {τ = tyArray B′.mir 10} {d = 12} refl (whole !)))) (FR .lawful 𝓤 H A W .typed (Rx.Awaits p· (t + 1)) _ (EL.owes R.the-type R′.the-laws (Rx.Awaits p· (t + 1)) (p·-is, ((refl, next-fits t less), tt))) .0)) $
+        assigns ! (addr ! (from ! (hop ! (look ! 30 refl) (fld ! {τ = tyArray B′.mir 10} {d = 8} refl (stop !))))) (from ! (stop !)) (init ! 14 refl (tt, tt)) $
+        assigns ! (bin ! (load ! (from ! (stop !)) (look ! 14 refl)) (load ! (from ! (stop !)) (look ! 16 refl)) tt) (from ! (stop !)) (init ! 12 refl (tt, tt)) $ rewrite ! 12 (λ (m : ℕ). ‵ (fat fullShare tyPtr l₁₀ 0 (vptr b m))) (sym (place-is 52 (o + 8) k)) refl $
+        assigns ! (of-opd ! (load ! (from ! (stop !)) (look ! 18 refl))) (from ! (hop ! (look ! 12 refl) (fld ! {τ = R′.mir} {d = 0} refl (stop !)))) (store-in ! 0 (sub ! 0 {τ = R′.mir} {d = 0} refl (item ! (us (h .berths)) k (FB .val fresh) (us-within h was k (within .0)) (us-length h was) (us-at (h .berths) k ∙ see-parts (getD (h .berths) k fresh)) (sub ! 2 {τ = tyArray B′.mir 10} {d = 8} refl (whole !)))) (FR .lawful 𝓤 H A W .typed (Rx.Awaits p· (t + 1)) _ (EL.owes R.the-type R′.the-laws (Rx.Awaits p· (t + 1)) (p·-is, ((refl, next-fits t less), tt))) .0)) $
         rewrite ! 0 (λ (ws : List Val). ‵ (fat fullShare T′.mir b o (valWith h (h .served) ws))) (us-set (h .berths) k (put-rx·berth h k (Rx.Awaits p· (t + 1)))) refl $
         assigns ! (of-opd ! (lit ! tt)) (from ! (stop !)) (init ! 32 refl ((uint w8) .lawful 𝓤 H A W .typed 0 _ (refl, lit< tt) .0)) $
         use1 W (‵ (cellAt fullShare (T.the-row .mir) (FT .val (put-rx h k (Rx.Awaits p· (t + 1))) ∷ []) b o)) (W .laws .at-raw fullShare T′.mir b o (FT .val (put-rx h k (Rx.Awaits p· (t + 1))))) $ closed ! tt FT (put-rx h k (Rx.Awaits p· (t + 1))) b o (put-rx-is h was k (within .0) (Rx.Awaits p· (t + 1)) (EL.owes R.the-type R′.the-laws (Rx.Awaits p· (t + 1)) (p·-is, ((refl, next-fits t less), tt)))) $
@@ -124,9 +124,9 @@ module _ {M : Type 1} (𝓤 : URA M) (H : Heap 𝓤) (A : Atoms 𝓤) (W : Given
         exec ! C Λ (env-of body.locals (l₀ ∷ l₁ ∷ l₂ ∷ l₃ ∷ l₄ ∷ l₅ ∷ l₆ ∷ l₇ ∷ l₈ ∷ l₉ ∷ l₁₀ ∷ l₁₁ ∷ l₁₂ ∷ l₁₃ ∷ l₁₄ ∷ [])) (body.t-3) (atRet (env-of body.locals (l₀ ∷ l₁ ∷ l₂ ∷ l₃ ∷ l₄ ∷ l₅ ∷ l₆ ∷ l₇ ∷ l₈ ∷ l₉ ∷ l₁₀ ∷ l₁₁ ∷ l₁₂ ∷ l₁₃ ∷ l₁₄ ∷ [])) Post) $
         assigns ! (agg ! (and-then ! (lit ! tt) (no-more !))) (from ! (stop !)) (init ! 10 refl (FR .lawful 𝓤 H A W .typed Rx.Idle _ (EL.owes R.the-type R′.the-laws Rx.Idle tt) .0)) $
         assigns ! (bin ! (load ! (from ! (stop !)) (look ! 28 refl)) (lit ! tt) (record { fits = bytes-fit k (within .0) })) (from ! (stop !)) (init ! 8 refl (tt, record { fits = bytes-fit k (within .0) })) $
-        assigns ! (addr ! (from ! (hop ! (look ! 30 refl) (fld ! {τ = tyArray B′.mir 10} {d = 12} refl (stop !))))) (from ! (stop !)) (init ! 6 refl (tt, tt)) $
-        assigns ! (bin ! (load ! (from ! (stop !)) (look ! 6 refl)) (load ! (from ! (stop !)) (look ! 8 refl)) tt) (from ! (stop !)) (init ! 4 refl (tt, tt)) $ rewrite ! 4 (λ (m : ℕ). ‵ (fat fullShare tyPtr l₁₄ 0 (vptr b m))) (sym (place-is 48 (o + 12) k)) refl $
-        assigns ! (of-opd ! (load ! (from ! (stop !)) (look ! 10 refl))) (from ! (hop ! (look ! 4 refl) (fld ! {τ = R′.mir} {d = 0} refl (stop !)))) (store-in ! 0 (sub ! 0 {τ = R′.mir} {d = 0} refl (item ! (us (h .berths)) k (FB .val fresh) (us-within h was k (within .0)) (us-length h was) (us-at (h .berths) k ∙ see-parts (getD (h .berths) k fresh)) (sub ! 2 {τ = tyArray B′.mir 10} {d = 12} refl (whole !)))) (FR .lawful 𝓤 H A W .typed Rx.Idle _ (EL.owes R.the-type R′.the-laws Rx.Idle tt) .0)) $
+        assigns ! (addr ! (from ! (hop ! (look ! 30 refl) (fld ! {τ = tyArray B′.mir 10} {d = 8} refl (stop !))))) (from ! (stop !)) (init ! 6 refl (tt, tt)) $
+        assigns ! (bin ! (load ! (from ! (stop !)) (look ! 6 refl)) (load ! (from ! (stop !)) (look ! 8 refl)) tt) (from ! (stop !)) (init ! 4 refl (tt, tt)) $ rewrite ! 4 (λ (m : ℕ). ‵ (fat fullShare tyPtr l₁₄ 0 (vptr b m))) (sym (place-is 52 (o + 8) k)) refl $
+        assigns ! (of-opd ! (load ! (from ! (stop !)) (look ! 10 refl))) (from ! (hop ! (look ! 4 refl) (fld ! {τ = R′.mir} {d = 0} refl (stop !)))) (store-in ! 0 (sub ! 0 {τ = R′.mir} {d = 0} refl (item ! (us (h .berths)) k (FB .val fresh) (us-within h was k (within .0)) (us-length h was) (us-at (h .berths) k ∙ see-parts (getD (h .berths) k fresh)) (sub ! 2 {τ = tyArray B′.mir 10} {d = 8} refl (whole !)))) (FR .lawful 𝓤 H A W .typed Rx.Idle _ (EL.owes R.the-type R′.the-laws Rx.Idle tt) .0)) $
         rewrite ! 0 (λ (ws : List Val). ‵ (fat fullShare T′.mir b o (valWith h (h .served) ws))) (us-set (h .berths) k (put-rx·berth h k Rx.Idle)) refl $
         assigns ! (of-opd ! (lit ! tt)) (from ! (stop !)) (init ! 32 refl ((uint w8) .lawful 𝓤 H A W .typed 4 _ (refl, lit< tt) .0)) $
         use1 W (‵ (cellAt fullShare (T.the-row .mir) (FT .val (put-rx h k Rx.Idle) ∷ []) b o)) (W .laws .at-raw fullShare T′.mir b o (FT .val (put-rx h k Rx.Idle))) $ closed ! tt FT (put-rx h k Rx.Idle) b o (put-rx-is h was k (within .0) Rx.Idle (EL.owes R.the-type R′.the-laws Rx.Idle tt)) $

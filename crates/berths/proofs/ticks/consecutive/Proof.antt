@@ -130,9 +130,9 @@ module _ {M : Type 1} (𝓤 : URA M) (H : Heap 𝓤) (A : Atoms 𝓤) (W : Given
         drop ! $
         assigns ! (agg ! (and-then ! (lit ! tt) (and-then ! (load ! (from ! (stop !)) (look ! 30 refl)) (and-then ! (load ! (from ! (stop !)) (look ! 34 refl)) (no-more !))))) (from ! (stop !)) (init ! 28 refl (FX .lawful 𝓤 H A W .typed (Tx.Consecutive q· t) _ (EL.owes X.the-type X′.the-laws (Tx.Consecutive q· t) (q-is, (t-is, tt))) .0)) $
         assigns ! (bin ! (load ! (from ! (stop !)) (look ! 38 refl)) (lit ! tt) (record { fits = bytes-fit k (within .0) })) (from ! (stop !)) (init ! 26 refl (tt, record { fits = bytes-fit k (within .0) })) $
-        assigns ! (addr ! (from ! (hop ! (look ! 40 refl) (fld ! {τ = tyArray B′.mir 10} {d = 12} refl (stop !))))) (from ! (stop !)) (init ! 24 refl (tt, tt)) $
-        assigns ! (bin ! (load ! (from ! (stop !)) (look ! 24 refl)) (load ! (from ! (stop !)) (look ! 26 refl)) tt) (from ! (stop !)) (init ! 22 refl (tt, tt)) $ rewrite ! 22 (λ (m : ℕ). ‵ (fat fullShare tyPtr l₁₀ 0 (vptr b m))) (sym (place-is 48 (o + 12) k)) refl $
-        assigns ! (of-opd ! (load ! (from ! (stop !)) (look ! 28 refl))) (from ! (hop ! (look ! 22 refl) (fld ! {τ = X′.mir} {d = 24} refl (stop !)))) (store-in ! 0 (sub ! 2 {τ = X′.mir} {d = 24} refl (item ! (us (h .berths)) k (FB .val fresh) (us-within h was k (within .0)) (us-length h was) (us-at (h .berths) k ∙ see-parts (getD (h .berths) k fresh)) (sub ! 2 {τ = tyArray B′.mir 10} {d = 12} refl (whole !)))) (FX .lawful 𝓤 H A W .typed (Tx.Consecutive q· t) _ (EL.owes X.the-type X′.the-laws (Tx.Consecutive q· t) (q-is, (t-is, tt))) .0)) $
+        assigns ! (addr ! (from ! (hop ! (look ! 40 refl) (fld ! {τ = tyArray B′.mir 10} {d = 8} refl (stop !))))) (from ! (stop !)) (init ! 24 refl (tt, tt)) $
+        assigns ! (bin ! (load ! (from ! (stop !)) (look ! 24 refl)) (load ! (from ! (stop !)) (look ! 26 refl)) tt) (from ! (stop !)) (init ! 22 refl (tt, tt)) $ rewrite ! 22 (λ (m : ℕ). ‵ (fat fullShare tyPtr l₁₀ 0 (vptr b m))) (sym (place-is 52 (o + 8) k)) refl $
+        assigns ! (of-opd ! (load ! (from ! (stop !)) (look ! 28 refl))) (from ! (hop ! (look ! 22 refl) (fld ! {τ = X′.mir} {d = 24} refl (stop !)))) (store-in ! 0 (sub ! 2 {τ = X′.mir} {d = 24} refl (item ! (us (h .berths)) k (FB .val fresh) (us-within h was k (within .0)) (us-length h was) (us-at (h .berths) k ∙ see-parts (getD (h .berths) k fresh)) (sub ! 2 {τ = tyArray B′.mir 10} {d = 8} refl (whole !)))) (FX .lawful 𝓤 H A W .typed (Tx.Consecutive q· t) _ (EL.owes X.the-type X′.the-laws (Tx.Consecutive q· t) (q-is, (t-is, tt))) .0)) $
         rewrite ! 0 (λ (ws : List Val). ‵ (fat fullShare T′.mir b o (valWith h (h .served) ws))) (us-set (h .berths) k (put-tx·berth h k (Tx.Consecutive q· t))) refl $
         assigns ! (of-opd ! (lit ! tt)) (from ! (stop !)) (init ! 42 refl ((uint w8) .lawful 𝓤 H A W .typed 0 _ (refl, lit< tt) .0)) $
         use1 W (‵ (cellAt fullShare (T.the-row .mir) (FT .val (put-tx h k (Tx.Consecutive q· t)) ∷ []) b o)) (W .laws .at-raw fullShare T′.mir b o (FT .val (put-tx h k (Tx.Consecutive q· t)))) $ closed ! tt FT (put-tx h k (Tx.Consecutive q· t)) b o (put-tx-is h was k (within .0) (Tx.Consecutive q· t) (EL.owes X.the-type X′.the-laws (Tx.Consecutive q· t) (q-is, (t-is, tt)))) $
@@ -148,9 +148,9 @@ module _ {M : Type 1} (𝓤 : URA M) (H : Heap 𝓤) (A : Atoms 𝓤) (W : Given
         assigns ! (bin ! (load ! (from ! (stop !)) (look ! 34 refl)) (lit ! tt) (record { fits = next-fits t less })) (from ! (stop !)) (init ! 20 refl (tt, record { fits = next-fits t less })) $
         assigns ! (agg ! (and-then ! (lit ! tt) (and-then ! (load ! (from ! (stop !)) (look ! 36 refl)) (and-then ! (load ! (from ! (stop !)) (look ! 20 refl)) (no-more !))))) (from ! (stop !)) (init ! 18 refl (FX .lawful 𝓤 H A W .typed (Tx.Consecutive o· (t + 1)) _ (EL.owes X.the-type X′.the-laws (Tx.Consecutive o· (t + 1)) (o·-is, ((refl, next-fits t less), tt))) .0)) $
         assigns ! (bin ! (load ! (from ! (stop !)) (look ! 38 refl)) (lit ! tt) (record { fits = bytes-fit k (within .0) })) (from ! (stop !)) (init ! 16 refl (tt, record { fits = bytes-fit k (within .0) })) $
-        assigns ! (addr ! (from ! (hop ! (look ! 40 refl) (fld ! {τ = tyArray B′.mir 10} {d = 12} refl (stop !))))) (from ! (stop !)) (init ! 14 refl (tt, tt)) $
-        assigns ! (bin ! (load ! (from ! (stop !)) (look ! 14 refl)) (load ! (from ! (stop !)) (look ! 16 refl)) tt) (from ! (stop !)) (init ! 12 refl (tt, tt)) $ rewrite ! 12 (λ (m : ℕ). ‵ (fat fullShare tyPtr l₁₅ 0 (vptr b m))) (sym (place-is 48 (o + 12) k)) refl $
-        assigns ! (of-opd ! (load ! (from ! (stop !)) (look ! 18 refl))) (from ! (hop ! (look ! 12 refl) (fld ! {τ = X′.mir} {d = 24} refl (stop !)))) (store-in ! 0 (sub ! 2 {τ = X′.mir} {d = 24} refl (item ! (us (h .berths)) k (FB .val fresh) (us-within h was k (within .0)) (us-length h was) (us-at (h .berths) k ∙ see-parts (getD (h .berths) k fresh)) (sub ! 2 {τ = tyArray B′.mir 10} {d = 12} refl (whole !)))) (FX .lawful 𝓤 H A W .typed (Tx.Consecutive o· (t + 1)) _ (EL.owes X.the-type X′.the-laws (Tx.Consecutive o· (t + 1)) (o·-is, ((refl, next-fits t less), tt))) .0)) $
+        assigns ! (addr ! (from ! (hop ! (look ! 40 refl) (fld ! {τ = tyArray B′.mir 10} {d = 8} refl (stop !))))) (from ! (stop !)) (init ! 14 refl (tt, tt)) $
+        assigns ! (bin ! (load ! (from ! (stop !)) (look ! 14 refl)) (load ! (from ! (stop !)) (look ! 16 refl)) tt) (from ! (stop !)) (init ! 12 refl (tt, tt)) $ rewrite ! 12 (λ (m : ℕ). ‵ (fat fullShare tyPtr l₁₅ 0 (vptr b m))) (sym (place-is 52 (o + 8) k)) refl $
+        assigns ! (of-opd ! (load ! (from ! (stop !)) (look ! 18 refl))) (from ! (hop ! (look ! 12 refl) (fld ! {τ = X′.mir} {d = 24} refl (stop !)))) (store-in ! 0 (sub ! 2 {τ = X′.mir} {d = 24} refl (item ! (us (h .berths)) k (FB .val fresh) (us-within h was k (within .0)) (us-length h was) (us-at (h .berths) k ∙ see-parts (getD (h .berths) k fresh)) (sub ! 2 {τ = tyArray B′.mir 10} {d = 8} refl (whole !)))) (FX .lawful 𝓤 H A W .typed (Tx.Consecutive o· (t + 1)) _ (EL.owes X.the-type X′.the-laws (Tx.Consecutive o· (t + 1)) (o·-is, ((refl, next-fits t less), tt))) .0)) $
         rewrite ! 0 (λ (ws : List Val). ‵ (fat fullShare T′.mir b o (valWith h (h .served) ws))) (us-set (h .berths) k (put-tx·berth h k (Tx.Consecutive o· (t + 1)))) refl $
         assigns ! (of-opd ! (lit ! tt)) (from ! (stop !)) (init ! 42 refl ((uint w8) .lawful 𝓤 H A W .typed 0 _ (refl, lit< tt) .0)) $
         use1 W (‵ (cellAt fullShare (T.the-row .mir) (FT .val (put-tx h k (Tx.Consecutive o· (t + 1))) ∷ []) b o)) (W .laws .at-raw fullShare T′.mir b o (FT .val (put-tx h k (Tx.Consecutive o· (t + 1))))) $ closed ! tt FT (put-tx h k (Tx.Consecutive o· (t + 1))) b o (put-tx-is h was k (within .0) (Tx.Consecutive o· (t + 1)) (EL.owes X.the-type X′.the-laws (Tx.Consecutive o· (t + 1)) (o·-is, ((refl, next-fits t less), tt)))) $
@@ -162,9 +162,9 @@ module _ {M : Type 1} (𝓤 : URA M) (H : Heap 𝓤) (A : Atoms 𝓤) (W : Given
         exec ! C Λ (env-of body.locals (l₀ ∷ l₁ ∷ l₂ ∷ l₃ ∷ l₄ ∷ l₅ ∷ l₆ ∷ l₇ ∷ l₈ ∷ l₉ ∷ l₁₀ ∷ l₁₁ ∷ l₁₂ ∷ l₁₃ ∷ l₁₄ ∷ l₁₅ ∷ l₁₆ ∷ l₁₇ ∷ l₁₈ ∷ l₁₉ ∷ [])) (body.t-5) (atRet (env-of body.locals (l₀ ∷ l₁ ∷ l₂ ∷ l₃ ∷ l₄ ∷ l₅ ∷ l₆ ∷ l₇ ∷ l₈ ∷ l₉ ∷ l₁₀ ∷ l₁₁ ∷ l₁₂ ∷ l₁₃ ∷ l₁₄ ∷ l₁₅ ∷ l₁₆ ∷ l₁₇ ∷ l₁₈ ∷ l₁₉ ∷ [])) Post) $
         assigns ! (agg ! (and-then ! (lit ! tt) (no-more !))) (from ! (stop !)) (init ! 10 refl (FX .lawful 𝓤 H A W .typed Tx.Idle _ (EL.owes X.the-type X′.the-laws Tx.Idle tt) .0)) $
         assigns ! (bin ! (load ! (from ! (stop !)) (look ! 38 refl)) (lit ! tt) (record { fits = bytes-fit k (within .0) })) (from ! (stop !)) (init ! 8 refl (tt, record { fits = bytes-fit k (within .0) })) $
-        assigns ! (addr ! (from ! (hop ! (look ! 40 refl) (fld ! {τ = tyArray B′.mir 10} {d = 12} refl (stop !))))) (from ! (stop !)) (init ! 6 refl (tt, tt)) $
-        assigns ! (bin ! (load ! (from ! (stop !)) (look ! 6 refl)) (load ! (from ! (stop !)) (look ! 8 refl)) tt) (from ! (stop !)) (init ! 4 refl (tt, tt)) $ rewrite ! 4 (λ (m : ℕ). ‵ (fat fullShare tyPtr l₁₉ 0 (vptr b m))) (sym (place-is 48 (o + 12) k)) refl $
-        assigns ! (of-opd ! (load ! (from ! (stop !)) (look ! 10 refl))) (from ! (hop ! (look ! 4 refl) (fld ! {τ = X′.mir} {d = 24} refl (stop !)))) (store-in ! 0 (sub ! 2 {τ = X′.mir} {d = 24} refl (item ! (us (h .berths)) k (FB .val fresh) (us-within h was k (within .0)) (us-length h was) (us-at (h .berths) k ∙ see-parts (getD (h .berths) k fresh)) (sub ! 2 {τ = tyArray B′.mir 10} {d = 12} refl (whole !)))) (FX .lawful 𝓤 H A W .typed Tx.Idle _ (EL.owes X.the-type X′.the-laws Tx.Idle tt) .0)) $
+        assigns ! (addr ! (from ! (hop ! (look ! 40 refl) (fld ! {τ = tyArray B′.mir 10} {d = 8} refl (stop !))))) (from ! (stop !)) (init ! 6 refl (tt, tt)) $
+        assigns ! (bin ! (load ! (from ! (stop !)) (look ! 6 refl)) (load ! (from ! (stop !)) (look ! 8 refl)) tt) (from ! (stop !)) (init ! 4 refl (tt, tt)) $ rewrite ! 4 (λ (m : ℕ). ‵ (fat fullShare tyPtr l₁₉ 0 (vptr b m))) (sym (place-is 52 (o + 8) k)) refl $
+        assigns ! (of-opd ! (load ! (from ! (stop !)) (look ! 10 refl))) (from ! (hop ! (look ! 4 refl) (fld ! {τ = X′.mir} {d = 24} refl (stop !)))) (store-in ! 0 (sub ! 2 {τ = X′.mir} {d = 24} refl (item ! (us (h .berths)) k (FB .val fresh) (us-within h was k (within .0)) (us-length h was) (us-at (h .berths) k ∙ see-parts (getD (h .berths) k fresh)) (sub ! 2 {τ = tyArray B′.mir 10} {d = 8} refl (whole !)))) (FX .lawful 𝓤 H A W .typed Tx.Idle _ (EL.owes X.the-type X′.the-laws Tx.Idle tt) .0)) $
         rewrite ! 0 (λ (ws : List Val). ‵ (fat fullShare T′.mir b o (valWith h (h .served) ws))) (us-set (h .berths) k (put-tx·berth h k Tx.Idle)) refl $
         assigns ! (of-opd ! (lit ! tt)) (from ! (stop !)) (init ! 42 refl ((uint w8) .lawful 𝓤 H A W .typed 2 _ (refl, lit< tt) .0)) $
         use1 W (‵ (cellAt fullShare (T.the-row .mir) (FT .val (put-tx h k Tx.Idle) ∷ []) b o)) (W .laws .at-raw fullShare T′.mir b o (FT .val (put-tx h k Tx.Idle))) $ closed ! tt FT (put-tx h k Tx.Idle) b o (put-tx-is h was k (within .0) Tx.Idle (EL.owes X.the-type X′.the-laws Tx.Idle tt)) $

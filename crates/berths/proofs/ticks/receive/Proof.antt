@@ -136,9 +136,9 @@ module _ {M : Type 1} (𝓤 : URA M) (H : Heap 𝓤) (A : Atoms 𝓤) (W : Given
         pass1 ! (init ! 24 refl (tt, tt)) $ pass1 ! (init ! 22 refl ((uint w64) .lawful 𝓤 H A W .typed k _ k-is .0)) $ pass0 ! $
         move ! (28 ∷ 29 ∷ 30 ∷ []) $ opened ! tt FT {h = h} b o (λ was. use1 W (‵ (fat fullShare T′.mir b o (FT .val h))) (W .laws .raw-at fullShare T′.mir b o (FT .val h)) $
         assigns ! (bin ! (load ! (from ! (stop !)) (look ! 26 refl)) (lit ! tt) (record { fits = bytes-fit k within })) (from ! (stop !)) (init ! 14 refl (tt, record { fits = bytes-fit k within })) $
-        assigns ! (addr ! (from ! (hop ! (look ! 28 refl) (fld ! {τ = tyArray B′.mir 10} {d = 12} refl (stop !))))) (from ! (stop !)) (init ! 12 refl (tt, tt)) $
-        assigns ! (bin ! (load ! (from ! (stop !)) (look ! 12 refl)) (load ! (from ! (stop !)) (look ! 14 refl)) tt) (from ! (stop !)) (init ! 10 refl (tt, tt)) $ rewrite ! 10 (λ (m : ℕ). ‵ (fat fullShare tyPtr l₁₀ 0 (vptr b m))) (sym (place-is 48 (o + 12) k)) refl $
-        first ! $ by-variants ! 0 (sub ! 0 {τ = R′.mir} {d = 0} refl (item ! (us (h .berths)) k (FB .val fresh) (us-within h was k within) (us-length h was) (us-at (h .berths) k ∙ see-rx (getD (h .berths) k fresh)) (sub ! 2 {τ = tyArray B′.mir 10} {d = 12} refl (whole !)))) (load ! (from ! (hop ! (look ! 10 refl) (fld ! {τ = R′.mir} {d = 0} refl (vrt ! refl (fld ! {τ = tyInt w8} {d = 0} refl (stop !)))))) (look-tag ! 0 (sub ! 0 {τ = R′.mir} {d = 0} refl (item ! (us (h .berths)) k (FB .val fresh) (us-within h was k within) (us-length h was) (us-at (h .berths) k ∙ see-rx (getD (h .berths) k fresh)) (sub ! 2 {τ = tyArray B′.mir 10} {d = 12} refl (whole !)))))) tt (
+        assigns ! (addr ! (from ! (hop ! (look ! 28 refl) (fld ! {τ = tyArray B′.mir 10} {d = 8} refl (stop !))))) (from ! (stop !)) (init ! 12 refl (tt, tt)) $
+        assigns ! (bin ! (load ! (from ! (stop !)) (look ! 12 refl)) (load ! (from ! (stop !)) (look ! 14 refl)) tt) (from ! (stop !)) (init ! 10 refl (tt, tt)) $ rewrite ! 10 (λ (m : ℕ). ‵ (fat fullShare tyPtr l₁₀ 0 (vptr b m))) (sym (place-is 52 (o + 8) k)) refl $
+        first ! $ by-variants ! 0 (sub ! 0 {τ = R′.mir} {d = 0} refl (item ! (us (h .berths)) k (FB .val fresh) (us-within h was k within) (us-length h was) (us-at (h .berths) k ∙ see-rx (getD (h .berths) k fresh)) (sub ! 2 {τ = tyArray B′.mir 10} {d = 8} refl (whole !)))) (load ! (from ! (hop ! (look ! 10 refl) (fld ! {τ = R′.mir} {d = 0} refl (vrt ! refl (fld ! {τ = tyInt w8} {d = 0} refl (stop !)))))) (look-tag ! 0 (sub ! 0 {τ = R′.mir} {d = 0} refl (item ! (us (h .berths)) k (FB .val fresh) (us-within h was k within) (us-length h was) (us-at (h .berths) k ∙ see-rx (getD (h .berths) k fresh)) (sub ! 2 {τ = tyArray B′.mir 10} {d = 8} refl (whole !)))))) tt (
           (λ tag.
               assigns ! (of-opd ! (lit ! tt)) (from ! (stop !)) (init ! 30 refl ((uint w8) .lawful 𝓤 H A W .typed 0 _ (refl, lit< tt) .0)) $
               use1 W (‵ (cellAt fullShare (T.the-row .mir) (FT .val h ∷ []) b o)) (W .laws .at-raw fullShare T′.mir b o (FT .val h)) $ closed ! tt FT h b o was $
@@ -147,7 +147,7 @@ module _ {M : Type 1} (𝓤 : URA M) (H : Heap 𝓤) (A : Atoms 𝓤) (W : Given
               keep ! (0 ∷ 1 ∷ 2 ∷ []) $ by ! (exits 0 h (receives-nothing h k ((as-rx-Idle ((getD (h .berths) k fresh) .rx) tag))) (refl, lit< tt))),
           (
             (λ tag.
-                assigns ! (of-opd ! (load ! (from ! (hop ! (look ! 10 refl) (fld ! {τ = R′.mir} {d = 0} refl (vrt ! refl (fld ! {τ = tyInt w16} {d = 2} refl (stop !)))))) (look-in ! 0 (in-variant ! 1 0 {τ = tyInt w16} {d = 2} refl refl (sub ! 0 {τ = R′.mir} {d = 0} refl (item ! (us (h .berths)) k (FB .val fresh) (us-within h was k within) (us-length h was) (us-at (h .berths) k ∙ rx-seen (getD (h .berths) k fresh) ((as-rx-OwesOverflow ((getD (h .berths) k fresh) .rx) tag) .1)) (sub ! 2 {τ = tyArray B′.mir 10} {d = 12} refl (whole !)))))))) (from ! (stop !)) (init ! 24 refl ((uint w16) .lawful 𝓤 H A W .typed ((as-rx-OwesOverflow ((getD (h .berths) k fresh) .rx) tag) .0) _ ((EL.owed R.the-type R′.the-laws (Rx.OwesOverflow ((as-rx-OwesOverflow ((getD (h .berths) k fresh) .rx) tag) .0)) _ (rx-as (getD (h .berths) k fresh) (berth-is h was k within) ((as-rx-OwesOverflow ((getD (h .berths) k fresh) .rx) tag) .1))) .0) .0)) $
+                assigns ! (of-opd ! (load ! (from ! (hop ! (look ! 10 refl) (fld ! {τ = R′.mir} {d = 0} refl (vrt ! refl (fld ! {τ = tyInt w16} {d = 2} refl (stop !)))))) (look-in ! 0 (in-variant ! 1 0 {τ = tyInt w16} {d = 2} refl refl (sub ! 0 {τ = R′.mir} {d = 0} refl (item ! (us (h .berths)) k (FB .val fresh) (us-within h was k within) (us-length h was) (us-at (h .berths) k ∙ rx-seen (getD (h .berths) k fresh) ((as-rx-OwesOverflow ((getD (h .berths) k fresh) .rx) tag) .1)) (sub ! 2 {τ = tyArray B′.mir 10} {d = 8} refl (whole !)))))))) (from ! (stop !)) (init ! 24 refl ((uint w16) .lawful 𝓤 H A W .typed ((as-rx-OwesOverflow ((getD (h .berths) k fresh) .rx) tag) .0) _ ((EL.owed R.the-type R′.the-laws (Rx.OwesOverflow ((as-rx-OwesOverflow ((getD (h .berths) k fresh) .rx) tag) .0)) _ (rx-as (getD (h .berths) k fresh) (berth-is h was k within) ((as-rx-OwesOverflow ((getD (h .berths) k fresh) .rx) tag) .1))) .0) .0)) $
                 assigns ! (addr ! (from ! (hop ! (look ! 28 refl) (stop !)))) (from ! (stop !)) (init ! 8 refl (tt, tt)) $
                 use1 W (‵ (cellAt fullShare (T.the-row .mir) (FT .val h ∷ []) b o)) (W .laws .at-raw fullShare T′.mir b o (FT .val h)) $ lent ! tt FT h b o was (λ α1 δ1.
                 uses W (‵ (flft (α1 ∷ []) fullShare) ∷ ‵ (MutRef (named 0) (α1 ∷ []) T.the-row .own (record { ptr = (b, o); name = δ1; now = h }) (vptr b o ∷ [])) ∷ []) (raw (C1 𝓤 H A at-mem run .pre (((α1 ∷ [], tt), (fullShare, tt), tt, ((record { ptr = (b, o); name = δ1; now = h }), (k, (((as-rx-OwesOverflow ((getD (h .berths) k fresh) .rx) tag) .0), tt))), (vptr b o ∷ [], ((uint w64) .val k ∷ [], ((uint w16) .val ((as-rx-OwesOverflow ((getD (h .berths) k fresh) .rx) tag) .0) ∷ [], tt)))), tt))) (goes-c1 α1 δ1 h k ((as-rx-OwesOverflow ((getD (h .berths) k fresh) .rx) tag) .0) k-is ((EL.owed R.the-type R′.the-laws (Rx.OwesOverflow ((as-rx-OwesOverflow ((getD (h .berths) k fresh) .rx) tag) .0)) _ (rx-as (getD (h .berths) k fresh) (berth-is h was k within) ((as-rx-OwesOverflow ((getD (h .berths) k fresh) .rx) tag) .1))) .0) (within, ap (λ (y : Berth). y .rx) (at-is h k) ∙ ((as-rx-OwesOverflow ((getD (h .berths) k fresh) .rx) tag) .1))) $
@@ -166,8 +166,8 @@ module _ {M : Type 1} (𝓤 : URA M) (H : Heap 𝓤) (A : Atoms 𝓤) (W : Given
                 keep ! (0 ∷ 1 ∷ 2 ∷ []) $ by ! (exits r· (zs1 .0) (e·) r-is))))))))),
             (
               (λ tag.
-                  assigns ! (of-opd ! (load ! (from ! (hop ! (look ! 10 refl) (fld ! {τ = R′.mir} {d = 0} refl (vrt ! refl (fld ! {τ = K′.mir} {d = 4} refl (stop !)))))) (look-in ! 0 (in-variant ! 2 0 {τ = K′.mir} {d = 4} refl refl (sub ! 0 {τ = R′.mir} {d = 0} refl (item ! (us (h .berths)) k (FB .val fresh) (us-within h was k within) (us-length h was) (us-at (h .berths) k ∙ rx-seen (getD (h .berths) k fresh) ((as-rx-OwesGo ((getD (h .berths) k fresh) .rx) tag) .1 .1)) (sub ! 2 {τ = tyArray B′.mir 10} {d = 12} refl (whole !)))))))) (from ! (stop !)) (init ! 22 refl (F·K .lawful 𝓤 H A W .typed ((as-rx-OwesGo ((getD (h .berths) k fresh) .rx) tag) .0) _ ((EL.owed R.the-type R′.the-laws (Rx.OwesGo ((as-rx-OwesGo ((getD (h .berths) k fresh) .rx) tag) .0) ((as-rx-OwesGo ((getD (h .berths) k fresh) .rx) tag) .1 .0)) _ (rx-as (getD (h .berths) k fresh) (berth-is h was k within) ((as-rx-OwesGo ((getD (h .berths) k fresh) .rx) tag) .1 .1))) .0) .0)) $
-                  assigns ! (of-opd ! (load ! (from ! (hop ! (look ! 10 refl) (fld ! {τ = R′.mir} {d = 0} refl (vrt ! refl (fld ! {τ = tyInt w16} {d = 16} refl (stop !)))))) (look-in ! 0 (in-variant ! 2 1 {τ = tyInt w16} {d = 16} refl refl (sub ! 0 {τ = R′.mir} {d = 0} refl (item ! (us (h .berths)) k (FB .val fresh) (us-within h was k within) (us-length h was) (us-at (h .berths) k ∙ rx-seen (getD (h .berths) k fresh) ((as-rx-OwesGo ((getD (h .berths) k fresh) .rx) tag) .1 .1)) (sub ! 2 {τ = tyArray B′.mir 10} {d = 12} refl (whole !)))))))) (from ! (stop !)) (init ! 20 refl ((uint w16) .lawful 𝓤 H A W .typed ((as-rx-OwesGo ((getD (h .berths) k fresh) .rx) tag) .1 .0) _ ((EL.owed R.the-type R′.the-laws (Rx.OwesGo ((as-rx-OwesGo ((getD (h .berths) k fresh) .rx) tag) .0) ((as-rx-OwesGo ((getD (h .berths) k fresh) .rx) tag) .1 .0)) _ (rx-as (getD (h .berths) k fresh) (berth-is h was k within) ((as-rx-OwesGo ((getD (h .berths) k fresh) .rx) tag) .1 .1))) .1 .0) .0)) $
+                  assigns ! (of-opd ! (load ! (from ! (hop ! (look ! 10 refl) (fld ! {τ = R′.mir} {d = 0} refl (vrt ! refl (fld ! {τ = K′.mir} {d = 4} refl (stop !)))))) (look-in ! 0 (in-variant ! 2 0 {τ = K′.mir} {d = 4} refl refl (sub ! 0 {τ = R′.mir} {d = 0} refl (item ! (us (h .berths)) k (FB .val fresh) (us-within h was k within) (us-length h was) (us-at (h .berths) k ∙ rx-seen (getD (h .berths) k fresh) ((as-rx-OwesGo ((getD (h .berths) k fresh) .rx) tag) .1 .1)) (sub ! 2 {τ = tyArray B′.mir 10} {d = 8} refl (whole !)))))))) (from ! (stop !)) (init ! 22 refl (F·K .lawful 𝓤 H A W .typed ((as-rx-OwesGo ((getD (h .berths) k fresh) .rx) tag) .0) _ ((EL.owed R.the-type R′.the-laws (Rx.OwesGo ((as-rx-OwesGo ((getD (h .berths) k fresh) .rx) tag) .0) ((as-rx-OwesGo ((getD (h .berths) k fresh) .rx) tag) .1 .0)) _ (rx-as (getD (h .berths) k fresh) (berth-is h was k within) ((as-rx-OwesGo ((getD (h .berths) k fresh) .rx) tag) .1 .1))) .0) .0)) $
+                  assigns ! (of-opd ! (load ! (from ! (hop ! (look ! 10 refl) (fld ! {τ = R′.mir} {d = 0} refl (vrt ! refl (fld ! {τ = tyInt w16} {d = 16} refl (stop !)))))) (look-in ! 0 (in-variant ! 2 1 {τ = tyInt w16} {d = 16} refl refl (sub ! 0 {τ = R′.mir} {d = 0} refl (item ! (us (h .berths)) k (FB .val fresh) (us-within h was k within) (us-length h was) (us-at (h .berths) k ∙ rx-seen (getD (h .berths) k fresh) ((as-rx-OwesGo ((getD (h .berths) k fresh) .rx) tag) .1 .1)) (sub ! 2 {τ = tyArray B′.mir 10} {d = 8} refl (whole !)))))))) (from ! (stop !)) (init ! 20 refl ((uint w16) .lawful 𝓤 H A W .typed ((as-rx-OwesGo ((getD (h .berths) k fresh) .rx) tag) .1 .0) _ ((EL.owed R.the-type R′.the-laws (Rx.OwesGo ((as-rx-OwesGo ((getD (h .berths) k fresh) .rx) tag) .0) ((as-rx-OwesGo ((getD (h .berths) k fresh) .rx) tag) .1 .0)) _ (rx-as (getD (h .berths) k fresh) (berth-is h was k within) ((as-rx-OwesGo ((getD (h .berths) k fresh) .rx) tag) .1 .1))) .1 .0) .0)) $
                   assigns ! (addr ! (from ! (hop ! (look ! 28 refl) (stop !)))) (from ! (stop !)) (init ! 6 refl (tt, tt)) $
                   use1 W (‵ (cellAt fullShare (T.the-row .mir) (FT .val h ∷ []) b o)) (W .laws .at-raw fullShare T′.mir b o (FT .val h)) $ lent ! tt FT h b o was (λ α2 δ2.
                   uses W (‵ (flft (α2 ∷ []) fullShare) ∷ ‵ (MutRef (named 0) (α2 ∷ []) T.the-row .own (record { ptr = (b, o); name = δ2; now = h }) (vptr b o ∷ [])) ∷ []) (raw (C2 𝓤 H A at-mem run .pre (((α2 ∷ [], tt), (fullShare, tt), tt, ((record { ptr = (b, o); name = δ2; now = h }), (k, (((as-rx-OwesGo ((getD (h .berths) k fresh) .rx) tag) .0), (((as-rx-OwesGo ((getD (h .berths) k fresh) .rx) tag) .1 .0), tt)))), (vptr b o ∷ [], ((uint w64) .val k ∷ [], (F·K .val ((as-rx-OwesGo ((getD (h .berths) k fresh) .rx) tag) .0) ∷ [], ((uint w16) .val ((as-rx-OwesGo ((getD (h .berths) k fresh) .rx) tag) .1 .0) ∷ [], tt))))), tt))) (goes-c2 α2 δ2 h k ((as-rx-OwesGo ((getD (h .berths) k fresh) .rx) tag) .0) ((as-rx-OwesGo ((getD (h .berths) k fresh) .rx) tag) .1 .0) k-is ((EL.owed R.the-type R′.the-laws (Rx.OwesGo ((as-rx-OwesGo ((getD (h .berths) k fresh) .rx) tag) .0) ((as-rx-OwesGo ((getD (h .berths) k fresh) .rx) tag) .1 .0)) _ (rx-as (getD (h .berths) k fresh) (berth-is h was k within) ((as-rx-OwesGo ((getD (h .berths) k fresh) .rx) tag) .1 .1))) .0) ((EL.owed R.the-type R′.the-laws (Rx.OwesGo ((as-rx-OwesGo ((getD (h .berths) k fresh) .rx) tag) .0) ((as-rx-OwesGo ((getD (h .berths) k fresh) .rx) tag) .1 .0)) _ (rx-as (getD (h .berths) k fresh) (berth-is h was k within) ((as-rx-OwesGo ((getD (h .berths) k fresh) .rx) tag) .1 .1))) .1 .0) (within, ap (λ (y : Berth). y .rx) (at-is h k) ∙ ((as-rx-OwesGo ((getD (h .berths) k fresh) .rx) tag) .1 .1))) $
@@ -186,8 +186,8 @@ module _ {M : Type 1} (𝓤 : URA M) (H : Heap 𝓤) (A : Atoms 𝓤) (W : Given
                   keep ! (0 ∷ 1 ∷ 2 ∷ []) $ by ! (exits r· (zs2 .0) (e·) r-is))))))))),
               (
                 (λ tag.
-                    assigns ! (of-opd ! (load ! (from ! (hop ! (look ! 10 refl) (fld ! {τ = R′.mir} {d = 0} refl (vrt ! refl (fld ! {τ = K′.mir} {d = 4} refl (stop !)))))) (look-in ! 0 (in-variant ! 3 0 {τ = K′.mir} {d = 4} refl refl (sub ! 0 {τ = R′.mir} {d = 0} refl (item ! (us (h .berths)) k (FB .val fresh) (us-within h was k within) (us-length h was) (us-at (h .berths) k ∙ rx-seen (getD (h .berths) k fresh) ((as-rx-Awaits ((getD (h .berths) k fresh) .rx) tag) .1 .1)) (sub ! 2 {τ = tyArray B′.mir 10} {d = 12} refl (whole !)))))))) (from ! (stop !)) (init ! 18 refl (F·K .lawful 𝓤 H A W .typed ((as-rx-Awaits ((getD (h .berths) k fresh) .rx) tag) .0) _ ((EL.owed R.the-type R′.the-laws (Rx.Awaits ((as-rx-Awaits ((getD (h .berths) k fresh) .rx) tag) .0) ((as-rx-Awaits ((getD (h .berths) k fresh) .rx) tag) .1 .0)) _ (rx-as (getD (h .berths) k fresh) (berth-is h was k within) ((as-rx-Awaits ((getD (h .berths) k fresh) .rx) tag) .1 .1))) .0) .0)) $
-                    assigns ! (of-opd ! (load ! (from ! (hop ! (look ! 10 refl) (fld ! {τ = R′.mir} {d = 0} refl (vrt ! refl (fld ! {τ = tyInt w16} {d = 16} refl (stop !)))))) (look-in ! 0 (in-variant ! 3 1 {τ = tyInt w16} {d = 16} refl refl (sub ! 0 {τ = R′.mir} {d = 0} refl (item ! (us (h .berths)) k (FB .val fresh) (us-within h was k within) (us-length h was) (us-at (h .berths) k ∙ rx-seen (getD (h .berths) k fresh) ((as-rx-Awaits ((getD (h .berths) k fresh) .rx) tag) .1 .1)) (sub ! 2 {τ = tyArray B′.mir 10} {d = 12} refl (whole !)))))))) (from ! (stop !)) (init ! 16 refl ((uint w16) .lawful 𝓤 H A W .typed ((as-rx-Awaits ((getD (h .berths) k fresh) .rx) tag) .1 .0) _ ((EL.owed R.the-type R′.the-laws (Rx.Awaits ((as-rx-Awaits ((getD (h .berths) k fresh) .rx) tag) .0) ((as-rx-Awaits ((getD (h .berths) k fresh) .rx) tag) .1 .0)) _ (rx-as (getD (h .berths) k fresh) (berth-is h was k within) ((as-rx-Awaits ((getD (h .berths) k fresh) .rx) tag) .1 .1))) .1 .0) .0)) $
+                    assigns ! (of-opd ! (load ! (from ! (hop ! (look ! 10 refl) (fld ! {τ = R′.mir} {d = 0} refl (vrt ! refl (fld ! {τ = K′.mir} {d = 4} refl (stop !)))))) (look-in ! 0 (in-variant ! 3 0 {τ = K′.mir} {d = 4} refl refl (sub ! 0 {τ = R′.mir} {d = 0} refl (item ! (us (h .berths)) k (FB .val fresh) (us-within h was k within) (us-length h was) (us-at (h .berths) k ∙ rx-seen (getD (h .berths) k fresh) ((as-rx-Awaits ((getD (h .berths) k fresh) .rx) tag) .1 .1)) (sub ! 2 {τ = tyArray B′.mir 10} {d = 8} refl (whole !)))))))) (from ! (stop !)) (init ! 18 refl (F·K .lawful 𝓤 H A W .typed ((as-rx-Awaits ((getD (h .berths) k fresh) .rx) tag) .0) _ ((EL.owed R.the-type R′.the-laws (Rx.Awaits ((as-rx-Awaits ((getD (h .berths) k fresh) .rx) tag) .0) ((as-rx-Awaits ((getD (h .berths) k fresh) .rx) tag) .1 .0)) _ (rx-as (getD (h .berths) k fresh) (berth-is h was k within) ((as-rx-Awaits ((getD (h .berths) k fresh) .rx) tag) .1 .1))) .0) .0)) $
+                    assigns ! (of-opd ! (load ! (from ! (hop ! (look ! 10 refl) (fld ! {τ = R′.mir} {d = 0} refl (vrt ! refl (fld ! {τ = tyInt w16} {d = 16} refl (stop !)))))) (look-in ! 0 (in-variant ! 3 1 {τ = tyInt w16} {d = 16} refl refl (sub ! 0 {τ = R′.mir} {d = 0} refl (item ! (us (h .berths)) k (FB .val fresh) (us-within h was k within) (us-length h was) (us-at (h .berths) k ∙ rx-seen (getD (h .berths) k fresh) ((as-rx-Awaits ((getD (h .berths) k fresh) .rx) tag) .1 .1)) (sub ! 2 {τ = tyArray B′.mir 10} {d = 8} refl (whole !)))))))) (from ! (stop !)) (init ! 16 refl ((uint w16) .lawful 𝓤 H A W .typed ((as-rx-Awaits ((getD (h .berths) k fresh) .rx) tag) .1 .0) _ ((EL.owed R.the-type R′.the-laws (Rx.Awaits ((as-rx-Awaits ((getD (h .berths) k fresh) .rx) tag) .0) ((as-rx-Awaits ((getD (h .berths) k fresh) .rx) tag) .1 .0)) _ (rx-as (getD (h .berths) k fresh) (berth-is h was k within) ((as-rx-Awaits ((getD (h .berths) k fresh) .rx) tag) .1 .1))) .1 .0) .0)) $
                     assigns ! (addr ! (from ! (hop ! (look ! 28 refl) (stop !)))) (from ! (stop !)) (init ! 4 refl (tt, tt)) $
                     use1 W (‵ (cellAt fullShare (T.the-row .mir) (FT .val h ∷ []) b o)) (W .laws .at-raw fullShare T′.mir b o (FT .val h)) $ lent ! tt FT h b o was (λ α3 δ3.
                     uses W (‵ (flft (α3 ∷ []) fullShare) ∷ ‵ (MutRef (named 0) (α3 ∷ []) T.the-row .own (record { ptr = (b, o); name = δ3; now = h }) (vptr b o ∷ [])) ∷ []) (raw (C3 𝓤 H A at-mem run .pre (((α3 ∷ [], tt), (fullShare, tt), tt, ((record { ptr = (b, o); name = δ3; now = h }), (k, (((as-rx-Awaits ((getD (h .berths) k fresh) .rx) tag) .0), (((as-rx-Awaits ((getD (h .berths) k fresh) .rx) tag) .1 .0), tt)))), (vptr b o ∷ [], ((uint w64) .val k ∷ [], (F·K .val ((as-rx-Awaits ((getD (h .berths) k fresh) .rx) tag) .0) ∷ [], ((uint w16) .val ((as-rx-Awaits ((getD (h .berths) k fresh) .rx) tag) .1 .0) ∷ [], tt))))), tt))) (goes-c3 α3 δ3 h k ((as-rx-Awaits ((getD (h .berths) k fresh) .rx) tag) .0) ((as-rx-Awaits ((getD (h .berths) k fresh) .rx) tag) .1 .0) k-is ((EL.owed R.the-type R′.the-laws (Rx.Awaits ((as-rx-Awaits ((getD (h .berths) k fresh) .rx) tag) .0) ((as-rx-Awaits ((getD (h .berths) k fresh) .rx) tag) .1 .0)) _ (rx-as (getD (h .berths) k fresh) (berth-is h was k within) ((as-rx-Awaits ((getD (h .berths) k fresh) .rx) tag) .1 .1))) .0) ((EL.owed R.the-type R′.the-laws (Rx.Awaits ((as-rx-Awaits ((getD (h .berths) k fresh) .rx) tag) .0) ((as-rx-Awaits ((getD (h .berths) k fresh) .rx) tag) .1 .0)) _ (rx-as (getD (h .berths) k fresh) (berth-is h was k within) ((as-rx-Awaits ((getD (h .berths) k fresh) .rx) tag) .1 .1))) .1 .0) (within, ap (λ (y : Berth). y .rx) (at-is h k) ∙ ((as-rx-Awaits ((getD (h .berths) k fresh) .rx) tag) .1 .1))) $

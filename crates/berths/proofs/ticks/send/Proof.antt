@@ -147,9 +147,9 @@ module _ {M : Type 1} (𝓤 : URA M) (H : Heap 𝓤) (A : Atoms 𝓤) (W : Given
         pass1 ! (init ! 32 refl (tt, tt)) $ pass1 ! (init ! 30 refl ((uint w64) .lawful 𝓤 H A W .typed k _ k-is .0)) $ pass0 ! $
         move ! (36 ∷ 37 ∷ 38 ∷ []) $ opened ! tt FT {h = h} b o (λ was. use1 W (‵ (fat fullShare T′.mir b o (FT .val h))) (W .laws .raw-at fullShare T′.mir b o (FT .val h)) $
         assigns ! (bin ! (load ! (from ! (stop !)) (look ! 34 refl)) (lit ! tt) (record { fits = bytes-fit k within })) (from ! (stop !)) (init ! 16 refl (tt, record { fits = bytes-fit k within })) $
-        assigns ! (addr ! (from ! (hop ! (look ! 36 refl) (fld ! {τ = tyArray B′.mir 10} {d = 12} refl (stop !))))) (from ! (stop !)) (init ! 14 refl (tt, tt)) $
-        assigns ! (bin ! (load ! (from ! (stop !)) (look ! 14 refl)) (load ! (from ! (stop !)) (look ! 16 refl)) tt) (from ! (stop !)) (init ! 12 refl (tt, tt)) $ rewrite ! 12 (λ (m : ℕ). ‵ (fat fullShare tyPtr l₁₃ 0 (vptr b m))) (sym (place-is 48 (o + 12) k)) refl $
-        first ! $ by-variants ! 0 (sub ! 2 {τ = X′.mir} {d = 24} refl (item ! (us (h .berths)) k (FB .val fresh) (us-within h was k within) (us-length h was) (us-at (h .berths) k ∙ see-tx (getD (h .berths) k fresh)) (sub ! 2 {τ = tyArray B′.mir 10} {d = 12} refl (whole !)))) (load ! (from ! (hop ! (look ! 12 refl) (fld ! {τ = X′.mir} {d = 24} refl (vrt ! refl (fld ! {τ = tyInt w8} {d = 0} refl (stop !)))))) (look-tag ! 0 (sub ! 2 {τ = X′.mir} {d = 24} refl (item ! (us (h .berths)) k (FB .val fresh) (us-within h was k within) (us-length h was) (us-at (h .berths) k ∙ see-tx (getD (h .berths) k fresh)) (sub ! 2 {τ = tyArray B′.mir 10} {d = 12} refl (whole !)))))) tt (
+        assigns ! (addr ! (from ! (hop ! (look ! 36 refl) (fld ! {τ = tyArray B′.mir 10} {d = 8} refl (stop !))))) (from ! (stop !)) (init ! 14 refl (tt, tt)) $
+        assigns ! (bin ! (load ! (from ! (stop !)) (look ! 14 refl)) (load ! (from ! (stop !)) (look ! 16 refl)) tt) (from ! (stop !)) (init ! 12 refl (tt, tt)) $ rewrite ! 12 (λ (m : ℕ). ‵ (fat fullShare tyPtr l₁₃ 0 (vptr b m))) (sym (place-is 52 (o + 8) k)) refl $
+        first ! $ by-variants ! 0 (sub ! 2 {τ = X′.mir} {d = 24} refl (item ! (us (h .berths)) k (FB .val fresh) (us-within h was k within) (us-length h was) (us-at (h .berths) k ∙ see-tx (getD (h .berths) k fresh)) (sub ! 2 {τ = tyArray B′.mir 10} {d = 8} refl (whole !)))) (load ! (from ! (hop ! (look ! 12 refl) (fld ! {τ = X′.mir} {d = 24} refl (vrt ! refl (fld ! {τ = tyInt w8} {d = 0} refl (stop !)))))) (look-tag ! 0 (sub ! 2 {τ = X′.mir} {d = 24} refl (item ! (us (h .berths)) k (FB .val fresh) (us-within h was k within) (us-length h was) (us-at (h .berths) k ∙ see-tx (getD (h .berths) k fresh)) (sub ! 2 {τ = tyArray B′.mir 10} {d = 8} refl (whole !)))))) tt (
           (λ tag.
               assigns ! (of-opd ! (lit ! tt)) (from ! (stop !)) (init ! 38 refl ((uint w8) .lawful 𝓤 H A W .typed 0 _ (refl, lit< tt) .0)) $
               use1 W (‵ (cellAt fullShare (T.the-row .mir) (FT .val h ∷ []) b o)) (W .laws .at-raw fullShare T′.mir b o (FT .val h)) $ closed ! tt FT h b o was $
@@ -158,8 +158,8 @@ module _ {M : Type 1} (𝓤 : URA M) (H : Heap 𝓤) (A : Atoms 𝓤) (W : Given
               keep ! (0 ∷ 1 ∷ 2 ∷ []) $ by ! (exits 0 h (sends-nothing h k ((as-tx-Idle ((getD (h .berths) k fresh) .tx) tag))) (refl, lit< tt))),
           (
             (λ tag.
-                assigns ! (of-opd ! (load ! (from ! (hop ! (look ! 12 refl) (fld ! {τ = X′.mir} {d = 24} refl (vrt ! refl (fld ! {τ = tyInt w32} {d = 4} refl (stop !)))))) (look-in ! 0 (in-variant ! 1 0 {τ = tyInt w32} {d = 4} refl refl (sub ! 2 {τ = X′.mir} {d = 24} refl (item ! (us (h .berths)) k (FB .val fresh) (us-within h was k within) (us-length h was) (us-at (h .berths) k ∙ tx-seen (getD (h .berths) k fresh) ((as-tx-SingleDue ((getD (h .berths) k fresh) .tx) tag) .1 .1)) (sub ! 2 {τ = tyArray B′.mir 10} {d = 12} refl (whole !)))))))) (from ! (stop !)) (init ! 32 refl ((uint w32) .lawful 𝓤 H A W .typed ((as-tx-SingleDue ((getD (h .berths) k fresh) .tx) tag) .0) _ ((EL.owed X.the-type X′.the-laws (Tx.SingleDue ((as-tx-SingleDue ((getD (h .berths) k fresh) .tx) tag) .0) ((as-tx-SingleDue ((getD (h .berths) k fresh) .tx) tag) .1 .0)) _ (tx-as (getD (h .berths) k fresh) (berth-is h was k within) ((as-tx-SingleDue ((getD (h .berths) k fresh) .tx) tag) .1 .1))) .0) .0)) $
-                assigns ! (of-opd ! (load ! (from ! (hop ! (look ! 12 refl) (fld ! {τ = X′.mir} {d = 24} refl (vrt ! refl (fld ! {τ = tyInt w16} {d = 8} refl (stop !)))))) (look-in ! 0 (in-variant ! 1 1 {τ = tyInt w16} {d = 8} refl refl (sub ! 2 {τ = X′.mir} {d = 24} refl (item ! (us (h .berths)) k (FB .val fresh) (us-within h was k within) (us-length h was) (us-at (h .berths) k ∙ tx-seen (getD (h .berths) k fresh) ((as-tx-SingleDue ((getD (h .berths) k fresh) .tx) tag) .1 .1)) (sub ! 2 {τ = tyArray B′.mir 10} {d = 12} refl (whole !)))))))) (from ! (stop !)) (init ! 30 refl ((uint w16) .lawful 𝓤 H A W .typed ((as-tx-SingleDue ((getD (h .berths) k fresh) .tx) tag) .1 .0) _ ((EL.owed X.the-type X′.the-laws (Tx.SingleDue ((as-tx-SingleDue ((getD (h .berths) k fresh) .tx) tag) .0) ((as-tx-SingleDue ((getD (h .berths) k fresh) .tx) tag) .1 .0)) _ (tx-as (getD (h .berths) k fresh) (berth-is h was k within) ((as-tx-SingleDue ((getD (h .berths) k fresh) .tx) tag) .1 .1))) .1 .0) .0)) $
+                assigns ! (of-opd ! (load ! (from ! (hop ! (look ! 12 refl) (fld ! {τ = X′.mir} {d = 24} refl (vrt ! refl (fld ! {τ = tyInt w32} {d = 4} refl (stop !)))))) (look-in ! 0 (in-variant ! 1 0 {τ = tyInt w32} {d = 4} refl refl (sub ! 2 {τ = X′.mir} {d = 24} refl (item ! (us (h .berths)) k (FB .val fresh) (us-within h was k within) (us-length h was) (us-at (h .berths) k ∙ tx-seen (getD (h .berths) k fresh) ((as-tx-SingleDue ((getD (h .berths) k fresh) .tx) tag) .1 .1)) (sub ! 2 {τ = tyArray B′.mir 10} {d = 8} refl (whole !)))))))) (from ! (stop !)) (init ! 32 refl ((uint w32) .lawful 𝓤 H A W .typed ((as-tx-SingleDue ((getD (h .berths) k fresh) .tx) tag) .0) _ ((EL.owed X.the-type X′.the-laws (Tx.SingleDue ((as-tx-SingleDue ((getD (h .berths) k fresh) .tx) tag) .0) ((as-tx-SingleDue ((getD (h .berths) k fresh) .tx) tag) .1 .0)) _ (tx-as (getD (h .berths) k fresh) (berth-is h was k within) ((as-tx-SingleDue ((getD (h .berths) k fresh) .tx) tag) .1 .1))) .0) .0)) $
+                assigns ! (of-opd ! (load ! (from ! (hop ! (look ! 12 refl) (fld ! {τ = X′.mir} {d = 24} refl (vrt ! refl (fld ! {τ = tyInt w16} {d = 8} refl (stop !)))))) (look-in ! 0 (in-variant ! 1 1 {τ = tyInt w16} {d = 8} refl refl (sub ! 2 {τ = X′.mir} {d = 24} refl (item ! (us (h .berths)) k (FB .val fresh) (us-within h was k within) (us-length h was) (us-at (h .berths) k ∙ tx-seen (getD (h .berths) k fresh) ((as-tx-SingleDue ((getD (h .berths) k fresh) .tx) tag) .1 .1)) (sub ! 2 {τ = tyArray B′.mir 10} {d = 8} refl (whole !)))))))) (from ! (stop !)) (init ! 30 refl ((uint w16) .lawful 𝓤 H A W .typed ((as-tx-SingleDue ((getD (h .berths) k fresh) .tx) tag) .1 .0) _ ((EL.owed X.the-type X′.the-laws (Tx.SingleDue ((as-tx-SingleDue ((getD (h .berths) k fresh) .tx) tag) .0) ((as-tx-SingleDue ((getD (h .berths) k fresh) .tx) tag) .1 .0)) _ (tx-as (getD (h .berths) k fresh) (berth-is h was k within) ((as-tx-SingleDue ((getD (h .berths) k fresh) .tx) tag) .1 .1))) .1 .0) .0)) $
                 assigns ! (addr ! (from ! (hop ! (look ! 36 refl) (stop !)))) (from ! (stop !)) (init ! 10 refl (tt, tt)) $
                 use1 W (‵ (cellAt fullShare (T.the-row .mir) (FT .val h ∷ []) b o)) (W .laws .at-raw fullShare T′.mir b o (FT .val h)) $ lent ! tt FT h b o was (λ α1 δ1.
                 uses W (‵ (flft (α1 ∷ []) fullShare) ∷ ‵ (MutRef (named 0) (α1 ∷ []) T.the-row .own (record { ptr = (b, o); name = δ1; now = h }) (vptr b o ∷ [])) ∷ []) (raw (C1 𝓤 H A at-mem run .pre (((α1 ∷ [], tt), (fullShare, tt), tt, ((record { ptr = (b, o); name = δ1; now = h }), (k, (((as-tx-SingleDue ((getD (h .berths) k fresh) .tx) tag) .0), (((as-tx-SingleDue ((getD (h .berths) k fresh) .tx) tag) .1 .0), tt)))), (vptr b o ∷ [], ((uint w64) .val k ∷ [], ((uint w32) .val ((as-tx-SingleDue ((getD (h .berths) k fresh) .tx) tag) .0) ∷ [], ((uint w16) .val ((as-tx-SingleDue ((getD (h .berths) k fresh) .tx) tag) .1 .0) ∷ [], tt))))), tt))) (goes-c1 α1 δ1 h k ((as-tx-SingleDue ((getD (h .berths) k fresh) .tx) tag) .0) ((as-tx-SingleDue ((getD (h .berths) k fresh) .tx) tag) .1 .0) k-is ((EL.owed X.the-type X′.the-laws (Tx.SingleDue ((as-tx-SingleDue ((getD (h .berths) k fresh) .tx) tag) .0) ((as-tx-SingleDue ((getD (h .berths) k fresh) .tx) tag) .1 .0)) _ (tx-as (getD (h .berths) k fresh) (berth-is h was k within) ((as-tx-SingleDue ((getD (h .berths) k fresh) .tx) tag) .1 .1))) .0) ((EL.owed X.the-type X′.the-laws (Tx.SingleDue ((as-tx-SingleDue ((getD (h .berths) k fresh) .tx) tag) .0) ((as-tx-SingleDue ((getD (h .berths) k fresh) .tx) tag) .1 .0)) _ (tx-as (getD (h .berths) k fresh) (berth-is h was k within) ((as-tx-SingleDue ((getD (h .berths) k fresh) .tx) tag) .1 .1))) .1 .0) (within, ap (λ (y : Berth). y .tx) (at-is h k) ∙ ((as-tx-SingleDue ((getD (h .berths) k fresh) .tx) tag) .1 .1))) $
@@ -178,8 +178,8 @@ module _ {M : Type 1} (𝓤 : URA M) (H : Heap 𝓤) (A : Atoms 𝓤) (W : Given
                 keep ! (0 ∷ 1 ∷ 2 ∷ []) $ by ! (exits r· (zs1 .0) (e·) r-is))))))))),
             (
               (λ tag.
-                  assigns ! (of-opd ! (load ! (from ! (hop ! (look ! 12 refl) (fld ! {τ = X′.mir} {d = 24} refl (vrt ! refl (fld ! {τ = tyInt w32} {d = 4} refl (stop !)))))) (look-in ! 0 (in-variant ! 2 0 {τ = tyInt w32} {d = 4} refl refl (sub ! 2 {τ = X′.mir} {d = 24} refl (item ! (us (h .berths)) k (FB .val fresh) (us-within h was k within) (us-length h was) (us-at (h .berths) k ∙ tx-seen (getD (h .berths) k fresh) ((as-tx-FirstDue ((getD (h .berths) k fresh) .tx) tag) .1 .1)) (sub ! 2 {τ = tyArray B′.mir 10} {d = 12} refl (whole !)))))))) (from ! (stop !)) (init ! 28 refl ((uint w32) .lawful 𝓤 H A W .typed ((as-tx-FirstDue ((getD (h .berths) k fresh) .tx) tag) .0) _ ((EL.owed X.the-type X′.the-laws (Tx.FirstDue ((as-tx-FirstDue ((getD (h .berths) k fresh) .tx) tag) .0) ((as-tx-FirstDue ((getD (h .berths) k fresh) .tx) tag) .1 .0)) _ (tx-as (getD (h .berths) k fresh) (berth-is h was k within) ((as-tx-FirstDue ((getD (h .berths) k fresh) .tx) tag) .1 .1))) .0) .0)) $
-                  assigns ! (of-opd ! (load ! (from ! (hop ! (look ! 12 refl) (fld ! {τ = X′.mir} {d = 24} refl (vrt ! refl (fld ! {τ = tyInt w16} {d = 8} refl (stop !)))))) (look-in ! 0 (in-variant ! 2 1 {τ = tyInt w16} {d = 8} refl refl (sub ! 2 {τ = X′.mir} {d = 24} refl (item ! (us (h .berths)) k (FB .val fresh) (us-within h was k within) (us-length h was) (us-at (h .berths) k ∙ tx-seen (getD (h .berths) k fresh) ((as-tx-FirstDue ((getD (h .berths) k fresh) .tx) tag) .1 .1)) (sub ! 2 {τ = tyArray B′.mir 10} {d = 12} refl (whole !)))))))) (from ! (stop !)) (init ! 26 refl ((uint w16) .lawful 𝓤 H A W .typed ((as-tx-FirstDue ((getD (h .berths) k fresh) .tx) tag) .1 .0) _ ((EL.owed X.the-type X′.the-laws (Tx.FirstDue ((as-tx-FirstDue ((getD (h .berths) k fresh) .tx) tag) .0) ((as-tx-FirstDue ((getD (h .berths) k fresh) .tx) tag) .1 .0)) _ (tx-as (getD (h .berths) k fresh) (berth-is h was k within) ((as-tx-FirstDue ((getD (h .berths) k fresh) .tx) tag) .1 .1))) .1 .0) .0)) $
+                  assigns ! (of-opd ! (load ! (from ! (hop ! (look ! 12 refl) (fld ! {τ = X′.mir} {d = 24} refl (vrt ! refl (fld ! {τ = tyInt w32} {d = 4} refl (stop !)))))) (look-in ! 0 (in-variant ! 2 0 {τ = tyInt w32} {d = 4} refl refl (sub ! 2 {τ = X′.mir} {d = 24} refl (item ! (us (h .berths)) k (FB .val fresh) (us-within h was k within) (us-length h was) (us-at (h .berths) k ∙ tx-seen (getD (h .berths) k fresh) ((as-tx-FirstDue ((getD (h .berths) k fresh) .tx) tag) .1 .1)) (sub ! 2 {τ = tyArray B′.mir 10} {d = 8} refl (whole !)))))))) (from ! (stop !)) (init ! 28 refl ((uint w32) .lawful 𝓤 H A W .typed ((as-tx-FirstDue ((getD (h .berths) k fresh) .tx) tag) .0) _ ((EL.owed X.the-type X′.the-laws (Tx.FirstDue ((as-tx-FirstDue ((getD (h .berths) k fresh) .tx) tag) .0) ((as-tx-FirstDue ((getD (h .berths) k fresh) .tx) tag) .1 .0)) _ (tx-as (getD (h .berths) k fresh) (berth-is h was k within) ((as-tx-FirstDue ((getD (h .berths) k fresh) .tx) tag) .1 .1))) .0) .0)) $
+                  assigns ! (of-opd ! (load ! (from ! (hop ! (look ! 12 refl) (fld ! {τ = X′.mir} {d = 24} refl (vrt ! refl (fld ! {τ = tyInt w16} {d = 8} refl (stop !)))))) (look-in ! 0 (in-variant ! 2 1 {τ = tyInt w16} {d = 8} refl refl (sub ! 2 {τ = X′.mir} {d = 24} refl (item ! (us (h .berths)) k (FB .val fresh) (us-within h was k within) (us-length h was) (us-at (h .berths) k ∙ tx-seen (getD (h .berths) k fresh) ((as-tx-FirstDue ((getD (h .berths) k fresh) .tx) tag) .1 .1)) (sub ! 2 {τ = tyArray B′.mir 10} {d = 8} refl (whole !)))))))) (from ! (stop !)) (init ! 26 refl ((uint w16) .lawful 𝓤 H A W .typed ((as-tx-FirstDue ((getD (h .berths) k fresh) .tx) tag) .1 .0) _ ((EL.owed X.the-type X′.the-laws (Tx.FirstDue ((as-tx-FirstDue ((getD (h .berths) k fresh) .tx) tag) .0) ((as-tx-FirstDue ((getD (h .berths) k fresh) .tx) tag) .1 .0)) _ (tx-as (getD (h .berths) k fresh) (berth-is h was k within) ((as-tx-FirstDue ((getD (h .berths) k fresh) .tx) tag) .1 .1))) .1 .0) .0)) $
                   assigns ! (addr ! (from ! (hop ! (look ! 36 refl) (stop !)))) (from ! (stop !)) (init ! 8 refl (tt, tt)) $
                   use1 W (‵ (cellAt fullShare (T.the-row .mir) (FT .val h ∷ []) b o)) (W .laws .at-raw fullShare T′.mir b o (FT .val h)) $ lent ! tt FT h b o was (λ α2 δ2.
                   uses W (‵ (flft (α2 ∷ []) fullShare) ∷ ‵ (MutRef (named 0) (α2 ∷ []) T.the-row .own (record { ptr = (b, o); name = δ2; now = h }) (vptr b o ∷ [])) ∷ []) (raw (C2 𝓤 H A at-mem run .pre (((α2 ∷ [], tt), (fullShare, tt), tt, ((record { ptr = (b, o); name = δ2; now = h }), (k, (((as-tx-FirstDue ((getD (h .berths) k fresh) .tx) tag) .0), (((as-tx-FirstDue ((getD (h .berths) k fresh) .tx) tag) .1 .0), tt)))), (vptr b o ∷ [], ((uint w64) .val k ∷ [], ((uint w32) .val ((as-tx-FirstDue ((getD (h .berths) k fresh) .tx) tag) .0) ∷ [], ((uint w16) .val ((as-tx-FirstDue ((getD (h .berths) k fresh) .tx) tag) .1 .0) ∷ [], tt))))), tt))) (goes-c2 α2 δ2 h k ((as-tx-FirstDue ((getD (h .berths) k fresh) .tx) tag) .0) ((as-tx-FirstDue ((getD (h .berths) k fresh) .tx) tag) .1 .0) k-is ((EL.owed X.the-type X′.the-laws (Tx.FirstDue ((as-tx-FirstDue ((getD (h .berths) k fresh) .tx) tag) .0) ((as-tx-FirstDue ((getD (h .berths) k fresh) .tx) tag) .1 .0)) _ (tx-as (getD (h .berths) k fresh) (berth-is h was k within) ((as-tx-FirstDue ((getD (h .berths) k fresh) .tx) tag) .1 .1))) .0) ((EL.owed X.the-type X′.the-laws (Tx.FirstDue ((as-tx-FirstDue ((getD (h .berths) k fresh) .tx) tag) .0) ((as-tx-FirstDue ((getD (h .berths) k fresh) .tx) tag) .1 .0)) _ (tx-as (getD (h .berths) k fresh) (berth-is h was k within) ((as-tx-FirstDue ((getD (h .berths) k fresh) .tx) tag) .1 .1))) .1 .0) (within, ap (λ (y : Berth). y .tx) (at-is h k) ∙ ((as-tx-FirstDue ((getD (h .berths) k fresh) .tx) tag) .1 .1))) $
@@ -198,8 +198,8 @@ module _ {M : Type 1} (𝓤 : URA M) (H : Heap 𝓤) (A : Atoms 𝓤) (W : Given
                   keep ! (0 ∷ 1 ∷ 2 ∷ []) $ by ! (exits r· (zs2 .0) (e·) r-is))))))))),
               (
                 (λ tag.
-                    assigns ! (of-opd ! (load ! (from ! (hop ! (look ! 12 refl) (fld ! {τ = X′.mir} {d = 24} refl (vrt ! refl (fld ! {τ = D′.mir} {d = 4} refl (stop !)))))) (look-in ! 0 (in-variant ! 3 0 {τ = D′.mir} {d = 4} refl refl (sub ! 2 {τ = X′.mir} {d = 24} refl (item ! (us (h .berths)) k (FB .val fresh) (us-within h was k within) (us-length h was) (us-at (h .berths) k ∙ tx-seen (getD (h .berths) k fresh) ((as-tx-AwaitsFlow ((getD (h .berths) k fresh) .tx) tag) .1 .1)) (sub ! 2 {τ = tyArray B′.mir 10} {d = 12} refl (whole !)))))))) (from ! (stop !)) (init ! 24 refl (F·D .lawful 𝓤 H A W .typed ((as-tx-AwaitsFlow ((getD (h .berths) k fresh) .tx) tag) .0) _ ((EL.owed X.the-type X′.the-laws (Tx.AwaitsFlow ((as-tx-AwaitsFlow ((getD (h .berths) k fresh) .tx) tag) .0) ((as-tx-AwaitsFlow ((getD (h .berths) k fresh) .tx) tag) .1 .0)) _ (tx-as (getD (h .berths) k fresh) (berth-is h was k within) ((as-tx-AwaitsFlow ((getD (h .berths) k fresh) .tx) tag) .1 .1))) .0) .0)) $
-                    assigns ! (of-opd ! (load ! (from ! (hop ! (look ! 12 refl) (fld ! {τ = X′.mir} {d = 24} refl (vrt ! refl (fld ! {τ = tyInt w16} {d = 20} refl (stop !)))))) (look-in ! 0 (in-variant ! 3 1 {τ = tyInt w16} {d = 20} refl refl (sub ! 2 {τ = X′.mir} {d = 24} refl (item ! (us (h .berths)) k (FB .val fresh) (us-within h was k within) (us-length h was) (us-at (h .berths) k ∙ tx-seen (getD (h .berths) k fresh) ((as-tx-AwaitsFlow ((getD (h .berths) k fresh) .tx) tag) .1 .1)) (sub ! 2 {τ = tyArray B′.mir 10} {d = 12} refl (whole !)))))))) (from ! (stop !)) (init ! 22 refl ((uint w16) .lawful 𝓤 H A W .typed ((as-tx-AwaitsFlow ((getD (h .berths) k fresh) .tx) tag) .1 .0) _ ((EL.owed X.the-type X′.the-laws (Tx.AwaitsFlow ((as-tx-AwaitsFlow ((getD (h .berths) k fresh) .tx) tag) .0) ((as-tx-AwaitsFlow ((getD (h .berths) k fresh) .tx) tag) .1 .0)) _ (tx-as (getD (h .berths) k fresh) (berth-is h was k within) ((as-tx-AwaitsFlow ((getD (h .berths) k fresh) .tx) tag) .1 .1))) .1 .0) .0)) $
+                    assigns ! (of-opd ! (load ! (from ! (hop ! (look ! 12 refl) (fld ! {τ = X′.mir} {d = 24} refl (vrt ! refl (fld ! {τ = D′.mir} {d = 4} refl (stop !)))))) (look-in ! 0 (in-variant ! 3 0 {τ = D′.mir} {d = 4} refl refl (sub ! 2 {τ = X′.mir} {d = 24} refl (item ! (us (h .berths)) k (FB .val fresh) (us-within h was k within) (us-length h was) (us-at (h .berths) k ∙ tx-seen (getD (h .berths) k fresh) ((as-tx-AwaitsFlow ((getD (h .berths) k fresh) .tx) tag) .1 .1)) (sub ! 2 {τ = tyArray B′.mir 10} {d = 8} refl (whole !)))))))) (from ! (stop !)) (init ! 24 refl (F·D .lawful 𝓤 H A W .typed ((as-tx-AwaitsFlow ((getD (h .berths) k fresh) .tx) tag) .0) _ ((EL.owed X.the-type X′.the-laws (Tx.AwaitsFlow ((as-tx-AwaitsFlow ((getD (h .berths) k fresh) .tx) tag) .0) ((as-tx-AwaitsFlow ((getD (h .berths) k fresh) .tx) tag) .1 .0)) _ (tx-as (getD (h .berths) k fresh) (berth-is h was k within) ((as-tx-AwaitsFlow ((getD (h .berths) k fresh) .tx) tag) .1 .1))) .0) .0)) $
+                    assigns ! (of-opd ! (load ! (from ! (hop ! (look ! 12 refl) (fld ! {τ = X′.mir} {d = 24} refl (vrt ! refl (fld ! {τ = tyInt w16} {d = 20} refl (stop !)))))) (look-in ! 0 (in-variant ! 3 1 {τ = tyInt w16} {d = 20} refl refl (sub ! 2 {τ = X′.mir} {d = 24} refl (item ! (us (h .berths)) k (FB .val fresh) (us-within h was k within) (us-length h was) (us-at (h .berths) k ∙ tx-seen (getD (h .berths) k fresh) ((as-tx-AwaitsFlow ((getD (h .berths) k fresh) .tx) tag) .1 .1)) (sub ! 2 {τ = tyArray B′.mir 10} {d = 8} refl (whole !)))))))) (from ! (stop !)) (init ! 22 refl ((uint w16) .lawful 𝓤 H A W .typed ((as-tx-AwaitsFlow ((getD (h .berths) k fresh) .tx) tag) .1 .0) _ ((EL.owed X.the-type X′.the-laws (Tx.AwaitsFlow ((as-tx-AwaitsFlow ((getD (h .berths) k fresh) .tx) tag) .0) ((as-tx-AwaitsFlow ((getD (h .berths) k fresh) .tx) tag) .1 .0)) _ (tx-as (getD (h .berths) k fresh) (berth-is h was k within) ((as-tx-AwaitsFlow ((getD (h .berths) k fresh) .tx) tag) .1 .1))) .1 .0) .0)) $
                     assigns ! (addr ! (from ! (hop ! (look ! 36 refl) (stop !)))) (from ! (stop !)) (init ! 6 refl (tt, tt)) $
                     use1 W (‵ (cellAt fullShare (T.the-row .mir) (FT .val h ∷ []) b o)) (W .laws .at-raw fullShare T′.mir b o (FT .val h)) $ lent ! tt FT h b o was (λ α3 δ3.
                     uses W (‵ (flft (α3 ∷ []) fullShare) ∷ ‵ (MutRef (named 0) (α3 ∷ []) T.the-row .own (record { ptr = (b, o); name = δ3; now = h }) (vptr b o ∷ [])) ∷ []) (raw (C3 𝓤 H A at-mem run .pre (((α3 ∷ [], tt), (fullShare, tt), tt, ((record { ptr = (b, o); name = δ3; now = h }), (k, (((as-tx-AwaitsFlow ((getD (h .berths) k fresh) .tx) tag) .0), (((as-tx-AwaitsFlow ((getD (h .berths) k fresh) .tx) tag) .1 .0), tt)))), (vptr b o ∷ [], ((uint w64) .val k ∷ [], (F·D .val ((as-tx-AwaitsFlow ((getD (h .berths) k fresh) .tx) tag) .0) ∷ [], ((uint w16) .val ((as-tx-AwaitsFlow ((getD (h .berths) k fresh) .tx) tag) .1 .0) ∷ [], tt))))), tt))) (goes-c3 α3 δ3 h k ((as-tx-AwaitsFlow ((getD (h .berths) k fresh) .tx) tag) .0) ((as-tx-AwaitsFlow ((getD (h .berths) k fresh) .tx) tag) .1 .0) k-is ((EL.owed X.the-type X′.the-laws (Tx.AwaitsFlow ((as-tx-AwaitsFlow ((getD (h .berths) k fresh) .tx) tag) .0) ((as-tx-AwaitsFlow ((getD (h .berths) k fresh) .tx) tag) .1 .0)) _ (tx-as (getD (h .berths) k fresh) (berth-is h was k within) ((as-tx-AwaitsFlow ((getD (h .berths) k fresh) .tx) tag) .1 .1))) .0) ((EL.owed X.the-type X′.the-laws (Tx.AwaitsFlow ((as-tx-AwaitsFlow ((getD (h .berths) k fresh) .tx) tag) .0) ((as-tx-AwaitsFlow ((getD (h .berths) k fresh) .tx) tag) .1 .0)) _ (tx-as (getD (h .berths) k fresh) (berth-is h was k within) ((as-tx-AwaitsFlow ((getD (h .berths) k fresh) .tx) tag) .1 .1))) .1 .0) (within, ap (λ (y : Berth). y .tx) (at-is h k) ∙ ((as-tx-AwaitsFlow ((getD (h .berths) k fresh) .tx) tag) .1 .1))) $
@@ -218,8 +218,8 @@ module _ {M : Type 1} (𝓤 : URA M) (H : Heap 𝓤) (A : Atoms 𝓤) (W : Given
                     keep ! (0 ∷ 1 ∷ 2 ∷ []) $ by ! (exits r· (zs3 .0) (e·) r-is))))))))),
                 (
                   (λ tag.
-                      assigns ! (of-opd ! (load ! (from ! (hop ! (look ! 12 refl) (fld ! {τ = X′.mir} {d = 24} refl (vrt ! refl (fld ! {τ = D′.mir} {d = 4} refl (stop !)))))) (look-in ! 0 (in-variant ! 4 0 {τ = D′.mir} {d = 4} refl refl (sub ! 2 {τ = X′.mir} {d = 24} refl (item ! (us (h .berths)) k (FB .val fresh) (us-within h was k within) (us-length h was) (us-at (h .berths) k ∙ tx-seen (getD (h .berths) k fresh) ((as-tx-Consecutive ((getD (h .berths) k fresh) .tx) tag) .1 .1)) (sub ! 2 {τ = tyArray B′.mir 10} {d = 12} refl (whole !)))))))) (from ! (stop !)) (init ! 20 refl (F·D .lawful 𝓤 H A W .typed ((as-tx-Consecutive ((getD (h .berths) k fresh) .tx) tag) .0) _ ((EL.owed X.the-type X′.the-laws (Tx.Consecutive ((as-tx-Consecutive ((getD (h .berths) k fresh) .tx) tag) .0) ((as-tx-Consecutive ((getD (h .berths) k fresh) .tx) tag) .1 .0)) _ (tx-as (getD (h .berths) k fresh) (berth-is h was k within) ((as-tx-Consecutive ((getD (h .berths) k fresh) .tx) tag) .1 .1))) .0) .0)) $
-                      assigns ! (of-opd ! (load ! (from ! (hop ! (look ! 12 refl) (fld ! {τ = X′.mir} {d = 24} refl (vrt ! refl (fld ! {τ = tyInt w16} {d = 20} refl (stop !)))))) (look-in ! 0 (in-variant ! 4 1 {τ = tyInt w16} {d = 20} refl refl (sub ! 2 {τ = X′.mir} {d = 24} refl (item ! (us (h .berths)) k (FB .val fresh) (us-within h was k within) (us-length h was) (us-at (h .berths) k ∙ tx-seen (getD (h .berths) k fresh) ((as-tx-Consecutive ((getD (h .berths) k fresh) .tx) tag) .1 .1)) (sub ! 2 {τ = tyArray B′.mir 10} {d = 12} refl (whole !)))))))) (from ! (stop !)) (init ! 18 refl ((uint w16) .lawful 𝓤 H A W .typed ((as-tx-Consecutive ((getD (h .berths) k fresh) .tx) tag) .1 .0) _ ((EL.owed X.the-type X′.the-laws (Tx.Consecutive ((as-tx-Consecutive ((getD (h .berths) k fresh) .tx) tag) .0) ((as-tx-Consecutive ((getD (h .berths) k fresh) .tx) tag) .1 .0)) _ (tx-as (getD (h .berths) k fresh) (berth-is h was k within) ((as-tx-Consecutive ((getD (h .berths) k fresh) .tx) tag) .1 .1))) .1 .0) .0)) $
+                      assigns ! (of-opd ! (load ! (from ! (hop ! (look ! 12 refl) (fld ! {τ = X′.mir} {d = 24} refl (vrt ! refl (fld ! {τ = D′.mir} {d = 4} refl (stop !)))))) (look-in ! 0 (in-variant ! 4 0 {τ = D′.mir} {d = 4} refl refl (sub ! 2 {τ = X′.mir} {d = 24} refl (item ! (us (h .berths)) k (FB .val fresh) (us-within h was k within) (us-length h was) (us-at (h .berths) k ∙ tx-seen (getD (h .berths) k fresh) ((as-tx-Consecutive ((getD (h .berths) k fresh) .tx) tag) .1 .1)) (sub ! 2 {τ = tyArray B′.mir 10} {d = 8} refl (whole !)))))))) (from ! (stop !)) (init ! 20 refl (F·D .lawful 𝓤 H A W .typed ((as-tx-Consecutive ((getD (h .berths) k fresh) .tx) tag) .0) _ ((EL.owed X.the-type X′.the-laws (Tx.Consecutive ((as-tx-Consecutive ((getD (h .berths) k fresh) .tx) tag) .0) ((as-tx-Consecutive ((getD (h .berths) k fresh) .tx) tag) .1 .0)) _ (tx-as (getD (h .berths) k fresh) (berth-is h was k within) ((as-tx-Consecutive ((getD (h .berths) k fresh) .tx) tag) .1 .1))) .0) .0)) $
+                      assigns ! (of-opd ! (load ! (from ! (hop ! (look ! 12 refl) (fld ! {τ = X′.mir} {d = 24} refl (vrt ! refl (fld ! {τ = tyInt w16} {d = 20} refl (stop !)))))) (look-in ! 0 (in-variant ! 4 1 {τ = tyInt w16} {d = 20} refl refl (sub ! 2 {τ = X′.mir} {d = 24} refl (item ! (us (h .berths)) k (FB .val fresh) (us-within h was k within) (us-length h was) (us-at (h .berths) k ∙ tx-seen (getD (h .berths) k fresh) ((as-tx-Consecutive ((getD (h .berths) k fresh) .tx) tag) .1 .1)) (sub ! 2 {τ = tyArray B′.mir 10} {d = 8} refl (whole !)))))))) (from ! (stop !)) (init ! 18 refl ((uint w16) .lawful 𝓤 H A W .typed ((as-tx-Consecutive ((getD (h .berths) k fresh) .tx) tag) .1 .0) _ ((EL.owed X.the-type X′.the-laws (Tx.Consecutive ((as-tx-Consecutive ((getD (h .berths) k fresh) .tx) tag) .0) ((as-tx-Consecutive ((getD (h .berths) k fresh) .tx) tag) .1 .0)) _ (tx-as (getD (h .berths) k fresh) (berth-is h was k within) ((as-tx-Consecutive ((getD (h .berths) k fresh) .tx) tag) .1 .1))) .1 .0) .0)) $
                       assigns ! (addr ! (from ! (hop ! (look ! 36 refl) (stop !)))) (from ! (stop !)) (init ! 4 refl (tt, tt)) $
                       use1 W (‵ (cellAt fullShare (T.the-row .mir) (FT .val h ∷ []) b o)) (W .laws .at-raw fullShare T′.mir b o (FT .val h)) $ lent ! tt FT h b o was (λ α4 δ4.
                       uses W (‵ (flft (α4 ∷ []) fullShare) ∷ ‵ (MutRef (named 0) (α4 ∷ []) T.the-row .own (record { ptr = (b, o); name = δ4; now = h }) (vptr b o ∷ [])) ∷ []) (raw (C4 𝓤 H A at-mem run .pre (((α4 ∷ [], tt), (fullShare, tt), tt, ((record { ptr = (b, o); name = δ4; now = h }), (k, (((as-tx-Consecutive ((getD (h .berths) k fresh) .tx) tag) .0), (((as-tx-Consecutive ((getD (h .berths) k fresh) .tx) tag) .1 .0), tt)))), (vptr b o ∷ [], ((uint w64) .val k ∷ [], (F·D .val ((as-tx-Consecutive ((getD (h .berths) k fresh) .tx) tag) .0) ∷ [], ((uint w16) .val ((as-tx-Consecutive ((getD (h .berths) k fresh) .tx) tag) .1 .0) ∷ [], tt))))), tt))) (goes-c4 α4 δ4 h k ((as-tx-Consecutive ((getD (h .berths) k fresh) .tx) tag) .0) ((as-tx-Consecutive ((getD (h .berths) k fresh) .tx) tag) .1 .0) k-is ((EL.owed X.the-type X′.the-laws (Tx.Consecutive ((as-tx-Consecutive ((getD (h .berths) k fresh) .tx) tag) .0) ((as-tx-Consecutive ((getD (h .berths) k fresh) .tx) tag) .1 .0)) _ (tx-as (getD (h .berths) k fresh) (berth-is h was k within) ((as-tx-Consecutive ((getD (h .berths) k fresh) .tx) tag) .1 .1))) .0) ((EL.owed X.the-type X′.the-laws (Tx.Consecutive ((as-tx-Consecutive ((getD (h .berths) k fresh) .tx) tag) .0) ((as-tx-Consecutive ((getD (h .berths) k fresh) .tx) tag) .1 .0)) _ (tx-as (getD (h .berths) k fresh) (berth-is h was k within) ((as-tx-Consecutive ((getD (h .berths) k fresh) .tx) tag) .1 .1))) .1 .0) (within, ap (λ (y : Berth). y .tx) (at-is h k) ∙ ((as-tx-Consecutive ((getD (h .berths) k fresh) .tx) tag) .1 .1))) $
