@@ -123,7 +123,6 @@ static int given(char call, bool refused)
     switch (call) {
     case FRAME: return FROM_BERTH_0;
     case SHOW: return refused ? BERTHS : 0;
-    case CHANGE: return refused ? BERTHS : 0;
     case SET_UP: return refused ? BAD_STMIN : 0;
     default: return 0;
     }

@@ -11,9 +11,7 @@ use lib.Dec.{T, ltb, nltb→le}
 use Rattle.rules.specs.Numbers.{berthCount}
 use Rattle.rules.specs.Nodes.{fresh, berthAt, withRx, withTx, withBerths, withBerth}
 use Rattle.rules.specs.Ticks.{rxTicked, txTicked, ticked, codesOf}
-use Rattle.rules.specs.Calls.{done}
 use Rattle.rules.specs.declared.Rx.{Rx}
-use Rattle.rules.specs.declared.Tx.{Tx}
 use Rattle.rules.specs.declared.Berth.{Berth}
 use Rattle.rules.specs.declared.Card.{Card}
 use Rattle.rules.specs.declared.Adds.{Adds}

@@ -42,9 +42,11 @@ use Rattle.laws.specs.Gaps.{TwoFrames, Ticking, Spaced}
 use Rattle.laws.specs.Rounds.{served, turnOf, StaysDue, Fair}
 use Rattle.laws.specs.Sides.{frameSide, ofSide, handedSide, framesBy}
 use Rattle.laws.specs.Line.{there, back, deliveredIn, begunIn, World, leftA, leftB, carriedA, carriedB, Deed, atA, atB, setUpB, carryA, carryB, acts, living, spares, AllApart, AtRest, begin, MayBegin, Arrived, blank}
+use Rattle.laws.specs.Changes.{settingsAfter}
 use Rattle.laws.specs.Free.{clockAt, reportsIn, cardAfter, LeftAlone, ComesFree, AllComeFree}
 use Rattle.laws.proofs.Isolation.{owns-append}
 use Rattle.laws.proofs.SetUp.{each-alone, each-alone-after-set-up, sound-run}
+use Rattle.laws.proofs.Changes.{run-settings}
 use Rattle.laws.proofs.Cards.{card-tallies, frozen-stays, tallies-after-set-up}
 use Rattle.laws.proofs.Gaps.{run-spaced}
 use Rattle.laws.proofs.Fairness.{fair}
@@ -114,6 +116,13 @@ afresh-computed = (refl, refl)
 -- so each is as it would be alone from fresh
 pub afresh-alone : (k : ℕ) → k < berthCount → Alone (two .node .settings) (freshPart two (two .node .settings) twoOwn k) k afresh (owns k afresh twoRun) (answers afresh twoRun) (final afresh twoRun)
 afresh-alone k l = each-alone-after-set-up two (two .node .settings) twoOwn twoRun k l (afresh-computed .0)
+
+-- and each has the settings of the set-up, with its own changes: BS 4 at berth 3, STmin 20 at berth 5, and none at berth 4
+pub afresh-settings : (berthAt (final afresh twoRun .node) 3 .settings ≡ record { block = 4; stmin = 0 })
+    × (berthAt (final afresh twoRun .node) 5 .settings ≡ record { block = 2; stmin = 20 })
+    × (berthAt (final afresh twoRun .node) 4 .settings ≡ twoOwn)
+unfolding owns own ownDone settingsAfter setUpRefusal setUpOutcome setUpNode answers final done reply written outcome refusedOutcome refusal needs firstUnmet rightStore rightCards addedAt tickedCards berthAt inOrder all each settingsAllowed berthInOrder takingInRange sendingInRange inBlock afterFrame afterTurn cameAt frameCame byKind kind low heardBy toldBy ignored singleCame singleFits withBerth stored tickedNode ticked ran codesOf sentBerth beginsWith passedOver leastDistance distance due reached servedNode handedAt handOver areaOf singleFrame padded showing showable shownLength valueAllowed changedSettings changedBerth
+afresh-settings = (run-settings 3 afresh twoRun, run-settings 5 afresh twoRun, run-settings 4 afresh twoRun)
 
 -- ---- fairness: all ten are due, berth 4 was served last, and nine others are served before it
 

@@ -2,6 +2,7 @@
 pub mod Isolation
 pub mod Reports
 pub mod SetUp
+pub mod Changes
 pub mod Histories
 pub mod Cards
 pub mod Gaps

@@ -2,7 +2,7 @@
 -- hand-over, a change of the taker's settings while no reception is under way, or a frame that comes in; so a transfer goes from phase
 -- to phase, and at rest only the last is left.
 use mathlib.Core.Path.{_≡_, refl, sym, ap, ap₂, _∙_, subst}
-use Prim.Native.Nat.{ℕ, _+_, _-_, _≤_, _<_}
+use Prim.Native.Nat.{ℕ, _+_, _≤_, _<_}
 use native.Mathlib.Omega.{arith}
 use native.Mathlib.Nat.{zero-add}
 use mathlib.Core.Bool.{true, false, not}

@@ -7,3 +7,4 @@ pub mod Rounds
 pub mod Sides
 pub mod Line
 pub mod Free
+pub mod Changes

@@ -5,7 +5,6 @@ use Prim.Native.Nat.{ℕ}
 use mathlib.Core.List.{List}
 use lib.ListN.{getD, set, replicate}
 use Rattle.rules.specs.Numbers.{berthCount}
-use Rattle.rules.specs.declared.Settings.{Settings}
 use Rattle.rules.specs.declared.BerthSettings.{BerthSettings}
 use Rattle.rules.specs.declared.Rx.{Rx}
 use Rattle.rules.specs.declared.Tx.{Tx}

@@ -11,7 +11,6 @@ use Rattle.rules.specs.Tests.{pick, all, each}
 use Rattle.rules.specs.Numbers.{berthCount, leastArea, largestArea, largestBlock, mostMillis, leastFraction, mostFraction, timeout, snCount, longestGap, singleMost, firstBytes, leastLong}
 use Rattle.rules.specs.Nodes.{berthAt}
 use Rattle.rules.specs.declared.Settings.{Settings}
-use Rattle.rules.specs.declared.BerthSettings.{BerthSettings}
 use Rattle.rules.specs.declared.Taking.{Taking}
 use Rattle.rules.specs.declared.Sending.{Sending}
 use Rattle.rules.specs.declared.Rx.{Rx}

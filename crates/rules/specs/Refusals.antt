@@ -1,7 +1,7 @@
 -- Paper 01, "Refusal numbers", as paper 02 changes it (12 to 15 are new, 11 is struck): for each call its needs in the order in which they are
 -- tested, as tests and as plain conditions. That a refusal is n if and only if condition n is the first of the call's list that holds is
 -- proved (proofs/Exact).
-use Prim.Native.Nat.{ℕ, _+_, _-_, _*_, _≤_, _<_}
+use Prim.Native.Nat.{ℕ, _+_, _*_, _≤_, _<_}
 use mathlib.Core.Path.{_≡_}
 use mathlib.Core.Logic.{_⊎_}
 use mathlib.Core.Bool.{true, not, _&&_}

@@ -9,7 +9,7 @@ use Rattle.rules.specs.Tests.{unless}
 use Rattle.rules.specs.Numbers.{berthCount}
 use Rattle.rules.specs.Nodes.{berthAt, Held, withNode}
 use Rattle.rules.specs.Ranges.{InOrder}
-use Rattle.rules.specs.Events.{Call, tick, Event, ticks}
+use Rattle.rules.specs.Events.{Call, tick, change, Event, ticks}
 use Rattle.rules.specs.Stores.{setUpNode}
 use Rattle.rules.specs.Cards.{cardAt}
 use Rattle.rules.specs.Answers.{Side, Answer, ready, setUpSays}
@@ -29,9 +29,11 @@ use Rattle.laws.specs.Histories.{Moment, moments, historyOf}
 use Rattle.laws.specs.Cards.{zeroCards, TalliesAt, UnbegunAt, frozenAt}
 use Rattle.laws.specs.Gaps.{TwoFrames, Spaced}
 use Rattle.laws.specs.Free.{LeftAlone, ComesFree, AllComeFree}
+use Rattle.laws.specs.Changes.{ChangesOnly, settingsAfter}
 use Rattle.laws.specs.Sides.{sideOf, sideEvents, SideAlone}
 use Rattle.laws.specs.Rounds.{StaysDue, turnOf, Fair}
 use Rattle.laws.proofs.SetUp.{ten-run, each-alone, each-alone-after-set-up}
+use Rattle.laws.proofs.Changes.{change-only, run-settings}
 use Rattle.laws.proofs.Cards.{run-tallies, run-frozen-stays, set-up-unbegun}
 use Rattle.laws.proofs.Gaps.{run-spaced}
 use Rattle.laws.proofs.Free.{run-left-alone, run-comes-free, all-come-free}
@@ -119,6 +121,15 @@ chain-alone h ms k l c = as-run (h .node .settings) (partOf k h) k h ms c (each-
 pub chain-side-alone : (s : Side) (k : ℕ) (h : Held) (ms : List Made) → Chain h ms
     → SideAlone (h .node .settings) (sideOf s (partOf k h)) s k (sideEvents s (h .node .settings) (partOf k h) (ownIn k h ms)) (callsOf ms) (saidBy ms) (leftBy h ms)
 chain-side-alone s k h ms c = rw (chain-owns k h ms c, chain-says h ms c, chain-leaves h ms c) (side-alone-in-run s k h (callsOf ms))
+
+-- A BERTH'S SETTINGS, in any chain of calls from any start: those of the start, changed by its own answered changes and by nothing else
+pub chain-settings : (k : ℕ) (h : Held) (ms : List Made) → Chain h ms
+    → berthAt (leftBy h ms .node) k .settings ≡ settingsAfter (berthAt (h .node) k .settings) (ownIn k h ms)
+chain-settings k h ms c = rw (chain-owns k h ms c, chain-leaves h ms c) (run-settings k h (callsOf ms))
+
+-- A CHANGE OF THE CODE touches one setting of one berth, refused or not
+pub step-change-only : (h : Held) (j parameter value : ℕ) (o : Outcome) → Step h (change j parameter value) o → ChangesOnly j h (o .held)
+step-change-only h j parameter value o s = rw (step-is s) (change-only parameter value h j)
 
 -- DEMAND 3, SECOND HALF, OF THE CODE. In any chain of calls, while berth k has a frame due at every answered call for a frame, none
 -- of these calls answers None, no berth has two turns before k's first, and k's own comes by the tenth.

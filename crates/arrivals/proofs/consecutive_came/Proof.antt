@@ -1,5 +1,4 @@
 -- All sides but an awaiting one ignore the frame.
-use mathlib.Core.Path.{sym, _∙_}
 use Rattle.arrivals.proofs.Others.{consecutive-not-awaited}
 use borrow.Author.Needs.{needs}
 use Rattle.arrivals.proofs.consecutive_came.Statement.{statement}
