@@ -35,7 +35,7 @@ static int of_node(const struct node *node)
     return node->served + node->rx[BERTHS - 1].last;
 }
 
-/* The settings of its first berth, which is the one that a change is asked for. A send and a change answer berth 0 with 0. */
+/* The settings of its first berth, which is the one that a change is asked for. */
 static int of_settings(const struct node *node)
 {
     return 2 * node->set[0].block_size + node->set[0].stmin;
@@ -143,7 +143,7 @@ static void lend(struct load *l)
     memcpy(l->payload, l->situation == 'i' ? "\7\1\2\3\4\5\6\7" : "\41\1\2\3\4\5\6\7", LONG_FRAME);
 }
 
-/* A send answers its refusal, else the berth, which is 0. */
+/* A send and a change answer their refusal, else the berth, which is 0. */
 static int made(const struct load *l, struct node *node)
 {
     struct cards cards = { ten_cards, BERTHS };

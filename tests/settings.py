@@ -40,7 +40,8 @@ class Berth:
 
     def faults(self):
         """The parameters by which it puts the node out of order."""
-        return [STMIN] * (not allowed(STMIN, self.set[STMIN])) + [BS] * (0 < self.taken >= self.set[BS])
+        wrong = {STMIN: not allowed(STMIN, self.set[STMIN]), BS: 0 < self.taken >= self.set[BS]}
+        return [parameter for parameter in PARAMETERS if wrong[parameter]]
 
 
 class Settings:
@@ -93,9 +94,11 @@ class Settings:
             return self.berths[at].become(record[2], record[8] if record[2] in RECEIVING else 0)
         if kind == SET_UP and answer == "setup":
             self.fill(record[1:])
-        for k in BERTHS if kind == LOAD_NODE else [at] * (kind == LOAD_SETTINGS):
-            block_size, stmin = record[4:6] if kind == LOAD_NODE else record[2:4]
-            self.berths[k].set = [stmin, block_size]
+        if kind == LOAD_SETTINGS:
+            self.berths[at].set = [record[3], record[2]]
+        if kind == LOAD_NODE:
+            for berth in self.berths:
+                berth.set = [record[5], record[4]]
         for k in re.findall(r" (\d):[^0]:\d", answer) if kind == TICK else ():
             self.berths[int(k)].become(IDLE)
         frame, word = re.match(r"frame (\w{4}) (\w{16}) ", answer), re.match(r"berth (\d) old \d (failed \d|\w+)", answer)
@@ -135,5 +138,6 @@ def not_seen(seen):
     """A text of what the settings streams together should have seen, and have not."""
     wanted = [("change", *one) for one in product((0, 14), (IDLE, OWES_OVERFLOW), PARAMETERS)]
     wanted += [("change", *one) for one in product((14, 15), RECEIVING, PARAMETERS)] + [("change", 5, None, one) for one in PARAMETERS]
+    wanted += [("change", 13, state, 2) for state in (IDLE, OWES_OVERFLOW, *RECEIVING)]
     wanted += [("out of order by", *one) for one in product(BERTHS, PARAMETERS, CALLS)]
     return "\n".join(f"never: {what}" for what in wanted if not seen[what])

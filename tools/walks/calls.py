@@ -170,7 +170,7 @@ use Rattle.carumpek.proofs.Arms.{placed, change-refused, is-changed, ch
 
 
 def begins(*settings):
-    """The first lines of every call: the test of order, and what it takes of the settings."""
+    """The first lines of every call: the test of order, and A where the call asks for it."""
     return [('source', 'let order = looks::order(&*node);', 2), ('call', ORDER, 'o·', 'eo', 'o-is', None, None),
             ('source', 'let ordered = order < looks::UNORDERED;', 1)] + [('source', line, 1) for line in settings]
 
@@ -345,4 +345,4 @@ def walks(walk):
     yield walk('turn', [('cards', '&mut [Card]'), ('outgoing', '&[u8]'), ('buffer', '&mut [u8]')], 'TurnAnswer', 'TurnPromise h (cards .now) (outgoing .now) (buffer .now) r h′ cards′ buffer′', turn(),
                callees=[ORDER, TURN_REFUSAL, PASSED_OVER, PROBE, HAND_OVER], uses=TURN_USES, doc='Refused, none due, or handed over.')
     yield walk('change', [('k', 'u32'), ('parameter', 'u32'), ('value', 'u32')], 'ChangeAnswer', 'ChangePromise h k parameter value r h′', change(),
-               callees=[ORDER, OF_BERTH, CHANGE_REFUSAL, CHANGED, PUT_OWN], uses=CHANGE_USES, doc='Refused, or changed.')
+               callees=[ORDER, OF_BERTH, CHANGE_REFUSAL, CHANGED, PUT_OWN], uses=CHANGE_USES, doc='The receive side is copied for the refusal; the settings are copied, changed and stored back.')

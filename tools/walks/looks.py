@@ -42,7 +42,8 @@ use Rattle.rules.proofs.Tx as X
 use Rattle.looks.proofs.Sides.{FR, FX, FO, see-parts, rx-of, last-of, tx-of, own-of, side-fails, side-passes}
 '''
 ORDER = '''use Rattle.rules.specs.Tests.{all, each}
-use Rattle.rules.specs.Ranges.{areaAllowed, berthInOrder}
+use Rattle.rules.specs.Ranges.{areaAllowed}
+use Rattle.looks.specs.Order.{ownInOrder, sidesInOrder}
 '''
 
 
@@ -94,24 +95,33 @@ def at_berth(fn, nlocals, callees, ensures, uses, doc):
 
 # ---- one berth
 
+def own_at():
+    asks = of_berth('own_in_range', 'ranges', ['BerthSettings'], lambda r, last, h, v: f'{r} ≡ ownAllowed ({v[0]} .block) ({v[0]} .stmin)', 1)
+    w = at_berth('own_at', 7, [asks], 'r ≡ ownInOrder (berthAt h k)', '''use Rattle.rules.specs.Ranges.{ownAllowed}
+use Rattle.looks.specs.Order.{ownInOrder}
+''', 'The settings of one berth are copied out from behind the `&`, and a covered function tests them.')
+    own(w, 4, 5, 6, 3)
+    w.source('berth::ranges::own_in_range(own)')
+    w.call(asks, [arg(w, '_3', 'BerthSettings', OWN_SETTINGS)], '_0', 'r', 'e', 'is')
+    w.close('h', 'was')
+    w.finish('exits r (e ∙ ap ownInOrder (sym (at-is h k))) is')
+    return w
+
+
 def idle_at():
-    asks = of_berth('idle', 'ranges', ['Settings', 'BerthSettings', 'u32', 'Rx', 'Tx'],
-                    lambda r, last, h, v: f'{r} ≡ all (not (receiving {v[3]}) ∷ not (busy {v[4]}) ∷ ownAllowed ({v[1]} .block) ({v[1]} .stmin) ∷ leb {v[2]} ({v[0]} .area) ∷ [])', 1)
-    w = at_berth('idle_at', 17, [asks], 'r ≡ atRest (h .settings) (berthAt h k)', '''use mathlib.Core.Bool.{not}
-use Rattle.rules.specs.Ranges.{ownAllowed}
+    asks = of_berth('idle', 'ranges', ['Settings', 'u32', 'Rx', 'Tx'], lambda r, last, h, v: f'{r} ≡ all (not (receiving {v[2]}) ∷ not (busy {v[3]}) ∷ leb {v[1]} ({v[0]} .area) ∷ [])', 1)
+    w = at_berth('idle_at', 14, [asks], 'r ≡ atRest (h .settings) (berthAt h k)', '''use mathlib.Core.Bool.{not}
 use Rattle.rules.specs.Turns.{busy}
 use Rattle.berth.specs.Idle.{receiving}
 use Rattle.looks.specs.Order.{atRest}
 use Rattle.looks.proofs.Ordered.{sides-rest}
 ''', 'The settings and the parts of one berth are copied out from behind the `&`, and a covered function tests them.')
     settings(w, '_3')
-    own(w, 8, 9, 10, 4)
-    last(w, 8, 11, 12, 5)
-    rx(w, 8, 13, 14, 6)
-    tx(w, 8, 15, 16, 7)
-    w.source('berth::ranges::idle(settings, own, last, rx, tx)')
-    w.call(asks, [arg(w, '_3', 'Settings', SETTINGS), arg(w, '_4', 'BerthSettings', OWN_SETTINGS), arg(w, '_5', 'u32', LAST), arg(w, '_6', 'Rx', RX), arg(w, '_7', 'Tx', TX)],
-           '_0', 'r', 'e', 'is')
+    last(w, 7, 8, 9, 4)
+    rx(w, 7, 10, 11, 5)
+    tx(w, 7, 12, 13, 6)
+    w.source('berth::ranges::idle(settings, last, rx, tx)')
+    w.call(asks, [arg(w, '_3', 'Settings', SETTINGS), arg(w, '_4', 'u32', LAST), arg(w, '_5', 'Rx', RX), arg(w, '_6', 'Tx', TX)], '_0', 'r', 'e', 'is')
     w.close('h', 'was')
     w.finish(f'exits r (e ∙ sides-rest (h .settings) {BERTH} ∙ ap (atRest (h .settings)) (sym (at-is h k))) is')
     return w
@@ -142,19 +152,18 @@ def in_turn(w, flag, first, second, goes_on, decides, value, decided, after, clo
 
 
 def order_at():
-    test_rx = of_berth('receive_in_order', 'ranges', ['Settings', 'BerthSettings', 'u32', 'Rx'],
-                       lambda r, last, h, v: f'{r} ≡ all (ownAllowed ({v[1]} .block) ({v[1]} .stmin) ∷ rxInRange {v[0]} ({v[1]} .block) {v[2]} {v[3]} ∷ [])', 1)
+    test_rx = of_berth('rx_in_range', 'ranges', ['Settings', 'BerthSettings', 'u32', 'Rx'], lambda r, last, h, v: f'{r} ≡ rxInRange {v[0]} ({v[1]} .block) {v[2]} {v[3]}', 1)
     test_tx = of_berth('tx_in_range', 'ranges', ['Settings', 'Tx'], lambda r, last, h, v: f"{r} ≡ txInRange {' '.join(v)}", 2)
-    w = at_berth('order_at', 19, [test_rx, test_tx], 'r ≡ berthInOrder (h .settings) (berthAt h k)', 'use Rattle.rules.specs.Ranges.{berthInOrder, ownAllowed, rxInRange, txInRange}\n',
-                 'The settings and the receive side of one berth are copied out from behind the `&` and tested; where they are in range, the send side decides.')
+    w = at_berth('order_at', 19, [test_rx, test_tx], 'r ≡ sidesInOrder (h .settings) (berthAt h k)', 'use Rattle.rules.specs.Ranges.{rxInRange, txInRange}\nuse Rattle.looks.specs.Order.{sidesInOrder}\n',
+                 'The receive side of one berth is copied out from behind the `&` and tested by the berth\'s own BS; where it is in range, the send side decides.')
     settings(w, '_3')
     own(w, 8, 9, 10, 4)
     last(w, 8, 11, 12, 5)
     rx(w, 8, 13, 14, 6)
-    there = 'ap (berthInOrder (h .settings)) (sym (at-is h k))'
+    there = 'ap (sidesInOrder (h .settings)) (sym (at-is h k))'
 
     def first(walk):
-        walk.source('if berth::ranges::receive_in_order(settings, own, last, rx) {')
+        walk.source('if berth::ranges::rx_in_range(settings, own, last, rx) {')
         walk.call(test_rx, [arg(walk, '_3', 'Settings', SETTINGS), arg(walk, '_4', 'BerthSettings', OWN_SETTINGS), arg(walk, '_5', 'u32', LAST), arg(walk, '_6', 'Rx', RX)],
                   '_15', 'r', 'e', 'is')
 
@@ -432,19 +441,31 @@ use Rattle.looks.proofs.Ordered.{Counted, none-yet, one-more, stopped, 
     return w
 
 
-def rest_in_order():
-    ok = '(berthInOrder (h .settings))'
-    asks = asked_of('order_at', lambda r, k: f'{r} ≡ {ok[1:-1]} (berthAt h {k})', 1)
-    w = looking('rest_in_order', [('begun', 'usize')], 'bool', 6, [asks], f'r ≡ each {ok} (dropL begun (h .berths))', LOOP_USES + ORDER + '''use Rattle.looks.proofs.Ordered.{ends-all, fails-at, passes-at}
-''', 'A loop asks berth after berth whether it is in order. What is left says what all of them from the first one asked on say.')
-    loop = Loop(w, ['tyBool', 'ref', 'tyInt w64', 'tyInt w64', 'tyBool', 'tyBool'], 'while i < 10 {', 'i', '_3', 64, '_4', {2: 'vint w64 begun'},
-                lambda i: f'(each {ok} (dropL {i} (h .berths)) ≡ each {ok} (dropL begun (h .berths)))', 't-3')
+def own_in_order():
+    ok = 'ownInOrder'
+    asks = asked_of('own_at', lambda r, k: f'{r} ≡ {ok} (berthAt h {k})', 1)
+    w = looking('own_in_order', [], 'bool', 5, [asks], f'r ≡ each {ok} (h .berths)', LOOP_USES + ORDER + '''use Rattle.looks.proofs.Ordered.{ends-all, fails-at, passes-at}
+''', 'A loop asks berth after berth whether its settings are in range. What is left says what all of them say.')
+    loop = Loop(w, ['tyBool', 'ref', 'tyInt w64', 'tyBool', 'tyBool'], 'while i < 10 {', 'i', '_2', 64, '_3', {},
+                lambda i: f'(each {ok} (dropL {i} (h .berths)) ≡ each {ok} (h .berths))', 't-3')
+    asks_each(loop, ok, 'own_at', asks, '_2', '_4')
+    w.begin()
+    w.open()
+    w.close('h', 'was')
+    w.source('let mut i: usize = 0;')
+    w.number('_2')
+    loop.enter('(0, lit< tt, refl)')
+    return w
+
+
+def asks_each(loop, ok, fn, asks, count, flag):
+    """The turns of a loop that asks berth after berth, and answers false at the first that fails."""
     told = lambda came: f'(ap {ok} (sym (at-is h (i .0))) ∙ sym e ∙ {came})'
 
     def ask(arm):
-        arm.source('if order_at(node, i) {')
-        arm.call(asks, [counter(arm, '_3')], '_5', 'r', 'e', 'is', lend=LENT, within='(below less)')
-        return '_5'
+        arm.source(f'if {fn}(node, i) {{')
+        arm.call(asks, [counter(arm, count)], flag, 'r', 'e', 'is', lend=LENT, within='(below less)')
+        return flag
 
     def stop(arm, came):
         arm.source('return false;')
@@ -457,6 +478,16 @@ def rest_in_order():
         arm.finish(f'exits true (ends-all {ok} (h .berths) (i .0) (past over) ∙ i .2) refl')
 
     loop.turn(ask, True, lambda came: f'(passes-at {ok} (h .berths) (i .0) fresh (in-ten less) {told(came)} ∙ i .2)', stop, over)
+
+
+def rest_in_order():
+    ok = '(sidesInOrder (h .settings))'
+    asks = asked_of('order_at', lambda r, k: f'{r} ≡ {ok[1:-1]} (berthAt h {k})', 1)
+    w = looking('rest_in_order', [('begun', 'usize')], 'bool', 6, [asks], f'r ≡ each {ok} (dropL begun (h .berths))', LOOP_USES + ORDER + '''use Rattle.looks.proofs.Ordered.{ends-all, fails-at, passes-at}
+''', 'A loop asks berth after berth whether its sides are in order. What is left says what all of them from the first one asked on say.')
+    loop = Loop(w, ['tyBool', 'ref', 'tyInt w64', 'tyInt w64', 'tyBool', 'tyBool'], 'while i < 10 {', 'i', '_3', 64, '_4', {2: 'vint w64 begun'},
+                lambda i: f'(each {ok} (dropL {i} (h .berths)) ≡ each {ok} (dropL begun (h .berths)))', 't-3')
+    asks_each(loop, ok, 'order_at', asks, '_3', '_5')
     w.begin()
     w.open()
     w.close('h', 'was')
@@ -566,12 +597,13 @@ use Rattle.looks.proofs.DueBits.{due-fit, next-is-passed}
 def order():
     front = of_looks('front_in_order', None, ['Settings', 'u8'], 'bool', lambda r, last, h, v: f'{r} ≡ all (areaAllowed ({v[0]} .area) ∷ ltb {v[1]} berthCount ∷ [])', 1)
     counts = of_looks('idle_before', 'pass', [], 'usize', lambda r, last, h, v: f'Spared h {r}', 2)
-    others = of_looks('rest_in_order', 'pass', ['usize'], 'bool', lambda r, last, h, v: f'{r} ≡ each (berthInOrder (h .settings)) (dropL {v[0]} (h .berths))', 3)
-    w = looking('order', [], 'usize', 7, [front, counts, others], 'r ≡ orderOf h', '''use lib.Dec.{ltb}
+    others = of_looks('rest_in_order', 'pass', ['usize'], 'bool', lambda r, last, h, v: f'{r} ≡ each (sidesInOrder (h .settings)) (dropL {v[0]} (h .berths))', 3)
+    owns = of_looks('own_in_order', 'pass', [], 'bool', lambda r, last, h, v: f'{r} ≡ each ownInOrder (h .berths)', 4)
+    w = looking('order', [], 'usize', 8, [front, counts, others, owns], 'r ≡ orderOf h', '''use lib.Dec.{ltb}
 use lib.ListN.{drop as dropL}
 ''' + ORDER + '''use Rattle.looks.specs.Order.{Spared, orderOf}
-use Rattle.looks.proofs.Ordered.{front-fails, berths-fail, berths-pass}
-''', 'A and the berth served last go to a covered function; then the idle berths at the front are counted, and the others decide.')
+use Rattle.looks.proofs.Ordered.{front-fails, owns-fail, berths-fail, berths-pass}
+''', 'A and the berth served last go to a covered function; the settings of all berths are tested; then the idle berths at the front are counted, and the others decide.')
     w.begin()
     w.open()
     w.source('if front_in_order(node.settings, node.served) {')
@@ -590,22 +622,33 @@ use Rattle.looks.proofs.Ordered.{front-fails, berths-fail, berths-pass}
     passed, failed = fork(w), fork(w)
     passed.e('(λ yes.')
     passed.depth += 1
-    passed.source('let idle = idle_before(node);')
-    passed.call(counts, [], '_2', 'm', 'em', 'm-is', lend=LENT)
-    passed.source('if rest_in_order(node, idle) {')
-    passed.call(others, [(lambda: passed.L('_2'), 'usize', 'm', 'm-is')], '_6', 't', 'et', 't-is', lend=LENT)
+    passed.source('if own_in_order(node) {')
+    passed.call(owns, [], '_6', 'u', 'eu', 'u-is', lend=LENT)
     passed.e(f"branches ! {passed.L('_6')}")
     front_in_order = '(sym e ∙ is-true r yes) (ten-length h was)'
-    good, bad = fork(passed), fork(passed)
+    asked, refused = fork(passed), fork(passed)
+    asked.e('(λ fine.')
+    asked.depth += 1
+    asked.source('let idle = idle_before(node);')
+    asked.call(counts, [], '_2', 'm', 'em', 'm-is', lend=LENT)
+    asked.source('if rest_in_order(node, idle) {')
+    asked.call(others, [(lambda: asked.L('_2'), 'usize', 'm', 'm-is')], '_7', 't', 'et', 't-is', lend=LENT)
+    asked.e(f"branches ! {asked.L('_7')}")
+    in_order = f'{front_in_order} (sym eu ∙ is-true u fine)'
+    good, bad = fork(asked), fork(asked)
     good.e('(λ good.')
     good.depth += 1
     good.source('return idle;')
     good.copy('_2', '_0', 'usize', 'm', 'm-is')
-    good.finish(f'exits m (berths-pass h {front_in_order} m (sym (em .1) ∙ sym et ∙ is-true t good) (em .2)) m-is', within=True)
+    good.finish(f'exits m (berths-pass h {in_order} m (sym (em .1) ∙ sym et ∙ is-true t good) (em .2)) m-is', within=True)
     bad.e('(λ bad.')
     bad.depth += 1
-    out_of_order(bad, f'berths-fail h {front_in_order} (sym (em .1) ∙ sym et ∙ is-false t bad)')
-    passed.lines += joined(good, bad)
+    out_of_order(bad, f'berths-fail h {in_order} (sym (em .1) ∙ sym et ∙ is-false t bad)')
+    asked.lines += joined(good, bad)
+    refused.e('(λ wrong.')
+    refused.depth += 1
+    out_of_order(refused, f'owns-fail h {front_in_order} (sym eu ∙ is-false u wrong)')
+    passed.lines += joined(asked, refused)
     failed.e('(λ no.')
     failed.depth += 1
     out_of_order(failed, 'front-fails h (sym e ∙ is-false r no)')
@@ -616,7 +659,7 @@ use Rattle.looks.proofs.Ordered.{front-fails, berths-fail, berths-pass}
 def walks():
     """(path below the repository's root, text) of every walk that is written. The source lines that it names stand in the source."""
     there = {line.strip() for line in (HERE.parent.parent / 'crates/looks/src/lib.rt').read_text(encoding='utf-8').splitlines()}
-    for make in (idle_at, idle_before, order_at, rest_in_order, order, flow_at, message_at, due_at, due_bits, passed_over):
+    for make in (own_at, own_in_order, idle_at, idle_before, order_at, rest_in_order, order, flow_at, message_at, due_at, due_bits, passed_over):
         inwalk._made[0] = 0
         w = make()
         wrong = [line for line in w.sources if line not in there]

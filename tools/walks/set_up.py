@@ -4,9 +4,9 @@ from steps import Callee
 
 USES = '''use lib.ListN.{replicate}
 use Rattle.rules.specs.Nodes.{freshWith, withBerths}
-use Rattle.rules.specs.Ranges.{settingsAllowed}
+use Rattle.rules.specs.Ranges.{ownAllowed, settingsAllowed}
 use Rattle.node.specs.Promises.{SetUpPromise}
-use Rattle.carumpek.proofs.SetsUp.{may-set, sets-up, refuses-settings}
+use Rattle.carumpek.proofs.SetsUp.{may-own, sets-up, refuses-settings}
 '''
 CLEAR_USES = '''use lib.ListN.{replicate}
 use Rattle.rules.specs.Nodes.{freshWith, withBerths}
@@ -17,7 +17,7 @@ FRESH = Callee('rules', 'Berth::fresh_with', None, ['BerthSettings'], 'Berth', l
 ALLOWED = Callee('berth', 'ranges::settings_allowed', None, ['u32', 'u32', 'u32'], 'bool', lambda r, z, zs, h, vs: f'{r} ≡ settingsAllowed {" ".join(vs)}')
 SETTINGS = Callee('carumpek', 'setting::settings_of', None, ['u32'], 'Settings', lambda r, z, zs, h, vs: f'{r} ≡ record {{ area = {vs[0]} }}')
 OWN = Callee('carumpek', 'setting::own_of', None, ['u32', 'u32'], 'BerthSettings', lambda r, z, zs, h, vs: f'{r} ≡ record {{ block = {vs[0]}; stmin = {vs[1]} }}',
-             asks=lambda ps: f'((a· : ℕ) × (settingsAllowed a· {" ".join(ps)} ≡ true))')
+             asks=lambda ps: f'ownAllowed {" ".join(ps)} ≡ true')
 CLEAR = Callee('berths', 'clear', 'mut', ['BerthSettings'], 'unit', lambda r, z, zs, h, vs: f'{z} ≡ withBerths {h} (replicate berthCount (freshWith {vs[0]}))')
 
 
@@ -33,7 +33,7 @@ def set_up():
     args = 'h area block stmin said'
     stored = [('source', 'node.settings = setting::settings_of(area);'), ('call', SETTINGS, 's·', 's-says', 's-is', None, None),
               ('later', 1, 'node.served = setting::SERVED_LAST;'), ('source', 'let own = setting::own_of(block, stmin);'),
-              ('call', OWN, 'w·', 'w-says', 'w-is', f'(area, may-set {args} allowed)', None),
+              ('call', OWN, 'w·', 'w-says', 'w-is', f'(may-own {args} allowed)', None),
               ('source', 'berths::clear(&mut *node, own);'), ('call', CLEAR, 'u·', 'e·', 'u-is', None, None),
               ('source', 'return SetUpAnswer::Ready;'), ('make', 'SetUpAnswer', 'Ready'), ('return', f'sets-up {args} allowed s-says w-says e·')]
     return [('source', 'if berth::ranges::settings_allowed(area, block, stmin) {'), ('call', ALLOWED, 't·', 'said', 't-is', None, None),

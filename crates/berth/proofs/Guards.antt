@@ -43,18 +43,6 @@ some-counted block n z = go (eqb-cases block 0)
     go (holds b h) = simp (b, eqb-not n 0 z, ltb-not n block (omega arith))
     go (fails b h) = rw b
 
-pub block-none : (block n : ℕ) → block ≡ 0 → ltb n 1 ≡ inBlock block n
-unfolding inBlock
-block-none block n z = rw (eqb-is block 0 z) (go (eqb-cases n 0))
-  where
-    go : Tested (eqb n 0) (n ≡ 0) (n ≡ 0 → ⊥) → ltb n 1 ≡ eqb n 0
-    go (holds b h) = simp (b, ltb-is n 1 (omega arith))
-    go (fails b h) = simp (b, ltb-not n 1 (omega (arith, h)))
-
-pub block-some : (block n : ℕ) → (block ≡ 0 → ⊥) → ltb n block ≡ inBlock block n
-unfolding inBlock
-block-some block n z = rw (eqb-not block 0 z)
-
 -- ---- which variant a side is
 
 pub is-receiving : (rx : Rx) → OneOf (1 ∷ 2 ∷ 3 ∷ []) (tagOf R.the-type rx) → receiving rx ≡ true

@@ -1,13 +1,12 @@
 // Paper 01, "What each side of a berth remembers": the tests of the ranges, one side of a berth at a time, by value. A range that is
 // broken makes a berth out of order.
 // Each test guards the next by an early return, and what most sides pass is asked first: every call tests the ranges, and so a busy
-// side costs fewer instructions than with its tests joined by &. The two sendings share an arm for the same reason. The settings are
-// joined: they mostly pass.
+// side costs fewer instructions than with its tests joined by &. The two sendings share an arm for the same reason. Settings are joined:
+// of a berth's own the compiler makes one comparison where STmin is in milliseconds.
 ghost use mathlib.Core.Path.{_≡_};
 ghost use mathlib.Core.Logic.{_⊎_};
 ghost use mathlib.Core.Bool.{false, not, _||_};
 ghost use mathlib.Core.List.{[], _∷_};
-ghost use Prim.Native.Nat.{ℕ};
 ghost use lib.Dec.{eqb, ltb, leb};
 ghost use Rattle.rules.specs.Numbers.{largestBlock, timeout, longestGap};
 ghost use Rattle.rules.specs.Tests.{all};
@@ -50,7 +49,7 @@ fn own_allowed(block: u32, stmin: u32) -> bool
 }
 
 // The same of a berth.
-fn own_in_range(own: BerthSettings) -> bool
+pub fn own_in_range(own: BerthSettings) -> bool
     ensures { λ r. ⌜ r ≡ ownAllowed (own .block) (own .stmin) ⌝ }
 {
     own_allowed(own.block as u32, own.stmin as u32)
@@ -83,16 +82,6 @@ fn in_block(block: u8, n: u8) -> bool
     n < block
 }
 
-// A block size of 0 taken as 1: no count above 0 is below either. So one comparison tests a count.
-fn least_block(block: u8) -> u8
-    ensures { λ r. ⌜ ((n : ℕ) → ltb n r ≡ inBlock block n) ⌝ }
-{
-    if block == 0 {
-        return 1;
-    }
-    block
-}
-
 fn under_way(area: u32, length: u32, done: u32, sn: u8) -> bool
     ensures { λ r. ⌜ r ≡ underWayInRange area length done sn ⌝ }
 {
@@ -123,7 +112,7 @@ fn taking_in_range(settings: Settings, block: u8, last: u32, p: Taking, t: u16) 
     }
     let sn = p.sn.0;
     if under_way(settings.area, p.total, p.got, sn) {
-        return p.taken < least_block(block);
+        return in_block(block, p.taken);
     }
     false
 }
@@ -137,24 +126,15 @@ fn overflow_in_range(settings: Settings, last: u32, t: u16) -> bool
     t < rules::TIMEOUT
 }
 
-fn rx_in_range(settings: Settings, block: u8, last: u32, rx: Rx) -> bool
-    ensures { λ r. ⌜ r ≡ rxInRange settings block last rx ⌝ }
+// By the berth's own BS.
+pub fn rx_in_range(settings: Settings, own: BerthSettings, last: u32, rx: Rx) -> bool
+    ensures { λ r. ⌜ r ≡ rxInRange settings (own .block) last rx ⌝ }
 {
     match rx {
         Rx::Idle => last <= settings.area,
         Rx::OwesOverflow(t) => overflow_in_range(settings, last, t),
-        Rx::OwesGo(p, t) | Rx::Awaits(p, t) => taking_in_range(settings, block, last, p, t),
+        Rx::OwesGo(p, t) | Rx::Awaits(p, t) => taking_in_range(settings, own.block, last, p, t),
     }
-}
-
-// The berth's own settings, and the receive side by its own BS.
-pub fn receive_in_order(settings: Settings, own: BerthSettings, last: u32, rx: Rx) -> bool
-    ensures { λ r. ⌜ r ≡ all (ownAllowed (own .block) (own .stmin) ∷ rxInRange settings (own .block) last rx ∷ []) ⌝ }
-{
-    if own_in_range(own) {
-        return rx_in_range(settings, own.block, last, rx);
-    }
-    false
 }
 
 // A message that has yet to begin: its length between two bounds, and the timer.
@@ -241,14 +221,14 @@ pub fn tx_in_range(settings: Settings, tx: Tx) -> bool
     busy_in_range(settings, tx)
 }
 
-// Both sides idle, and the berth's own settings and the last length in range: such a berth is in order, and a tick leaves it as it is.
-pub fn idle(settings: Settings, own: BerthSettings, last: u32, rx: Rx, tx: Tx) -> bool
-    ensures { λ r. ⌜ r ≡ all (not (receiving rx) ∷ not (busy tx) ∷ ownAllowed (own .block) (own .stmin) ∷ leb last (settings .area) ∷ []) ⌝ }
+// Both sides idle, and the last length in range: such sides are in order, and a tick leaves them as they are.
+pub fn idle(settings: Settings, last: u32, rx: Rx, tx: Tx) -> bool
+    ensures { λ r. ⌜ r ≡ all (not (receiving rx) ∷ not (busy tx) ∷ leb last (settings .area) ∷ []) ⌝ }
 {
     match rx {
         Rx::Idle => {
             if is_idle(tx) {
-                return own_in_range(own) & (last <= settings.area);
+                return last <= settings.area;
             }
             false
         }

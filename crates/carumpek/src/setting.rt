@@ -1,8 +1,7 @@
 // What setting up writes, part by part: a node is never built beside the lent one.
 ghost use mathlib.Core.Path.{_≡_};
 ghost use mathlib.Core.Bool.{true};
-ghost use Rattle.rules.specs.Ranges.{settingsAllowed};
-ghost use Prim.Native.Nat.{ℕ};
+ghost use Rattle.rules.specs.Ranges.{ownAllowed};
 use rules::BerthSettings;
 use rules::Settings;
 
@@ -18,7 +17,7 @@ pub(crate) fn settings_of(area: u32) -> Settings
 
 // The berths', alike. Settings that are allowed fit their bytes.
 pub(crate) fn own_of(block: u32, stmin: u32) -> BerthSettings
-    requires { ⌜ ((area : ℕ) × (settingsAllowed area block stmin ≡ true)) ⌝ }
+    requires { ⌜ ownAllowed block stmin ≡ true ⌝ }
     ensures { λ r. ⌜ r ≡ record { block = block; stmin = stmin } ⌝ }
 {
     BerthSettings {

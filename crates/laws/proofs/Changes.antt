@@ -25,6 +25,27 @@ use Rattle.laws.specs.Own.{ownDone, own, owns}
 use Rattle.laws.specs.Changes.{ChangesOnly, settingsAfter}
 use Rattle.laws.proofs.Isolation.{part-step, berth-alone}
 
+-- ---- a berth's settings in a run
+
+settings-frame : (s : Settings) (b : Berth) (d : List ℕ) → frameCame s b d .berth .settings ≡ b .settings
+unfolding heardBy toldBy
+settings-frame s b d = frame-either (λ (c : Came). c .berth .settings ≡ b .settings) s b d (λ why. refl) refl refl refl refl
+
+settings-turn : (b : Berth) (area : List ℕ) → handOver b area .berth .settings ≡ b .settings
+unfolding handOver
+settings-turn b area = pick-either (λ (g : HandedOver). g .berth .settings ≡ b .settings) (flowDue (b .rx)) _ _ (λ t. refl) (λ t. refl)
+
+alone-settings : (s : Settings) (p : Part) (es : List Event) → alone s p es .berth .settings ≡ settingsAfter (p .berth .settings) es
+unfolding alone settingsAfter partAfter stateAfter ticked sent changed
+alone-settings s p [] = refl
+alone-settings s p (arrives d ∷ es) =
+    alone-settings s (partAfter s p (arrives d)) es ∙ ap (λ (given : BerthSettings). settingsAfter given es) (settings-frame s (p .berth) d)
+alone-settings s p (ticks ∷ es) = alone-settings s (partAfter s p ticks) es
+alone-settings s p (sends m ∷ es) = alone-settings s (partAfter s p (sends m)) es
+alone-settings s p (turns ∷ es) =
+    alone-settings s (partAfter s p turns) es ∙ ap (λ (given : BerthSettings). settingsAfter given es) (settings-turn (p .berth) (p .outgoing))
+alone-settings s p (changes parameter value ∷ es) = alone-settings s (partAfter s p (changes parameter value)) es
+
 -- ---- one change
 
 module _ (parameter value : ℕ) where
@@ -54,16 +75,23 @@ module _ (parameter value : ℕ) where
       go (suc n) = refl
 
   -- A CHANGE TOUCHES ONE SETTING OF ONE BERTH, refused or not, at any node, stores and cards
-  pub change-only : (h : Held) (j : ℕ) → ChangesOnly j h (outcome h (change j parameter value) .held)
-  unfolding outcome refusedOutcome done withBerth berthAt passedOver changed alone
+  pub change-only : (h : Held) (j : ℕ) → ChangesOnly j parameter value h (outcome h (change j parameter value) .held)
+  unfolding outcome refusedOutcome done withBerth berthAt passedOver changed alone partOf
   change-only h j = go (refusal h (change j parameter value)) refl
     where
       others : (k : ℕ) → (j ≡ k → ⊥) → partOf k (outcome h (change j parameter value) .held) ≡ partOf k h
       others k ne = part-step k h (change j parameter value) ∙ ap (alone (h .node .settings) (partOf k h)) (not-own h j k ne)
 
-      go : (n : ℕ) → refusal h (change j parameter value) ≡ n → ChangesOnly j h (outcome h (change j parameter value) .held)
+      settings : berthAt (outcome h (change j parameter value) .held .node) j .settings
+          ≡ settingsAfter (berthAt (h .node) j .settings) (own j h (change j parameter value))
+      settings =
+          ap (λ (p : Part). p .berth .settings) (part-step j h (change j parameter value))
+          ∙ alone-settings (h .node .settings) (partOf j h) (own j h (change j parameter value))
+
+      go : (n : ℕ) → refusal h (change j parameter value) ≡ n → ChangesOnly j parameter value h (outcome h (change j parameter value) .held)
       go zero e =
           rw e (record {
+            settings = rw e at settings;
             others = rw e at others;
             receive = kept-at (λ b. b .rx) (λ b. refl) (h .node .berths) j;
             last = kept-at (λ b. b .last) (λ b. refl) (h .node .berths) j;
@@ -77,6 +105,7 @@ module _ (parameter value : ℕ) where
           })
       go (suc n) e =
           rw e (record {
+            settings = rw e at settings;
             others = λ k ne. refl;
             receive = refl;
             last = refl;
@@ -88,27 +117,6 @@ module _ (parameter value : ℕ) where
             cards = refl;
             round = refl;
           })
-
--- ---- a berth's settings in a run
-
-settings-frame : (s : Settings) (b : Berth) (d : List ℕ) → frameCame s b d .berth .settings ≡ b .settings
-unfolding heardBy toldBy
-settings-frame s b d = frame-either (λ (c : Came). c .berth .settings ≡ b .settings) s b d (λ why. refl) refl refl refl refl
-
-settings-turn : (b : Berth) (area : List ℕ) → handOver b area .berth .settings ≡ b .settings
-unfolding handOver
-settings-turn b area = pick-either (λ (g : HandedOver). g .berth .settings ≡ b .settings) (flowDue (b .rx)) _ _ (λ t. refl) (λ t. refl)
-
-alone-settings : (s : Settings) (p : Part) (es : List Event) → alone s p es .berth .settings ≡ settingsAfter (p .berth .settings) es
-unfolding alone settingsAfter partAfter stateAfter ticked sent changed
-alone-settings s p [] = refl
-alone-settings s p (arrives d ∷ es) =
-    alone-settings s (partAfter s p (arrives d)) es ∙ ap (λ (own : BerthSettings). settingsAfter own es) (settings-frame s (p .berth) d)
-alone-settings s p (ticks ∷ es) = alone-settings s (partAfter s p ticks) es
-alone-settings s p (sends m ∷ es) = alone-settings s (partAfter s p (sends m)) es
-alone-settings s p (turns ∷ es) =
-    alone-settings s (partAfter s p turns) es ∙ ap (λ (own : BerthSettings). settingsAfter own es) (settings-turn (p .berth) (p .outgoing))
-alone-settings s p (changes parameter value ∷ es) = alone-settings s (partAfter s p (changes parameter value)) es
 
 -- A BERTH'S SETTINGS IN A RUN are those of its start, changed by its own answered changes and by nothing else
 pub run-settings : (k : ℕ) (h : Held) (cs : List Call)

@@ -333,7 +333,7 @@ all-come-free h order ten n enough =
     record {
       answered = ticks-answered n h order ten;
       each = λ k l. run-comes-free n k h (replicate n tick) order l (ticks-owned k n h order ten) enough;
-      settings = settings-run h (replicate n tick);
+      area = settings-run h (replicate n tick);
       served = served;
       incoming = incoming;
       outgoing = outgoing;

@@ -60,7 +60,7 @@ pub record ComesFree (k : ℕ) (h : Held) (said : List Answer) (end : Held) : Ty
 pub record AllComeFree (h : Held) (said : List Answer) (end : Held) : Type 0 where
   pub answered : (number : ℕ) → List·Memᴰ (refused number) said → ⊥
   pub each : (k : ℕ) → k < berthCount → ComesFree k h said end
-  pub settings : end .node .settings ≡ h .node .settings
+  pub area : end .node .settings ≡ h .node .settings
   pub served : end .node .served ≡ h .node .served
   pub incoming : end .incoming ≡ h .incoming
   pub outgoing : end .outgoing ≡ h .outgoing

@@ -1,5 +1,5 @@
 -- The line's law: two nodes, and a line between berth i of node A, which sends, and berth j of node B, which takes. Any calls on both
--- nodes, and the carrying of frames. What was handed over and reported is read off the answers alone.
+-- nodes, and the carrying of frames. What was handed over and reported is read off the answers alone, the settings at Begun off the taker's node.
 use Prim.Native.Nat.{ℕ, _+_, _-_, _≤_, _<_}
 use mathlib.Core.Path.{_≡_}
 use mathlib.Core.Bool.{Bool, true, false, not, _||_}

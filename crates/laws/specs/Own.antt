@@ -98,13 +98,13 @@ pub record Sound (h : Held) : Type 0 where
 
 -- what a set-up with these settings leaves, all ten berths with the same
 abbrev pub setUp : Held → Settings → BerthSettings → Held
-setUp h s own = setUpOutcome h (s .area) (own .block) (own .stmin) .held
+setUp h s alike = setUpOutcome h (s .area) (alike .block) (alike .stmin) .held
 
 -- berth k fresh with its settings, its areas as the stores have them, and its card as the list has it
 abbrev pub freshPart : Held → Settings → BerthSettings → ℕ → Part
-freshPart h s own k =
+freshPart h s alike k =
     record {
-      berth = freshWith own;
+      berth = freshWith alike;
       incoming = areaOf (s .area) k (h .incoming);
       outgoing = areaOf (s .area) k (h .outgoing);
       card = cardAt (h .cards) k;

@@ -1,10 +1,10 @@
 -- The test of order. The loops: what is left of the list says what all of it says, as long as each element passed by passes. A berth
--- that is idle, with its settings and its last length in range, is in order, and one that is in order fails that test only where it is not idle. Then
--- what follows of a node from its answer.
+-- that is idle, with a last length in range, has its sides in order, and one that has fails that test only where it is not idle. The
+-- settings of all berths first and then their sides is the order of each. Then what follows of a node from its answer.
 use Prim.Native.Nat.{ℕ, zero, suc, _+_, _<_, _≤_}
 use native.Mathlib.Numerals.{add-one}
 use native.Mathlib.Omega.{arith}
-use mathlib.Core.Path.{_≡_, refl, sym, _∙_, ap, ap₂}
+use mathlib.Core.Path.{_≡_, refl, sym, _∙_, ap}
 use mathlib.Core.Bool.{Bool, true, false, not, _&&_, and-assoc, true≢false}
 use mathlib.Core.List.{List, [], _∷_}
 use lib.ListN.{length, getD, drop, drop-of-length-le}
@@ -14,7 +14,7 @@ use borrow.Author.Tests.{eq-eqb, lt-ltb, le-ltb}
 use Rattle.rules.specs.Numbers.{berthCount}
 use Rattle.rules.specs.Tests.{pick, all, each}
 use Rattle.rules.specs.Nodes.{fresh}
-use Rattle.rules.specs.Ranges.{areaAllowed, ownAllowed, rxInRange, txInRange, berthInOrder, inOrder}
+use Rattle.rules.specs.Ranges.{areaAllowed, rxInRange, txInRange, berthInOrder, inOrder}
 use Rattle.rules.specs.Turns.{busy}
 use Rattle.rules.specs.declared.Settings.{Settings}
 use Rattle.rules.specs.declared.Rx.{Rx}
@@ -24,9 +24,9 @@ use Rattle.rules.specs.declared.Node.{Node}
 use Rattle.rules.proofs.Cases.{yes-of, is-true, pick-either, and-left, and-right, all-yes}
 use Rattle.rules.proofs.Ranges.{in-order-range}
 use Rattle.berth.specs.Idle.{receiving, idle}
-use Rattle.berth.proofs.Chains.{more}
+use Rattle.berth.proofs.Chains.{more, stop, ends}
 use Rattle.berth.proofs.Guards.{not-busy}
-use Rattle.looks.specs.Order.{atRest, leadingIdle, Spared, unordered, orderOf}
+use Rattle.looks.specs.Order.{ownInOrder, sidesInOrder, atRest, leadingIdle, Spared, unordered, orderOf}
 
 -- ---- a test of every element, from a place on
 
@@ -96,39 +96,41 @@ pub tx-idle : (b : Berth) → idle b ≡ true → b .tx ≡ Tx.Idle
 unfolding idle
 tx-idle b e = not-busy (b .tx) (is-true _ (and-right (not (receiving (b .rx))) (not (busy (b .tx))) (yes-of e)))
 
--- of an idle berth only the settings and the last length may be out of range
-abbrev settled : Settings → Berth → List Bool
-settled s b = ownAllowed (b .settings .block) (b .settings .stmin) ∷ leb (b .last) (s .area) ∷ []
+-- of an idle berth only the last length may be out of range
+idle-by-last : (s : Settings) (b : Berth) → idle b ≡ true → sidesInOrder s b ≡ leb (b .last) (s .area)
+unfolding sidesInOrder
+idle-by-last s b e = sym (go (leb (b .last) (s .area)) refl)
+  where
+    tx : true ≡ txInRange s (b .tx)
+    tx = sym (ap (txInRange s) (tx-idle b e))
 
-idle-by-rest : (s : Settings) (b : Berth) → idle b ≡ true → berthInOrder s b ≡ all (settled s b)
-unfolding berthInOrder all
-idle-by-rest s b e =
-    ap₂ (λ (rx : Rx) (tx : Tx). all (ownAllowed (b .settings .block) (b .settings .stmin) ∷ rxInRange s (b .settings .block) (b .last) rx ∷ txInRange s tx ∷ []))
-    (rx-idle b e) (tx-idle b e)
+    go : (t : Bool) → leb (b .last) (s .area) ≡ t → t ≡ all (rxInRange s (b .settings .block) (b .last) (b .rx) ∷ txInRange s (b .tx) ∷ [])
+    go true h = more _ (ap (rxInRange s (b .settings .block) (b .last)) (rx-idle b e) ∙ h) (ends tx)
+    go false h = stop _ (ap (rxInRange s (b .settings .block) (b .last)) (rx-idle b e) ∙ h)
 
 -- a berth at rest, as the test of its parts has it
-pub sides-rest : (s : Settings) (b : Berth) → all (not (receiving (b .rx)) ∷ not (busy (b .tx)) ∷ settled s b) ≡ atRest s b
+pub sides-rest : (s : Settings) (b : Berth) → all (not (receiving (b .rx)) ∷ not (busy (b .tx)) ∷ leb (b .last) (s .area) ∷ []) ≡ atRest s b
 unfolding idle all
-sides-rest s b = sym (and-assoc (not (receiving (b .rx))) (not (busy (b .tx))) (all (settled s b)))
+sides-rest s b = sym (and-assoc (not (receiving (b .rx))) (not (busy (b .tx))) (leb (b .last) (s .area) && true))
 
 rests-idle : (s : Settings) (b : Berth) → atRest s b ≡ true → idle b ≡ true
-rests-idle s b e = is-true _ (all-yes (idle b ∷ settled s b) (yes-of e) .0)
+rests-idle s b e = is-true _ (all-yes (idle b ∷ leb (b .last) (s .area) ∷ []) (yes-of e) .0)
 
-rests-in-order : (s : Settings) (b : Berth) → atRest s b ≡ true → berthInOrder s b ≡ true
-rests-in-order s b e = let i = rests-idle s b e in idle-by-rest s b i ∙ more (settled s b) i refl ∙ e
+rests-in-order : (s : Settings) (b : Berth) → atRest s b ≡ true → sidesInOrder s b ≡ true
+rests-in-order s b e = idle-by-last s b (rests-idle s b e) ∙ is-true _ (all-yes (idle b ∷ leb (b .last) (s .area) ∷ []) (yes-of e) .1 .0)
 
-not-idle : (s : Settings) (b : Berth) → atRest s b ≡ false → berthInOrder s b ≡ true → idle b ≡ false
+not-idle : (s : Settings) (b : Berth) → atRest s b ≡ false → sidesInOrder s b ≡ true → idle b ≡ false
 not-idle s b r o = go (idle b) refl
   where
     go : (t : Bool) → idle b ≡ t → t ≡ false
-    go true e = absurd (true≢false (more _ e (sym (sym (idle-by-rest s b e) ∙ o)) ∙ r))
+    go true e = absurd (true≢false (more _ e (ends (sym (sym (idle-by-last s b e) ∙ o))) ∙ r))
     go false e = refl
 
 -- ---- the loop over the idle berths, in which i of them have been passed by
 
 module _ (n : Node) where
   abbrev ok : Berth → Bool
-  ok = berthInOrder (n .settings)
+  ok = sidesInOrder (n .settings)
 
   -- the others decide, and the idle ones are counted
   abbrev pub Counted : ℕ → Type 0
@@ -157,16 +159,36 @@ module _ (n : Node) where
 
 -- ---- the node
 
+-- the settings of all berths and then the sides of all are the order of each
+settings-and-sides : (s : Settings) (bs : List Berth) → each (berthInOrder s) bs ≡ (each ownInOrder bs && each (sidesInOrder s) bs)
+unfolding each berthInOrder sidesInOrder all
+settings-and-sides s [] = refl
+settings-and-sides s (b ∷ bs) =
+    ap (λ (t : Bool). berthInOrder s b && t) (settings-and-sides s bs)
+    ∙ sorted (ownInOrder b) (sidesInOrder s b) (each ownInOrder bs) (each (sidesInOrder s) bs)
+  where
+    sorted : (o t p u : Bool) → ((o && t) && (p && u)) ≡ ((o && p) && (t && u))
+    sorted true true true u = refl
+    sorted true true false u = refl
+    sorted true false true u = refl
+    sorted true false false u = refl
+    sorted false t p u = refl
+
 module _ (n : Node) where
   abbrev front : Bool
   front = all (areaAllowed (n .settings .area) ∷ ltb (n .served) berthCount ∷ [])
 
-  abbrev berths : Bool
-  berths = each (berthInOrder (n .settings)) (n .berths)
+  abbrev owns : Bool
+  owns = each ownInOrder (n .berths)
 
-  order-is : inOrder n ≡ (front && (eqb (length (n .berths)) berthCount && berths))
+  abbrev berths : Bool
+  berths = each (sidesInOrder (n .settings)) (n .berths)
+
+  order-is : inOrder n ≡ (front && (eqb (length (n .berths)) berthCount && (owns && berths)))
   unfolding inOrder all
-  order-is = joins (areaAllowed (n .settings .area)) (ltb (n .served) berthCount) (eqb (length (n .berths)) berthCount) berths
+  order-is =
+      joins (areaAllowed (n .settings .area)) (ltb (n .served) berthCount) (eqb (length (n .berths)) berthCount) (each (berthInOrder (n .settings)) (n .berths))
+      ∙ ap (λ (t : Bool). front && (eqb (length (n .berths)) berthCount && t)) (settings-and-sides (n .settings) (n .berths))
     where
       joins : (a b c d : Bool) → (a && (b && (c && (d && true)))) ≡ ((a && (b && true)) && (c && d))
       joins true true true true = refl
@@ -180,18 +202,27 @@ module _ (n : Node) where
   out-of-order e = rw e
 
   pub front-fails : front ≡ false → unordered ≡ orderOf n
-  front-fails e = out-of-order (order-is ∙ ap (λ c. c && (eqb (length (n .berths)) berthCount && berths)) e)
+  front-fails e = out-of-order (order-is ∙ ap (λ c. c && (eqb (length (n .berths)) berthCount && (owns && berths))) e)
 
   module _ (passed : front ≡ true) (ten : length (n .berths) ≡ berthCount) where
-    by-berths : inOrder n ≡ berths
-    by-berths = order-is ∙ ap (λ c. c && (eqb (length (n .berths)) berthCount && berths)) passed ∙ ap (λ c. c && berths) (eq-eqb _ _ ten)
+    by-berths : inOrder n ≡ (owns && berths)
+    by-berths =
+        order-is ∙ ap (λ c. c && (eqb (length (n .berths)) berthCount && (owns && berths))) passed
+        ∙ ap (λ c. c && (owns && berths)) (eq-eqb _ _ ten)
 
-    pub berths-fail : berths ≡ false → unordered ≡ orderOf n
-    berths-fail e = out-of-order (by-berths ∙ e)
+    pub owns-fail : owns ≡ false → unordered ≡ orderOf n
+    owns-fail e = out-of-order (by-berths ∙ ap (λ c. c && berths) e)
 
-    pub berths-pass : (i : ℕ) → berths ≡ true → (berths ≡ true → i ≡ leadingIdle (n .berths)) → i ≡ orderOf n
-    unfolding orderOf
-    berths-pass i e h = rw (by-berths, e) (h e)
+    module _ (allowed : owns ≡ true) where
+      by-sides : inOrder n ≡ berths
+      by-sides = by-berths ∙ ap (λ c. c && berths) allowed
+
+      pub berths-fail : berths ≡ false → unordered ≡ orderOf n
+      berths-fail e = out-of-order (by-sides ∙ e)
+
+      pub berths-pass : (i : ℕ) → berths ≡ true → (berths ≡ true → i ≡ leadingIdle (n .berths)) → i ≡ orderOf n
+      unfolding orderOf
+      berths-pass i e h = rw (by-sides, e) (h e)
 
 -- ---- what follows from the answer
 

@@ -1,7 +1,6 @@
 -- The node with one part anew, as a walk stores it, and that it has its type.
-use mathlib.Core.Path.{refl}
-use mathlib.Core.List.{List, [], _∷_}
-use Prim.Native.Nat.{ℕ, _<_, _^_}
+use mathlib.Core.List.{[], _∷_}
+use Prim.Native.Nat.{ℕ, _<_}
 use lib.ListN.{getD, set}
 use denote.Laws.{Is}
 use denote.Builtin.{u8, u32}

@@ -1,15 +1,14 @@
 -- A berth in memory is its four parts: each of them has its type where the berth has. What the two sides say of the berth together:
--- settings or a receive side that fails the test of order decide, and so does a send side that has a frame due.
+-- a receive side that fails the test of order decides, and so does a send side that has a frame due.
 use mathlib.Core.Path.{_≡_, refl, sym, ap, _∙_}
-use mathlib.Core.Bool.{Bool, true, false, _&&_, _||_, and-true, or-true, or-false, true≢false}
+use mathlib.Core.Bool.{Bool, true, false, _||_, or-true, or-false}
 use mathlib.Core.List.{[], _∷_}
 use mir.Syntax.{w32}
 use mir.Val.{Val, vint, vstruct, ofList}
 use denote.Laws.{Is}
 use denote.Builtin.{u32}
 use denote.Struct.Laws as SL
-use Rattle.rules.specs.Tests.{all}
-use Rattle.rules.specs.Ranges.{ownAllowed, rxInRange, txInRange, berthInOrder}
+use Rattle.rules.specs.Ranges.{rxInRange, txInRange}
 use Rattle.rules.specs.Turns.{flowDue, messageDue, due}
 use Rattle.rules.specs.declared.Settings.{Settings}
 use Rattle.rules.specs.declared.Berth.{Berth}
@@ -21,6 +20,8 @@ use Rattle.rules.proofs.Tx as X
 use Rattle.rules.proofs.Tx.Laws as X′
 use Rattle.rules.proofs.Berth as B
 use Rattle.rules.proofs.Berth.Laws as B′
+use Rattle.berth.proofs.Chains.{more, stop, ends}
+use Rattle.looks.specs.Order.{sidesInOrder}
 use Rattle.looks.proofs.Lent.{Flat, struct, enum}
 use Rattle.looks.proofs.Ten.{FB}
 
@@ -56,30 +57,14 @@ module _ (b : Berth) (is : Is B.the-row b (FB .val b ∷ [])) where
 
 -- ---- one side, and then the other
 
--- the settings and the receive side
-abbrev pub receives : Settings → Berth → Bool
-receives s b =
-    all (ownAllowed (b .settings .block) (b .settings .stmin) ∷ rxInRange s (b .settings .block) (b .last) (b .rx) ∷ [])
+pub side-fails : (s : Settings) (b : Berth) → rxInRange s (b .settings .block) (b .last) (b .rx) ≡ false → false ≡ sidesInOrder s b
+unfolding sidesInOrder
+side-fails s b e = stop _ e
 
-pub side-fails : (s : Settings) (b : Berth) → receives s b ≡ false → false ≡ berthInOrder s b
-unfolding berthInOrder all
-side-fails s b =
-    go (ownAllowed (b .settings .block) (b .settings .stmin)) (rxInRange s (b .settings .block) (b .last) (b .rx)) (txInRange s (b .tx))
-  where
-    go : (own rx tx : Bool) → (own && (rx && true)) ≡ false → false ≡ (own && (rx && (tx && true)))
-    go true true tx e = absurd (true≢false e)
-    go true false tx e = refl
-    go false rx tx e = refl
-
-pub side-passes : {r : Bool} (s : Settings) (b : Berth) → receives s b ≡ true → r ≡ txInRange s (b .tx) → r ≡ berthInOrder s b
-unfolding berthInOrder all
-side-passes {r} s b =
-    go (ownAllowed (b .settings .block) (b .settings .stmin)) (rxInRange s (b .settings .block) (b .last) (b .rx)) (txInRange s (b .tx))
-  where
-    go : (own rx tx : Bool) → (own && (rx && true)) ≡ true → r ≡ tx → r ≡ (own && (rx && (tx && true)))
-    go true true tx e h = h ∙ sym (and-true tx)
-    go true false tx e h = absurd (true≢false (sym e))
-    go false rx tx e h = absurd (true≢false (sym e))
+pub side-passes : {r : Bool} (s : Settings) (b : Berth) → rxInRange s (b .settings .block) (b .last) (b .rx) ≡ true → r ≡ txInRange s (b .tx)
+    → r ≡ sidesInOrder s b
+unfolding sidesInOrder
+side-passes s b e h = more _ e (ends h)
 
 pub message-due : (b : Berth) → messageDue (b .tx) ≡ true → true ≡ due b
 unfolding due

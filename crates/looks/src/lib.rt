@@ -9,10 +9,10 @@ ghost use lib.Dec.{ltb};
 ghost use Rattle.rules.specs.Numbers.{berthCount};
 ghost use Rattle.rules.specs.Tests.{pick, all, each};
 ghost use Rattle.rules.specs.Nodes.{berthAt};
-ghost use Rattle.rules.specs.Ranges.{areaAllowed, berthInOrder, inOrder};
+ghost use Rattle.rules.specs.Ranges.{areaAllowed, inOrder};
 ghost use Rattle.rules.specs.Turns.{flowDue, messageDue, due};
 ghost use Rattle.rules.specs.Stores.{passedOver};
-ghost use Rattle.looks.specs.Order.{atRest, Spared, orderOf};
+ghost use Rattle.looks.specs.Order.{ownInOrder, sidesInOrder, atRest, Spared, orderOf};
 ghost use Rattle.looks.specs.Probes.{probeAt};
 ghost use Rattle.looks.specs.Bits.{dueBits, nextSet};
 use rules::Node;
@@ -34,20 +34,43 @@ fn front_in_order(settings: Settings, served: u8) -> bool
     berth::ranges::area_allowed(settings.area) & (served < rules::BERTH_COUNT)
 }
 
-// Whether berth k is idle with its settings and its last length in range.
+// Whether berth k's own settings are in range.
+fn own_at(node: &Node, k: usize) -> bool
+    requires { ⌜ k < berthCount ⌝ }
+    ensures { λ r. ⌜ r ≡ ownInOrder (berthAt (now (node .entry)) k) ⌝ }
+{
+    let own = node.berths[k].settings;
+    berth::ranges::own_in_range(own)
+}
+
+// Whether every berth's are. A loop of its own, before the sides: of a berth it costs two instructions, and the loops over the sides none more.
+fn own_in_order(node: &Node) -> bool
+    ensures { λ r. ⌜ r ≡ each ownInOrder (now (node .entry) .berths) ⌝ }
+{
+    let mut i: usize = 0;
+    while i < 10 {
+        if own_at(node, i) {
+            i += 1;
+        } else {
+            return false;
+        }
+    }
+    true
+}
+
+// Whether berth k is idle with a last length in range.
 fn idle_at(node: &Node, k: usize) -> bool
     requires { ⌜ k < berthCount ⌝ }
     ensures { λ r. ⌜ r ≡ atRest (now (node .entry) .settings) (berthAt (now (node .entry)) k) ⌝ }
 {
     let settings = node.settings;
-    let own = node.berths[k].settings;
     let last = node.berths[k].last;
     let rx = node.berths[k].rx;
     let tx = node.berths[k].tx;
-    berth::ranges::idle(settings, own, last, rx, tx)
+    berth::ranges::idle(settings, last, rx, tx)
 }
 
-// How many berths from the first on are idle with settings and last length in range: they are in order, and need no other test.
+// How many berths from the first on are idle with a last length in range: their sides are in order, and need no other test.
 fn idle_before(node: &Node) -> usize
     ensures { λ r. ⌜ Spared (now (node .entry)) r ⌝ }
 {
@@ -62,25 +85,25 @@ fn idle_before(node: &Node) -> usize
     10
 }
 
-// The settings and the receive side are copied and tested, and only then the send side.
+// The receive side is copied and tested by the berth's own BS, and only then the send side.
 fn order_at(node: &Node, k: usize) -> bool
     requires { ⌜ k < berthCount ⌝ }
-    ensures { λ r. ⌜ r ≡ berthInOrder (now (node .entry) .settings) (berthAt (now (node .entry)) k) ⌝ }
+    ensures { λ r. ⌜ r ≡ sidesInOrder (now (node .entry) .settings) (berthAt (now (node .entry)) k) ⌝ }
 {
     let settings = node.settings;
     let own = node.berths[k].settings;
     let last = node.berths[k].last;
     let rx = node.berths[k].rx;
-    if berth::ranges::receive_in_order(settings, own, last, rx) {
+    if berth::ranges::rx_in_range(settings, own, last, rx) {
         let tx = node.berths[k].tx;
         return berth::ranges::tx_in_range(settings, tx);
     }
     false
 }
 
-// Whether the berths from one on are in order.
+// Whether the sides of the berths from one on are in order.
 fn rest_in_order(node: &Node, from: usize) -> bool
-    ensures { λ r. ⌜ r ≡ each (berthInOrder (now (node .entry) .settings)) (drop from (now (node .entry) .berths)) ⌝ }
+    ensures { λ r. ⌜ r ≡ each (sidesInOrder (now (node .entry) .settings)) (drop from (now (node .entry) .berths)) ⌝ }
 {
     let mut i = from;
     while i < 10 {
@@ -99,9 +122,11 @@ pub fn order(node: &Node) -> usize
     ensures { λ r. ⌜ r ≡ orderOf (now (node .entry)) ⌝ }
 {
     if front_in_order(node.settings, node.served) {
-        let idle = idle_before(node);
-        if rest_in_order(node, idle) {
-            return idle;
+        if own_in_order(node) {
+            let idle = idle_before(node);
+            if rest_in_order(node, idle) {
+                return idle;
+            }
         }
     }
     UNORDERED

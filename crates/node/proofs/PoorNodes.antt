@@ -17,11 +17,11 @@ use Rattle.rules.specs.Frames.{kind, low, singleFits, shortLength, announced, f
 use Rattle.rules.specs.Arrivals.{singleCame, begun, firstCame, missing, piece, heardBy, byKind, frameCame}
 use Rattle.rules.specs.Ticks.{ran, closer, rxTicked, txTicked, ticked}
 use Rattle.rules.specs.Turns.{due}
-use Rattle.rules.specs.Changes.{valueAllowed, changedSettings, changed}
+use Rattle.rules.specs.Changes.{valueAllowed, changedSettings, changed as changedBerth}
 use Rattle.rules.specs.Cards.{zeroCard, rightCards, cardAt, frozen, added, addedAt, frameAdds}
 use Rattle.rules.specs.Events.{Call, frame, tick, send, turn, show, change, senderOf}
 use Rattle.rules.specs.Stores.{rightStore, areaOf, stored, distance, leastDistance, passedOver, reached, cameAt, handedAt}
-use Rattle.rules.specs.Answers.{Answer, refused, ready, heard, codes, sent, handed, none, shown, changed as settled, setUpSays, frameSays, tickSays, sendSays, turnSays, changeSays, wordPaper}
+use Rattle.rules.specs.Answers.{Answer, refused, ready, heard, codes, sent, handed, none, shown, changed, setUpSays, frameSays, tickSays, sendSays, turnSays, changeSays, wordPaper}
 use Rattle.rules.specs.Refusals.{needs, refusal, setUpRefusal}
 use Rattle.rules.specs.Calls.{Outcome, showable, shownLength, showing, afterFrame, done, reply, written, refusedOutcome, outcome, setUpOutcome}
 use Rattle.rules.specs.declared.BerthSettings.{BerthSettings}
@@ -128,7 +128,7 @@ named (sent k) = k
 named (handed id f c passed) = passed
 named (none passed) = passed
 named (shown part) = length part
-named (settled k) = k
+named (changed k) = k
 
 names : (h : Held) (c : Call) {o : Outcome} → refusal h c ≡ 0 → Agrees o (outcome h c) → named (o .answer) ≡ named (reply h c)
 names h c e a = ap (λ (o : Outcome). named (o .answer)) (answered h c e a)
@@ -281,7 +281,7 @@ not-idle-timers h k a cards e busy p =
 pub not-idle-settings : (h : Held) (k parameter value : ℕ) (a : ChangeAnswer) → refusal h (change k parameter value) ≡ 0
     → (changedSettings (berthAt (h .node) k .settings) parameter value ≡ berthAt (h .node) k .settings → ⊥)
     → ChangePromise (h .node) k parameter value a (h .node) → ⊥
-unfolding done withBerth berthAt changed
+unfolding done withBerth berthAt changedBerth
 not-idle-settings h k parameter value a e differ p =
     let ok = change-answered h k parameter value e in
     let ten = in-order-range (h .node) (ok .order) .ten in

@@ -5,7 +5,7 @@ use mathlib.Core.Bool.{Bool, not, _&&_}
 use mathlib.Core.List.{List, [], _∷_, _++_}
 use lib.Dec.{ltb, leb, eqb}
 use Rattle.rules.specs.Tests.{pick, Need, need, firstUnmet}
-use Rattle.rules.specs.Numbers.{berthCount, fromBerth, mostData, leastBuffer, outOfOrder, wrongStore, wrongIdentifier, tooManyBytes, noSuchBerth, emptyMessage, messageTooLong, alreadySending, shortBuffer, wrongCards, unknownParameter, valueOutside, takingPlace}
+use Rattle.rules.specs.Numbers.{berthCount, fromBerth, mostData, leastBuffer, outOfOrder, wrongStore, wrongIdentifier, tooManyBytes, noSuchBerth, emptyMessage, messageTooLong, alreadySending, shortBuffer, wrongCards, unknownParameter, valueOutside, alreadyReceiving}
 use Rattle.rules.specs.Turns.{busy}
 use Rattle.rules.specs.Changes.{known, valueAllowed}
 use Rattle.rules.specs.Cards.{underWay}
@@ -59,7 +59,7 @@ changeRefusal ordered rx k parameter value =
     ∷ need noSuchBerth (ltb k berthCount)
     ∷ need unknownParameter (known parameter)
     ∷ need valueOutside (valueAllowed parameter value)
-    ∷ need takingPlace (not (underWay rx))
+    ∷ need alreadyReceiving (not (underWay rx))
     ∷ [])
 
 unfoldable pub canShow : Bool → (area incoming outgoing k : ℕ) → Bool

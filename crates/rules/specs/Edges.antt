@@ -205,6 +205,7 @@ both =
     ∷ callEdge (broken 80 80) (change 10 2 256) 1
     ∷ callEdge fine (change 10 2 256) 5
     ∷ callEdge fine (change 0 2 256) 13
+    ∷ callEdge (receivingAt0 (Rx.OwesGo (takingIs 8 6 1 0) 0)) (change 0 2 5) 13
     ∷ callEdge (receivingAt0 (Rx.OwesGo (takingIs 8 6 1 0) 0)) (change 0 1 256) 14
     ∷ []
 

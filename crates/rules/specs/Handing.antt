@@ -1,7 +1,7 @@
 -- What is said of the frames that are handed over: how each looks, how many are a message's, and that a sending is carried on.
 use mathlib.Core.Path.{_≡_}
 use Prim.Native.Nat.{ℕ, _+_}
-use mathlib.Core.Bool.{not, _||_}
+use mathlib.Core.Bool.{_||_}
 use mathlib.Core.List.{List, [], _∷_}
 use lib.ListN.{length}
 use lib.Dec.{T, eqb}
@@ -11,8 +11,7 @@ use Rattle.rules.specs.Frames.{byteAt, kind}
 use Rattle.rules.specs.Arrivals.{frameCame}
 use Rattle.rules.specs.Ticks.{txTicked}
 use Rattle.rules.specs.Turns.{busy}
-use Rattle.rules.specs.Changes.{known, valueAllowed}
-use Rattle.rules.specs.Cards.{underWay}
+use Rattle.rules.specs.Changes.{MayChange}
 use Rattle.rules.specs.Events.{Event, arrives, ticks, sends, turns, changes}
 use Rattle.rules.specs.Alone.{Part, Says, hears, expires, accepts, hands, adopts, AtEach}
 use Rattle.rules.specs.declared.Settings.{Settings}
@@ -34,17 +33,13 @@ unfoldable pub dataTotal : List Says → ℕ
 dataTotal [] = 0
 dataTotal (x ∷ xs) = dataFrames x + dataTotal xs
 
--- a change that is answered: the parameter is known, the value is in its range, and no reception is under way
-abbrev pub MayChange : Part → (parameter value : ℕ) → Type 0
-MayChange p parameter value = T (known parameter) × T (valueAllowed parameter value) × T (not (underWay (p .berth .rx)))
-
 -- no frame or tick ends the sending, no other message is sent, and a change is one that is answered
 abbrev pub Carried : Settings → Part → Event → Type 0
 Carried s p (arrives d) = T (busy (p .berth .tx)) → T (busy (frameCame s (p .berth) d .berth .tx))
 Carried s p ticks = T (busy (p .berth .tx)) → T (busy (txTicked (p .berth .tx)))
 Carried s p (sends m) = ⊥
 Carried s p turns = Unit {0}
-Carried s p (changes parameter value) = MayChange p parameter value
+Carried s p (changes parameter value) = MayChange (p .berth) parameter value
 
 abbrev pub CarriedAll : Settings → Part → List Event → Type 0
 CarriedAll = AtEach Carried

@@ -7,11 +7,11 @@ pub mod Frames
 pub mod Arrivals
 pub mod Ticks
 pub mod Turns
-pub mod Changes
 pub mod Stores
 pub mod Answers
 pub mod Events
 pub mod Cards
+pub mod Changes
 pub mod Refusals
 pub mod Calls
 pub mod Alone

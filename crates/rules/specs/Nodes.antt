@@ -1,6 +1,6 @@
--- Paper 01, the node and what is lent with it: a fresh berth, berth k's part of the node, and each record with one part anew. The
--- rules build a berth, a node and what is lent here and at set-up and nowhere else, so that a new field is one line; the tables and
--- examples write their own starts out.
+-- Paper 01, the node and what is lent with it: a berth's own settings, a fresh berth, berth k's part of the node, and each record with one
+-- part anew. The rules build a berth, a node and what is lent here and at set-up and nowhere else, so that a new field is one line; the
+-- tables and examples write their own starts out.
 use Prim.Native.Nat.{ℕ}
 use mathlib.Core.List.{List}
 use lib.ListN.{getD, set, replicate}

@@ -193,8 +193,8 @@ unknownParameter = 13
 abbrev pub valueOutside : ℕ
 valueOutside = 14
 
-abbrev pub takingPlace : ℕ
-takingPlace = 15
+abbrev pub alreadyReceiving : ℕ
+alreadyReceiving = 15
 
 -- ---- the parameters that a change names (paper 02, W3), in the order of the standard's 8.3.5
 

@@ -9,7 +9,7 @@ use mathlib.Core.List.{List, [], _∷_, _++_}
 use lib.ListN.{length}
 use lib.Dec.{ltb, leb}
 use Rattle.rules.specs.Tests.{Need, need, firstUnmet}
-use Rattle.rules.specs.Numbers.{berthCount, fromBerth, mostData, leastBuffer, outOfOrder, wrongStore, wrongIdentifier, tooManyBytes, noSuchBerth, emptyMessage, messageTooLong, alreadySending, shortBuffer, badSetting, wrongCards, unknownParameter, valueOutside, takingPlace}
+use Rattle.rules.specs.Numbers.{berthCount, fromBerth, mostData, leastBuffer, outOfOrder, wrongStore, wrongIdentifier, tooManyBytes, noSuchBerth, emptyMessage, messageTooLong, alreadySending, shortBuffer, badSetting, wrongCards, unknownParameter, valueOutside, alreadyReceiving}
 use Rattle.rules.specs.Nodes.{berthAt, Held}
 use Rattle.rules.specs.Ranges.{settingsAllowed, SettingsRange, inOrder, InOrder}
 use Rattle.rules.specs.Turns.{busy}
@@ -48,7 +48,7 @@ needs h (change k parameter value) =
     ∷ need noSuchBerth (ltb k berthCount)
     ∷ need unknownParameter (known parameter)
     ∷ need valueOutside (valueAllowed parameter value)
-    ∷ need takingPlace (not (underWay (berthAt (h .node) k .rx)))
+    ∷ need alreadyReceiving (not (underWay (berthAt (h .node) k .rx)))
     ∷ []
 
 unfoldable pub refusal : Held → Call → ℕ

@@ -28,13 +28,14 @@ use Rattle.laws.specs.Own.{ownDone, own, owns, over}
 use Rattle.laws.specs.Histories.{historyOf}
 use Rattle.laws.specs.Cards.{zeroCards, TalliesAt}
 use Rattle.laws.specs.Gaps.{TwoFrames, Spaced}
+use Rattle.laws.specs.Changes.{ChangesOnly, settingsAfter}
 use Rattle.laws.specs.Free.{LeftAlone, ComesFree, AllComeFree}
 use Rattle.laws.specs.Rounds.{turnOf, StaysDue, Fair}
 use Rattle.laws.specs.Line.{blank}
 use Rattle.laws.proofs.Examples.{two, twoOwn, twoRun, afresh-computed, afresh-cards, crowd, crowdRun, crowd-computed, scheduler, toSix, sixFrames, stuck, stuck-sound, live, live-owned, dipped, sharp}
 use Rattle.runs.specs.Chains.{Made, AfterSetUp, madeOf, callsOf, saidBy, leftBy, ownIn, DueIn, historyIn, EachAlone}
-use Rattle.runs.proofs.Runs.{chain-leaves, chain-owns, chain-history, chain-fair, chain-alone-after-set-up, chain-tallies-after-set-up, chain-spaced, chain-left-alone, chain-comes-free, chain-all-come-free, chain-free-after-set-up}
-use Rattle.runs.proofs.Every.{every-chain, every-after-set-up}
+use Rattle.runs.proofs.Runs.{chain-leaves, chain-owns, chain-history, chain-settings, step-change-only, chain-fair, chain-alone-after-set-up, chain-tallies-after-set-up, chain-spaced, chain-left-alone, chain-comes-free, chain-all-come-free, chain-free-after-set-up}
+use Rattle.runs.proofs.Every.{every-step, every-chain, every-after-set-up}
 use Rattle.runs.proofs.PoorNodes.{one-more, refusing-again, idle-again-timers, idle-again-message, idle-again-settings, counting-again, fixed-again, fixed-again-bytes}
 
 -- a run of the rules as a chain has the same calls
@@ -71,6 +72,15 @@ unfolding madeOf leftBy final setUpOutcome setUpRefusal firstUnmet settingsAllow
 cards-here =
     chain-tallies-after-set-up two (two .node .settings) twoOwn (setUpNode (two .node .settings) twoOwn) (madeOf start twoRun) lastTick
     (every-after-set-up two (two .node .settings) twoOwn (twoRun ++ tick ∷ []) (afresh-computed .0)) refl 5 (lit< tt) (afresh-cards .0)
+
+-- ---- settings berth by berth: the same run, in which berth 3's BS is changed to 4, and that change by itself
+
+pub settings-here : berthAt (leftBy start (madeOf start twoRun) .node) 3 .settings
+    ≡ settingsAfter (berthAt (start .node) 3 .settings) (ownIn 3 start (madeOf start twoRun))
+settings-here = chain-settings 3 start (madeOf start twoRun) (every-chain start twoRun)
+
+pub change-here : ChangesOnly 3 1 4 start (outcome start (change 3 1 4) .held)
+change-here = step-change-only start 3 1 4 (outcome start (change 3 1 4)) (every-step start (change 3 1 4))
 
 -- ---- the law of the gaps: berth 6 asks for 5 ms
 

@@ -128,7 +128,7 @@ pub chain-settings : (k : ℕ) (h : Held) (ms : List Made) → Chain h ms
 chain-settings k h ms c = rw (chain-owns k h ms c, chain-leaves h ms c) (run-settings k h (callsOf ms))
 
 -- A CHANGE OF THE CODE touches one setting of one berth, refused or not
-pub step-change-only : (h : Held) (j parameter value : ℕ) (o : Outcome) → Step h (change j parameter value) o → ChangesOnly j h (o .held)
+pub step-change-only : (h : Held) (j parameter value : ℕ) (o : Outcome) → Step h (change j parameter value) o → ChangesOnly j parameter value h (o .held)
 step-change-only h j parameter value o s = rw (step-is s) (change-only parameter value h j)
 
 -- DEMAND 3, SECOND HALF, OF THE CODE. In any chain of calls, while berth k has a frame due at every answered call for a frame, none

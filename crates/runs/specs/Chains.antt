@@ -55,8 +55,8 @@ Chain h [] = Unit {0}
 Chain h (m ∷ ms) = Step h (m .call) (m .out) × Chain (m .out .held) ms
 
 -- a set-up that the code answered with Ready, and a chain on the node that it left, the stores and the cards, which it does not touch
-pub record AfterSetUp (h : Held) (s : Settings) (set : BerthSettings) (n : Node) (ms : List Made) : Type 0 where
-  pub ready : SetUpPromise (h .node) (s .area) (set .block) (set .stmin) SetUpAnswer.Ready n
+pub record AfterSetUp (h : Held) (s : Settings) (alike : BerthSettings) (n : Node) (ms : List Made) : Type 0 where
+  pub ready : SetUpPromise (h .node) (s .area) (alike .block) (alike .stmin) SetUpAnswer.Ready n
   pub chain : Chain (withNode h n) ms
 
 -- a run of the rules as a chain: the calls of a list, each with the rule's outcome
@@ -95,13 +95,13 @@ historyIn k h (m ∷ ms) =
 
 -- what demand 3 says of the answers and of what is left after a set-up, of every berth
 abbrev pub EachAlone : Held → Settings → BerthSettings → Node → List Made → Type 0
-EachAlone h s set n ms =
-    (k : ℕ) → k < berthCount → Alone s (freshPart h s set k) k (withNode h n) (ownIn k (withNode h n) ms) (saidBy ms) (leftBy (withNode h n) ms)
+EachAlone h s alike n ms =
+    (k : ℕ) → k < berthCount → Alone s (freshPart h s alike k) k (withNode h n) (ownIn k (withNode h n) ms) (saidBy ms) (leftBy (withNode h n) ms)
 
 -- a run after a set-up and one call more, which is given berth k's part p and is k's own event e: demand 3 holds with it and without it
-pub record OneMore (h : Held) (s : Settings) (set : BerthSettings) (n : Node) (ms : List Made) (k : ℕ) (p : Part) (e : Event) (m : Made) : Type 0 where
+pub record OneMore (h : Held) (s : Settings) (alike : BerthSettings) (n : Node) (ms : List Made) (k : ℕ) (p : Part) (e : Event) (m : Made) : Type 0 where
   pub small : k < berthCount
   pub given : partOf k (leftBy (withNode h n) ms) ≡ p
   pub its : own k (leftBy (withNode h n) ms) (m .call) ≡ e ∷ []
-  pub without : EachAlone h s set n ms
-  pub with : EachAlone h s set n (ms ++ m ∷ [])
+  pub without : EachAlone h s alike n ms
+  pub with : EachAlone h s alike n (ms ++ m ∷ [])

@@ -66,7 +66,7 @@ fn all_with(node: Node, own: BerthSettings) -> Node {
 }
 
 // The node's own: A and the berth served last; and settings for all ten berths.
-pub(crate) fn own(number: u64, node: Node, cards: [Card; 12], record: &[u8; 16]) -> Outcome {
+pub(crate) fn node(number: u64, node: Node, cards: [Card; 12], record: &[u8; 16]) -> Outcome {
     let settings = Settings {
         area: judged::two(record[2], record[3]),
     };

@@ -90,7 +90,7 @@ pub(crate) fn text(number: u64, node: Node, cards: [Card; 12], record: &[u8; 16]
         }
         11 => {
             let settings = node.settings;
-            words::own(number, settings, node.served)
+            words::node(number, settings, node.served)
         }
         15 => {
             let k = (record[1] % 10) as usize;

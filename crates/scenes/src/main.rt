@@ -61,7 +61,7 @@ fn answered(
         3 => calls::send(number, node, cards, record, outgoing),
         4 => calls::turn(number, node, cards, count, record, outgoing),
         7 | 8 => loads::side(number, node, cards, record),
-        9 => loads::own(number, node, cards, record),
+        9 => loads::node(number, node, cards, record),
         12 => calls::set_up(number, node, cards, record, 1),
         14 => loads::count(number, node, cards, record),
         16 => loads::loaded(number, node, cards),

@@ -75,7 +75,7 @@ pub(crate) fn state(number: u64, berth: Berth) -> Text {
     send_side(numbers(text.put_all(b" last"), &[berth.last as u64]), tx).put(b'\n')
 }
 
-pub(crate) fn own(number: u64, settings: Settings, served: u8) -> Text {
+pub(crate) fn node(number: u64, settings: Settings, served: u8) -> Text {
     let list = [settings.area as u64, served as u64];
     numbers(text::answers::numbered(number).put_all(b"node"), &list).put(b'\n')
 }

@@ -1,5 +1,5 @@
-// The parts of a call over one side of one berth, by value, and what is lent: each is called once the call's tests are done, so it may
-// require what they found. The side that a part gives back is stored by the call; the stores and the buffer are written here.
+// The parts of a call over one side of one berth or its settings, by value, and what is lent: each is called once the call's tests are done, so it may
+// require what they found. What a part gives back is stored by the call; the stores and the buffer are written here.
 ghost use mathlib.Core.Path.{_≡_};
 ghost use mathlib.Core.Bool.{true, false};
 ghost use mathlib.Core.List.{List};

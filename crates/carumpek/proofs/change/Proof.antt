@@ -1,4 +1,4 @@
--- `carumpek::change` meets its contract: a walk of its MIR, written by tools/walks. Refused, or changed.
+-- `carumpek::change` meets its contract: a walk of its MIR, written by tools/walks. The receive side is copied for the refusal; the settings are copied, changed and stored back.
 -- Assumes nothing.
 use mathlib.Core.Path.{_≡_, refl, sym, _∙_, subst}
 use mathlib.Core.Bool.{Bool}

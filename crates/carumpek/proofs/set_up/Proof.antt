@@ -52,9 +52,9 @@ use Rattle.looks.proofs.Sides.{FO}
 use Rattle.looks.proofs.Puts.{put-served, put-served-is, put-settings, put-settings-is}
 use lib.ListN.{replicate}
 use Rattle.rules.specs.Nodes.{freshWith, withBerths}
-use Rattle.rules.specs.Ranges.{settingsAllowed}
+use Rattle.rules.specs.Ranges.{ownAllowed, settingsAllowed}
 use Rattle.node.specs.Promises.{SetUpPromise}
-use Rattle.carumpek.proofs.SetsUp.{may-set, sets-up, refuses-settings}
+use Rattle.carumpek.proofs.SetsUp.{may-own, sets-up, refuses-settings}
 use Rattle.rules.specs.declared.SetUpAnswer.{SetUpAnswer}
 use Rattle.rules.proofs.SetUpAnswer as A5
 use Rattle.rules.proofs.SetUpAnswer.Laws as A5′
@@ -125,7 +125,7 @@ module _ {M : Type 1} (𝓤 : URA M) (H : Heap 𝓤) (A : Atoms 𝓤) (W : Given
   goes-c2 : (a₀ : ℕ) (a₀-is : Is u32 a₀ ((uint w32) .val a₀ ∷ [])) → ent 𝓤 (emp 𝓤) (C2 𝓤 H A at-mem run .pre ((tt, tt, tt, (a₀, tt), ((uint w32) .val a₀ ∷ [], tt)), tt))
   goes-c2 a₀ a₀-is = qed W [] ∵ nothing ! $ had ! (uint w32) a₀ a₀-is $ fjoin ! $ nothing ! $ join ! $ nothing ! $ move ! (1 ∷ 0 ∷ []) $ join ! $ done !
 
-  goes-c3 : (a₀ : ℕ) (a₁ : ℕ) (a₀-is : Is u32 a₀ ((uint w32) .val a₀ ∷ [])) (a₁-is : Is u32 a₁ ((uint w32) .val a₁ ∷ [])) → ((a· : ℕ) × (settingsAllowed a· a₀ a₁ ≡ true)) → ent 𝓤 (emp 𝓤) (C3 𝓤 H A at-mem run .pre ((tt, tt, tt, (a₀, (a₁, tt)), ((uint w32) .val a₀ ∷ [], ((uint w32) .val a₁ ∷ [], tt))), tt))
+  goes-c3 : (a₀ : ℕ) (a₁ : ℕ) (a₀-is : Is u32 a₀ ((uint w32) .val a₀ ∷ [])) (a₁-is : Is u32 a₁ ((uint w32) .val a₁ ∷ [])) → ownAllowed a₀ a₁ ≡ true → ent 𝓤 (emp 𝓤) (C3 𝓤 H A at-mem run .pre ((tt, tt, tt, (a₀, (a₁, tt)), ((uint w32) .val a₀ ∷ [], ((uint w32) .val a₁ ∷ [], tt))), tt))
   goes-c3 a₀ a₁ a₀-is a₁-is rq = qed W [] ∵ says ! rq $ nothing ! $ had ! (uint w32) a₁ a₁-is $ fjoin ! $ had ! (uint w32) a₀ a₀-is $ fjoin ! $ nothing ! $ join ! $ done !
 
   goes-c4 : (α : ℕ) (δ : GName) (h : Node) (a₀ : BerthSettings) (a₀-is : Is (FO .row) a₀ (FO .val a₀ ∷ [])) → ent 𝓤 (⋆ 𝓤 H A (‵ (flft (α ∷ []) fullShare) ∷ ‵ (MutRef (named 0) (α ∷ []) T.the-row .own (record { ptr = (b, o); name = δ; now = h }) (vptr b o ∷ [])) ∷ [])) (C4 𝓤 H A at-mem run .pre (((α ∷ [], tt), (fullShare, tt), tt, ((record { ptr = (b, o); name = δ; now = h }), (a₀, tt)), (vptr b o ∷ [], (FO .val a₀ ∷ [], tt))), tt))
@@ -165,7 +165,7 @@ module _ {M : Type 1} (𝓤 : URA M) (H : Heap 𝓤) (A : Atoms 𝓤) (W : Given
         -- node.served = setting::SERVED_LAST;
         assigns ! (of-opd ! (lit ! tt)) (from ! (hop ! (look ! 20 refl) (fld ! {τ = tyInt w8} {d = 4} refl (stop !)))) (store-in ! 0 (sub ! 1 {τ = tyInt w8} {d = 4} refl (whole !)) ((uint w8) .lawful 𝓤 H A W .typed 9 _ (refl, lit< tt) .0)) $
         -- let own = setting::own_of(block, stmin);
-        use0 W (raw (C3 𝓤 H A at-mem run .pre ((tt, tt, tt, (block, (stmin, tt)), ((uint w32) .val block ∷ [], ((uint w32) .val stmin ∷ [], tt))), tt))) (goes-c3 block stmin block-is stmin-is (area, may-set h area block stmin said allowed)) $
+        use0 W (raw (C3 𝓤 H A at-mem run .pre ((tt, tt, tt, (block, (stmin, tt)), ((uint w32) .val block ∷ [], ((uint w32) .val stmin ∷ [], tt))), tt))) (goes-c3 block stmin block-is stmin-is (may-own h area block stmin said allowed)) $
         calls-at ! fm (C3 𝓤 H A at-mem run) known-c3 ((tt, tt, tt, (block, (stmin, tt)), ((uint w32) .val block ∷ [], ((uint w32) .val stmin ∷ [], tt))), tt) (and-then ! (load ! (from ! (stop !)) (look ! 17 refl)) (and-then ! (load ! (from ! (stop !)) (look ! 15 refl)) (no-more !))) (λ v3.
         use1 W (later (some (λ (w· : BerthSettings). ((‵ ftrue) ⊛ ‵ ((FO .row) .own w· (v3 ∷ []))) ⊛ raw (ensured 𝓤 H A c3.ended (c3.clauses 𝓤 H A at-mem run) tt (block, (stmin, tt)) tt w·)))) (id⊢ 𝓤 _) $ await ! tt $ pick ! (λ w·.
         split ! $ move ! (1 ∷ []) $ use1 W (raw (fact 𝓤 (w· ≡ record { block = block; stmin = stmin }))) (exE 𝓤 _ (λ ws. snd∗ 𝓤 (sem 𝓤 H A (lasts c3.ended tt (block, (stmin, tt)) ws)) (fact 𝓤 (w· ≡ record { block = block; stmin = stmin })))) $ heard ! (w· ≡ record { block = block; stmin = stmin }) (λ w-says. split ! $ move ! (1 ∷ []) $ returned ! FO w· v3 (λ w-is.

@@ -43,7 +43,6 @@ use Rattle.rules.specs.declared.Settings.{Settings}
 use Rattle.rules.specs.declared.Node.{Node}
 use Rattle.rules.proofs.Settings as G
 use Rattle.rules.proofs.Settings.Laws as G′
-use Rattle.rules.proofs.BerthSettings.Laws as O′
 use Rattle.rules.proofs.Rx.Laws as R′
 use Rattle.rules.proofs.Tx.Laws as X′
 use Rattle.rules.proofs.Berth.Laws as B′
@@ -54,15 +53,12 @@ use Rattle.looks.proofs.Item.{item}
 use Rattle.looks.proofs.Ten.{FT, FB, FG, us, us-at, us-length, us-within, at-is, berth-is, settings-is, bytes-fit}
 use lib.Dec.{leb}
 use Rattle.rules.specs.Tests.{all}
-use Rattle.rules.specs.declared.BerthSettings.{BerthSettings}
 use Rattle.rules.specs.declared.Rx.{Rx}
 use Rattle.rules.specs.declared.Tx.{Tx}
-use Rattle.rules.proofs.BerthSettings as O
 use Rattle.rules.proofs.Rx as R
 use Rattle.rules.proofs.Tx as X
-use Rattle.looks.proofs.Sides.{FR, FX, FO, see-parts, rx-of, last-of, tx-of, own-of}
+use Rattle.looks.proofs.Sides.{FR, FX, see-parts, rx-of, last-of, tx-of}
 use mathlib.Core.Bool.{not}
-use Rattle.rules.specs.Ranges.{ownAllowed}
 use Rattle.rules.specs.Turns.{busy}
 use Rattle.berth.specs.Idle.{receiving}
 use Rattle.looks.specs.Order.{atRest}
@@ -106,8 +102,8 @@ module _ {M : Type 1} (𝓤 : URA M) (H : Heap 𝓤) (A : Atoms 𝓤) (W : Given
       qed W (‵ (flft κ q) ∷ ‵ OwnP ∷ []) ∵ suffices ! _ (ends-at 𝓤 H A self.ended stayed (self.clauses 𝓤 H A at-mem run) W (((κ, tt), (q, tt), tt, x, at), tt) (boolean .val r) r (tt, (tt, tt)) (tt, (tt, tt))) $ says ! e $
       nothing ! $ move ! (1 ∷ 0 ∷ []) $ join ! $ frame ! $ nothing ! $ had ! (uint w64) k k-is $ fjoin ! $ move ! (1 ∷ 0 ∷ []) $ fjoin ! $ frame ! $ had ! boolean r is $ done !
 
-  goes-c1 : (a₀ : Settings) (a₁ : BerthSettings) (a₂ : ℕ) (a₃ : Rx) (a₄ : Tx) (a₀-is : Is G.the-row a₀ (FG .val a₀ ∷ [])) (a₁-is : Is O.the-row a₁ (FO .val a₁ ∷ [])) (a₂-is : Is u32 a₂ ((uint w32) .val a₂ ∷ [])) (a₃-is : Is R.the-row a₃ (FR .val a₃ ∷ [])) (a₄-is : Is X.the-row a₄ (FX .val a₄ ∷ [])) → ent 𝓤 (emp 𝓤) (C1 𝓤 H A at-mem run .pre ((tt, tt, tt, (a₀, (a₁, (a₂, (a₃, (a₄, tt))))), (FG .val a₀ ∷ [], (FO .val a₁ ∷ [], ((uint w32) .val a₂ ∷ [], (FR .val a₃ ∷ [], (FX .val a₄ ∷ [], tt)))))), tt))
-  goes-c1 a₀ a₁ a₂ a₃ a₄ a₀-is a₁-is a₂-is a₃-is a₄-is = qed W [] ∵ nothing ! $ had ! FX a₄ a₄-is $ fjoin ! $ had ! FR a₃ a₃-is $ fjoin ! $ had ! (uint w32) a₂ a₂-is $ fjoin ! $ had ! FO a₁ a₁-is $ fjoin ! $ had ! FG a₀ a₀-is $ fjoin ! $ nothing ! $ join ! $ nothing ! $ move ! (1 ∷ 0 ∷ []) $ join ! $ done !
+  goes-c1 : (a₀ : Settings) (a₁ : ℕ) (a₂ : Rx) (a₃ : Tx) (a₀-is : Is G.the-row a₀ (FG .val a₀ ∷ [])) (a₁-is : Is u32 a₁ ((uint w32) .val a₁ ∷ [])) (a₂-is : Is R.the-row a₂ (FR .val a₂ ∷ [])) (a₃-is : Is X.the-row a₃ (FX .val a₃ ∷ [])) → ent 𝓤 (emp 𝓤) (C1 𝓤 H A at-mem run .pre ((tt, tt, tt, (a₀, (a₁, (a₂, (a₃, tt)))), (FG .val a₀ ∷ [], ((uint w32) .val a₁ ∷ [], (FR .val a₂ ∷ [], (FX .val a₃ ∷ [], tt))))), tt))
+  goes-c1 a₀ a₁ a₂ a₃ a₀-is a₁-is a₂-is a₃-is = qed W [] ∵ nothing ! $ had ! FX a₃ a₃-is $ fjoin ! $ had ! FR a₂ a₂-is $ fjoin ! $ had ! (uint w32) a₁ a₁-is $ fjoin ! $ had ! FG a₀ a₀-is $ fjoin ! $ nothing ! $ join ! $ nothing ! $ move ! (1 ∷ 0 ∷ []) $ join ! $ done !
 
   module _ (𝓣 : Tables 𝓤 H) (fm : FmC 𝓤 H (W .laws) (𝓣 .C)) (known-c1 : Triple 𝓤 (𝓣 .C #c1) (C1 𝓤 H A at-mem run)) where
     abbrev C : Calls 𝓤 H
@@ -120,41 +116,36 @@ module _ {M : Type 1} (𝓤 : URA M) (H : Heap 𝓤) (A : Atoms 𝓤) (W : Given
     walk =
         qed W ((‵ (flft κ q) ⊛ ‵ ftrue) ∷ ‵ (owns (ShrRef (named 0) κ T.the-row ∷ usize ∷ []) x at) ∷ []) ∵ split ! $ move ! (2 ∷ []) $ fsplit ! $ use1 W (‵ OwnP ⊛ ‵ OwnP) (shr-copy 𝓤 H A W (named 0) κ T.the-row .twice p (vptr b o ∷ [])) $ split ! $ keep ! (0 ∷ 3 ∷ 1 ∷ []) $
         enter ! C Λ code.function (vptr b o ∷ (uint w64) .val k ∷ []) _ $
-        alloc1 ! (λ l₀. alloc1 ! (λ l₁. alloc1 ! (λ l₂. alloc1 ! (λ l₃. alloc1 ! (λ l₄. alloc1 ! (λ l₅. alloc1 ! (λ l₆. alloc1 ! (λ l₇. alloc1 ! (λ l₈. alloc1 ! (λ l₉. alloc1 ! (λ l₁₀. alloc1 ! (λ l₁₁. alloc1 ! (λ l₁₂. alloc1 ! (λ l₁₃. alloc1 ! (λ l₁₄. alloc1 ! (λ l₁₅. alloc1 ! (λ l₁₆. alloc0 ! $ params1 ! $
-        pass1 ! (init ! 30 refl (tt, tt)) $ pass1 ! (init ! 28 refl ((uint w64) .lawful 𝓤 H A W .typed k _ k-is .0)) $ pass0 ! $
-        move ! (34 ∷ 35 ∷ []) $ looked ! tt FT {h = h} b o (λ q′ was. use1 W (‵ (fat q′ T′.mir b o (FT .val h))) (W .laws .raw-at q′ T′.mir b o (FT .val h)) $
+        alloc1 ! (λ l₀. alloc1 ! (λ l₁. alloc1 ! (λ l₂. alloc1 ! (λ l₃. alloc1 ! (λ l₄. alloc1 ! (λ l₅. alloc1 ! (λ l₆. alloc1 ! (λ l₇. alloc1 ! (λ l₈. alloc1 ! (λ l₉. alloc1 ! (λ l₁₀. alloc1 ! (λ l₁₁. alloc1 ! (λ l₁₂. alloc1 ! (λ l₁₃. alloc0 ! $ params1 ! $
+        pass1 ! (init ! 24 refl (tt, tt)) $ pass1 ! (init ! 22 refl ((uint w64) .lawful 𝓤 H A W .typed k _ k-is .0)) $ pass0 ! $
+        move ! (28 ∷ 29 ∷ []) $ looked ! tt FT {h = h} b o (λ q′ was. use1 W (‵ (fat q′ T′.mir b o (FT .val h))) (W .laws .raw-at q′ T′.mir b o (FT .val h)) $
         -- let settings = node.settings;
-        assigns ! (of-opd ! (load ! (from ! (hop ! (look ! 32 refl) (fld ! {τ = G′.mir} {d = 0} refl (stop !)))) (look-in ! 0 (sub ! 0 {τ = G′.mir} {d = 0} refl (whole !))))) (from ! (stop !)) (init ! 28 refl (FG .lawful 𝓤 H A W .typed (h .settings) _ (settings-is h was) .0)) $
-        -- let own = node.berths[k].settings;
-        assigns ! (bin ! (load ! (from ! (stop !)) (look ! 30 refl)) (lit ! tt) (record { fits = bytes-fit k within })) (from ! (stop !)) (init ! 18 refl (tt, record { fits = bytes-fit k within })) $
-        assigns ! (addr ! (from ! (hop ! (look ! 32 refl) (fld ! {τ = tyArray B′.mir 10} {d = 8} refl (stop !))))) (from ! (stop !)) (init ! 16 refl (tt, tt)) $
-        assigns ! (bin ! (load ! (from ! (stop !)) (look ! 16 refl)) (load ! (from ! (stop !)) (look ! 18 refl)) tt) (from ! (stop !)) (init ! 14 refl (tt, tt)) $ rewrite ! 14 (λ (m : ℕ). ‵ (fat fullShare tyPtr l₁₀ 0 (vptr b m))) (sym (place-is 52 (o + 8) k)) refl $
-        assigns ! (of-opd ! (load ! (from ! (hop ! (look ! 14 refl) (fld ! {τ = O′.mir} {d = 48} refl (stop !)))) (look-in ! 0 (sub ! 3 {τ = O′.mir} {d = 48} refl (item ! (us (h .berths)) k (FB .val fresh) (us-within h was k within) (us-length h was) (us-at (h .berths) k ∙ see-parts (getD (h .berths) k fresh)) (sub ! 2 {τ = tyArray B′.mir 10} {d = 8} refl (whole !))))))) (from ! (stop !)) (init ! 26 refl (FO .lawful 𝓤 H A W .typed ((getD (h .berths) k fresh) .settings) _ (own-of (getD (h .berths) k fresh) (berth-is h was k within)) .0)) $
+        assigns ! (of-opd ! (load ! (from ! (hop ! (look ! 26 refl) (fld ! {τ = G′.mir} {d = 0} refl (stop !)))) (look-in ! 0 (sub ! 0 {τ = G′.mir} {d = 0} refl (whole !))))) (from ! (stop !)) (init ! 22 refl (FG .lawful 𝓤 H A W .typed (h .settings) _ (settings-is h was) .0)) $
         -- let last = node.berths[k].last;
-        assigns ! (bin ! (load ! (from ! (stop !)) (look ! 30 refl)) (lit ! tt) (record { fits = bytes-fit k within })) (from ! (stop !)) (store ! 18 refl (tt, record { fits = bytes-fit k within })) $
-        assigns ! (addr ! (from ! (hop ! (look ! 32 refl) (fld ! {τ = tyArray B′.mir 10} {d = 8} refl (stop !))))) (from ! (stop !)) (init ! 12 refl (tt, tt)) $
-        assigns ! (bin ! (load ! (from ! (stop !)) (look ! 12 refl)) (load ! (from ! (stop !)) (look ! 18 refl)) tt) (from ! (stop !)) (init ! 10 refl (tt, tt)) $ rewrite ! 10 (λ (m : ℕ). ‵ (fat fullShare tyPtr l₁₂ 0 (vptr b m))) (sym (place-is 52 (o + 8) k)) refl $
-        assigns ! (of-opd ! (load ! (from ! (hop ! (look ! 10 refl) (fld ! {τ = tyInt w32} {d = 20} refl (stop !)))) (look-in ! 0 (sub ! 1 {τ = tyInt w32} {d = 20} refl (item ! (us (h .berths)) k (FB .val fresh) (us-within h was k within) (us-length h was) (us-at (h .berths) k ∙ see-parts (getD (h .berths) k fresh)) (sub ! 2 {τ = tyArray B′.mir 10} {d = 8} refl (whole !))))))) (from ! (stop !)) (init ! 24 refl ((uint w32) .lawful 𝓤 H A W .typed ((getD (h .berths) k fresh) .last) _ (last-of (getD (h .berths) k fresh) (berth-is h was k within)) .0)) $
+        assigns ! (bin ! (load ! (from ! (stop !)) (look ! 24 refl)) (lit ! tt) (record { fits = bytes-fit k within })) (from ! (stop !)) (init ! 14 refl (tt, record { fits = bytes-fit k within })) $
+        assigns ! (addr ! (from ! (hop ! (look ! 26 refl) (fld ! {τ = tyArray B′.mir 10} {d = 8} refl (stop !))))) (from ! (stop !)) (init ! 12 refl (tt, tt)) $
+        assigns ! (bin ! (load ! (from ! (stop !)) (look ! 12 refl)) (load ! (from ! (stop !)) (look ! 14 refl)) tt) (from ! (stop !)) (init ! 10 refl (tt, tt)) $ rewrite ! 10 (λ (m : ℕ). ‵ (fat fullShare tyPtr l₉ 0 (vptr b m))) (sym (place-is 52 (o + 8) k)) refl $
+        assigns ! (of-opd ! (load ! (from ! (hop ! (look ! 10 refl) (fld ! {τ = tyInt w32} {d = 20} refl (stop !)))) (look-in ! 0 (sub ! 1 {τ = tyInt w32} {d = 20} refl (item ! (us (h .berths)) k (FB .val fresh) (us-within h was k within) (us-length h was) (us-at (h .berths) k ∙ see-parts (getD (h .berths) k fresh)) (sub ! 2 {τ = tyArray B′.mir 10} {d = 8} refl (whole !))))))) (from ! (stop !)) (init ! 20 refl ((uint w32) .lawful 𝓤 H A W .typed ((getD (h .berths) k fresh) .last) _ (last-of (getD (h .berths) k fresh) (berth-is h was k within)) .0)) $
         -- let rx = node.berths[k].rx;
-        assigns ! (bin ! (load ! (from ! (stop !)) (look ! 30 refl)) (lit ! tt) (record { fits = bytes-fit k within })) (from ! (stop !)) (store ! 18 refl (tt, record { fits = bytes-fit k within })) $
-        assigns ! (addr ! (from ! (hop ! (look ! 32 refl) (fld ! {τ = tyArray B′.mir 10} {d = 8} refl (stop !))))) (from ! (stop !)) (init ! 8 refl (tt, tt)) $
-        assigns ! (bin ! (load ! (from ! (stop !)) (look ! 8 refl)) (load ! (from ! (stop !)) (look ! 18 refl)) tt) (from ! (stop !)) (init ! 6 refl (tt, tt)) $ rewrite ! 6 (λ (m : ℕ). ‵ (fat fullShare tyPtr l₁₄ 0 (vptr b m))) (sym (place-is 52 (o + 8) k)) refl $
-        assigns ! (of-opd ! (load ! (from ! (hop ! (look ! 6 refl) (fld ! {τ = R′.mir} {d = 0} refl (stop !)))) (look-in ! 0 (sub ! 0 {τ = R′.mir} {d = 0} refl (item ! (us (h .berths)) k (FB .val fresh) (us-within h was k within) (us-length h was) (us-at (h .berths) k ∙ see-parts (getD (h .berths) k fresh)) (sub ! 2 {τ = tyArray B′.mir 10} {d = 8} refl (whole !))))))) (from ! (stop !)) (init ! 22 refl (FR .lawful 𝓤 H A W .typed ((getD (h .berths) k fresh) .rx) _ (rx-of (getD (h .berths) k fresh) (berth-is h was k within)) .0)) $
+        assigns ! (bin ! (load ! (from ! (stop !)) (look ! 24 refl)) (lit ! tt) (record { fits = bytes-fit k within })) (from ! (stop !)) (store ! 14 refl (tt, record { fits = bytes-fit k within })) $
+        assigns ! (addr ! (from ! (hop ! (look ! 26 refl) (fld ! {τ = tyArray B′.mir 10} {d = 8} refl (stop !))))) (from ! (stop !)) (init ! 8 refl (tt, tt)) $
+        assigns ! (bin ! (load ! (from ! (stop !)) (look ! 8 refl)) (load ! (from ! (stop !)) (look ! 14 refl)) tt) (from ! (stop !)) (init ! 6 refl (tt, tt)) $ rewrite ! 6 (λ (m : ℕ). ‵ (fat fullShare tyPtr l₁₁ 0 (vptr b m))) (sym (place-is 52 (o + 8) k)) refl $
+        assigns ! (of-opd ! (load ! (from ! (hop ! (look ! 6 refl) (fld ! {τ = R′.mir} {d = 0} refl (stop !)))) (look-in ! 0 (sub ! 0 {τ = R′.mir} {d = 0} refl (item ! (us (h .berths)) k (FB .val fresh) (us-within h was k within) (us-length h was) (us-at (h .berths) k ∙ see-parts (getD (h .berths) k fresh)) (sub ! 2 {τ = tyArray B′.mir 10} {d = 8} refl (whole !))))))) (from ! (stop !)) (init ! 18 refl (FR .lawful 𝓤 H A W .typed ((getD (h .berths) k fresh) .rx) _ (rx-of (getD (h .berths) k fresh) (berth-is h was k within)) .0)) $
         -- let tx = node.berths[k].tx;
-        assigns ! (bin ! (load ! (from ! (stop !)) (look ! 30 refl)) (lit ! tt) (record { fits = bytes-fit k within })) (from ! (stop !)) (store ! 18 refl (tt, record { fits = bytes-fit k within })) $
-        assigns ! (addr ! (from ! (hop ! (look ! 32 refl) (fld ! {τ = tyArray B′.mir 10} {d = 8} refl (stop !))))) (from ! (stop !)) (init ! 4 refl (tt, tt)) $
-        assigns ! (bin ! (load ! (from ! (stop !)) (look ! 4 refl)) (load ! (from ! (stop !)) (look ! 18 refl)) tt) (from ! (stop !)) (init ! 2 refl (tt, tt)) $ rewrite ! 2 (λ (m : ℕ). ‵ (fat fullShare tyPtr l₁₆ 0 (vptr b m))) (sym (place-is 52 (o + 8) k)) refl $
-        assigns ! (of-opd ! (load ! (from ! (hop ! (look ! 2 refl) (fld ! {τ = X′.mir} {d = 24} refl (stop !)))) (look-in ! 0 (sub ! 2 {τ = X′.mir} {d = 24} refl (item ! (us (h .berths)) k (FB .val fresh) (us-within h was k within) (us-length h was) (us-at (h .berths) k ∙ see-parts (getD (h .berths) k fresh)) (sub ! 2 {τ = tyArray B′.mir 10} {d = 8} refl (whole !))))))) (from ! (stop !)) (init ! 20 refl (FX .lawful 𝓤 H A W .typed ((getD (h .berths) k fresh) .tx) _ (tx-of (getD (h .berths) k fresh) (berth-is h was k within)) .0)) $
-        -- berth::ranges::idle(settings, own, last, rx, tx)
-        use0 W (raw (C1 𝓤 H A at-mem run .pre ((tt, tt, tt, ((h .settings), (((getD (h .berths) k fresh) .settings), (((getD (h .berths) k fresh) .last), (((getD (h .berths) k fresh) .rx), (((getD (h .berths) k fresh) .tx), tt))))), (FG .val (h .settings) ∷ [], (FO .val ((getD (h .berths) k fresh) .settings) ∷ [], ((uint w32) .val ((getD (h .berths) k fresh) .last) ∷ [], (FR .val ((getD (h .berths) k fresh) .rx) ∷ [], (FX .val ((getD (h .berths) k fresh) .tx) ∷ [], tt)))))), tt))) (goes-c1 (h .settings) ((getD (h .berths) k fresh) .settings) ((getD (h .berths) k fresh) .last) ((getD (h .berths) k fresh) .rx) ((getD (h .berths) k fresh) .tx) (settings-is h was) (own-of (getD (h .berths) k fresh) (berth-is h was k within)) (last-of (getD (h .berths) k fresh) (berth-is h was k within)) (rx-of (getD (h .berths) k fresh) (berth-is h was k within)) (tx-of (getD (h .berths) k fresh) (berth-is h was k within))) $
-        calls-at ! fm (C1 𝓤 H A at-mem run) known-c1 ((tt, tt, tt, ((h .settings), (((getD (h .berths) k fresh) .settings), (((getD (h .berths) k fresh) .last), (((getD (h .berths) k fresh) .rx), (((getD (h .berths) k fresh) .tx), tt))))), (FG .val (h .settings) ∷ [], (FO .val ((getD (h .berths) k fresh) .settings) ∷ [], ((uint w32) .val ((getD (h .berths) k fresh) .last) ∷ [], (FR .val ((getD (h .berths) k fresh) .rx) ∷ [], (FX .val ((getD (h .berths) k fresh) .tx) ∷ [], tt)))))), tt) (and-then ! (load ! (from ! (stop !)) (look ! 29 refl)) (and-then ! (load ! (from ! (stop !)) (look ! 27 refl)) (and-then ! (load ! (from ! (stop !)) (look ! 25 refl)) (and-then ! (load ! (from ! (stop !)) (look ! 23 refl)) (and-then ! (load ! (from ! (stop !)) (look ! 21 refl)) (no-more !)))))) (λ v1.
-        use1 W (later (some (λ (r : Bool). (‵ ftrue ⊛ ‵ (bool .own r (v1 ∷ []))) ⊛ raw (ensured 𝓤 H A c1.ended (c1.clauses 𝓤 H A at-mem run) tt ((h .settings), (((getD (h .berths) k fresh) .settings), (((getD (h .berths) k fresh) .last), (((getD (h .berths) k fresh) .rx), (((getD (h .berths) k fresh) .tx), tt))))) tt r)))) (id⊢ 𝓤 _) $ await ! tt $ pick ! (λ r.
-        split ! $ move ! (1 ∷ []) $ use1 W (raw (fact 𝓤 (r ≡ all (not (receiving ((getD (h .berths) k fresh) .rx)) ∷ not (busy ((getD (h .berths) k fresh) .tx)) ∷ ownAllowed (((getD (h .berths) k fresh) .settings) .block) (((getD (h .berths) k fresh) .settings) .stmin) ∷ leb ((getD (h .berths) k fresh) .last) ((h .settings) .area) ∷ [])))) (exE 𝓤 _ (λ ws. snd∗ 𝓤 (sem 𝓤 H A (lasts c1.ended tt ((h .settings), (((getD (h .berths) k fresh) .settings), (((getD (h .berths) k fresh) .last), (((getD (h .berths) k fresh) .rx), (((getD (h .berths) k fresh) .tx), tt))))) ws)) (fact 𝓤 (r ≡ all (not (receiving ((getD (h .berths) k fresh) .rx)) ∷ not (busy ((getD (h .berths) k fresh) .tx)) ∷ ownAllowed (((getD (h .berths) k fresh) .settings) .block) (((getD (h .berths) k fresh) .settings) .stmin) ∷ leb ((getD (h .berths) k fresh) .last) ((h .settings) .area) ∷ []))))) $ heard ! (r ≡ all (not (receiving ((getD (h .berths) k fresh) .rx)) ∷ not (busy ((getD (h .berths) k fresh) .tx)) ∷ ownAllowed (((getD (h .berths) k fresh) .settings) .block) (((getD (h .berths) k fresh) .settings) .stmin) ∷ leb ((getD (h .berths) k fresh) .last) ((h .settings) .area) ∷ [])) (λ e. split ! $ drop ! $ returned ! boolean r v1 (λ is.
-        land ! (from ! (stop !)) (init ! 34 refl (boolean .lawful 𝓤 H A W .typed r _ is .0)) $
+        assigns ! (bin ! (load ! (from ! (stop !)) (look ! 24 refl)) (lit ! tt) (record { fits = bytes-fit k within })) (from ! (stop !)) (store ! 14 refl (tt, record { fits = bytes-fit k within })) $
+        assigns ! (addr ! (from ! (hop ! (look ! 26 refl) (fld ! {τ = tyArray B′.mir 10} {d = 8} refl (stop !))))) (from ! (stop !)) (init ! 4 refl (tt, tt)) $
+        assigns ! (bin ! (load ! (from ! (stop !)) (look ! 4 refl)) (load ! (from ! (stop !)) (look ! 14 refl)) tt) (from ! (stop !)) (init ! 2 refl (tt, tt)) $ rewrite ! 2 (λ (m : ℕ). ‵ (fat fullShare tyPtr l₁₃ 0 (vptr b m))) (sym (place-is 52 (o + 8) k)) refl $
+        assigns ! (of-opd ! (load ! (from ! (hop ! (look ! 2 refl) (fld ! {τ = X′.mir} {d = 24} refl (stop !)))) (look-in ! 0 (sub ! 2 {τ = X′.mir} {d = 24} refl (item ! (us (h .berths)) k (FB .val fresh) (us-within h was k within) (us-length h was) (us-at (h .berths) k ∙ see-parts (getD (h .berths) k fresh)) (sub ! 2 {τ = tyArray B′.mir 10} {d = 8} refl (whole !))))))) (from ! (stop !)) (init ! 16 refl (FX .lawful 𝓤 H A W .typed ((getD (h .berths) k fresh) .tx) _ (tx-of (getD (h .berths) k fresh) (berth-is h was k within)) .0)) $
+        -- berth::ranges::idle(settings, last, rx, tx)
+        use0 W (raw (C1 𝓤 H A at-mem run .pre ((tt, tt, tt, ((h .settings), (((getD (h .berths) k fresh) .last), (((getD (h .berths) k fresh) .rx), (((getD (h .berths) k fresh) .tx), tt)))), (FG .val (h .settings) ∷ [], ((uint w32) .val ((getD (h .berths) k fresh) .last) ∷ [], (FR .val ((getD (h .berths) k fresh) .rx) ∷ [], (FX .val ((getD (h .berths) k fresh) .tx) ∷ [], tt))))), tt))) (goes-c1 (h .settings) ((getD (h .berths) k fresh) .last) ((getD (h .berths) k fresh) .rx) ((getD (h .berths) k fresh) .tx) (settings-is h was) (last-of (getD (h .berths) k fresh) (berth-is h was k within)) (rx-of (getD (h .berths) k fresh) (berth-is h was k within)) (tx-of (getD (h .berths) k fresh) (berth-is h was k within))) $
+        calls-at ! fm (C1 𝓤 H A at-mem run) known-c1 ((tt, tt, tt, ((h .settings), (((getD (h .berths) k fresh) .last), (((getD (h .berths) k fresh) .rx), (((getD (h .berths) k fresh) .tx), tt)))), (FG .val (h .settings) ∷ [], ((uint w32) .val ((getD (h .berths) k fresh) .last) ∷ [], (FR .val ((getD (h .berths) k fresh) .rx) ∷ [], (FX .val ((getD (h .berths) k fresh) .tx) ∷ [], tt))))), tt) (and-then ! (load ! (from ! (stop !)) (look ! 23 refl)) (and-then ! (load ! (from ! (stop !)) (look ! 21 refl)) (and-then ! (load ! (from ! (stop !)) (look ! 19 refl)) (and-then ! (load ! (from ! (stop !)) (look ! 17 refl)) (no-more !))))) (λ v1.
+        use1 W (later (some (λ (r : Bool). (‵ ftrue ⊛ ‵ (bool .own r (v1 ∷ []))) ⊛ raw (ensured 𝓤 H A c1.ended (c1.clauses 𝓤 H A at-mem run) tt ((h .settings), (((getD (h .berths) k fresh) .last), (((getD (h .berths) k fresh) .rx), (((getD (h .berths) k fresh) .tx), tt)))) tt r)))) (id⊢ 𝓤 _) $ await ! tt $ pick ! (λ r.
+        split ! $ move ! (1 ∷ []) $ use1 W (raw (fact 𝓤 (r ≡ all (not (receiving ((getD (h .berths) k fresh) .rx)) ∷ not (busy ((getD (h .berths) k fresh) .tx)) ∷ leb ((getD (h .berths) k fresh) .last) ((h .settings) .area) ∷ [])))) (exE 𝓤 _ (λ ws. snd∗ 𝓤 (sem 𝓤 H A (lasts c1.ended tt ((h .settings), (((getD (h .berths) k fresh) .last), (((getD (h .berths) k fresh) .rx), (((getD (h .berths) k fresh) .tx), tt)))) ws)) (fact 𝓤 (r ≡ all (not (receiving ((getD (h .berths) k fresh) .rx)) ∷ not (busy ((getD (h .berths) k fresh) .tx)) ∷ leb ((getD (h .berths) k fresh) .last) ((h .settings) .area) ∷ []))))) $ heard ! (r ≡ all (not (receiving ((getD (h .berths) k fresh) .rx)) ∷ not (busy ((getD (h .berths) k fresh) .tx)) ∷ leb ((getD (h .berths) k fresh) .last) ((h .settings) .area) ∷ [])) (λ e. split ! $ drop ! $ returned ! boolean r v1 (λ is.
+        land ! (from ! (stop !)) (init ! 28 refl (boolean .lawful 𝓤 H A W .typed r _ is .0)) $
         use1 W (‵ (cellAt q′ (T.the-row .mir) (FT .val h ∷ []) b o)) (W .laws .at-raw q′ T′.mir b o (FT .val h)) $ shut ! tt FT q′ h b o was $
-        returns ! (look ! 33 refl) $ forget ! 1 refl $ forget ! 3 refl $ forget ! 5 refl $ forget ! 7 refl $ forget ! 9 refl $ forget ! 11 refl $ forget ! 13 refl $ forget ! 15 refl $ forget ! 17 refl $ forget ! 19 refl $ forget ! 21 refl $ forget ! 23 refl $ forget ! 25 refl $ forget ! 27 refl $ forget ! 29 refl $ forget ! 31 refl $ forget ! 33 refl $
-        move ! (33 ∷ 34 ∷ []) $ free1 ! $ move ! (31 ∷ 32 ∷ []) $ free1 ! $ move ! (29 ∷ 30 ∷ []) $ free1 ! $ move ! (27 ∷ 28 ∷ []) $ free1 ! $ move ! (25 ∷ 26 ∷ []) $ free1 ! $ move ! (23 ∷ 24 ∷ []) $ free1 ! $ move ! (21 ∷ 22 ∷ []) $ free1 ! $ move ! (19 ∷ 20 ∷ []) $ free1 ! $ move ! (17 ∷ 18 ∷ []) $ free1 ! $ move ! (15 ∷ 16 ∷ []) $ free1 ! $ move ! (13 ∷ 14 ∷ []) $ free1 ! $ move ! (11 ∷ 12 ∷ []) $ free1 ! $ move ! (9 ∷ 10 ∷ []) $ free1 ! $ move ! (7 ∷ 8 ∷ []) $ free1 ! $ move ! (5 ∷ 6 ∷ []) $ free1 ! $ move ! (3 ∷ 4 ∷ []) $ free1 ! $ move ! (1 ∷ 2 ∷ []) $ free1 ! $ free0 ! $
-        keep ! (0 ∷ 1 ∷ []) $ by ! (exits r (e ∙ sides-rest (h .settings) (getD (h .berths) k fresh) ∙ ap (atRest (h .settings)) (sym (at-is h k))) is)))))))))))))))))))))))
+        returns ! (look ! 27 refl) $ forget ! 1 refl $ forget ! 3 refl $ forget ! 5 refl $ forget ! 7 refl $ forget ! 9 refl $ forget ! 11 refl $ forget ! 13 refl $ forget ! 15 refl $ forget ! 17 refl $ forget ! 19 refl $ forget ! 21 refl $ forget ! 23 refl $ forget ! 25 refl $ forget ! 27 refl $
+        move ! (27 ∷ 28 ∷ []) $ free1 ! $ move ! (25 ∷ 26 ∷ []) $ free1 ! $ move ! (23 ∷ 24 ∷ []) $ free1 ! $ move ! (21 ∷ 22 ∷ []) $ free1 ! $ move ! (19 ∷ 20 ∷ []) $ free1 ! $ move ! (17 ∷ 18 ∷ []) $ free1 ! $ move ! (15 ∷ 16 ∷ []) $ free1 ! $ move ! (13 ∷ 14 ∷ []) $ free1 ! $ move ! (11 ∷ 12 ∷ []) $ free1 ! $ move ! (9 ∷ 10 ∷ []) $ free1 ! $ move ! (7 ∷ 8 ∷ []) $ free1 ! $ move ! (5 ∷ 6 ∷ []) $ free1 ! $ move ! (3 ∷ 4 ∷ []) $ free1 ! $ move ! (1 ∷ 2 ∷ []) $ free1 ! $ free0 ! $
+        keep ! (0 ∷ 1 ∷ []) $ by ! (exits r (e ∙ sides-rest (h .settings) (getD (h .berths) k fresh) ∙ ap (atRest (h .settings)) (sym (at-is h k))) is))))))))))))))))))))
 
 module _ {M : Type 1} (𝓤 : URA M) (H : Heap 𝓤) (A : Atoms 𝓤) (W : Given 𝓤 H A) (at-mem : Memory → SProp 𝓤) (run : Routine → Fun 𝓤) where
   walks : (𝓣 : Tables 𝓤 H) → FmC 𝓤 H (W .laws) (𝓣 .C) → Triple 𝓤 (𝓣 .C #c1) (C1 𝓤 H A at-mem run) → Walks 𝓤 H A self.ended stayed (WpFn 𝓤 H (𝓣 .C) (𝓣 .Λ) code.function) (self.clauses 𝓤 H A at-mem run)

@@ -1,4 +1,4 @@
--- The settings and the receive side of one berth are copied out from behind the `&` and tested; where they are in range, the send side decides.
+-- The receive side of one berth is copied out from behind the `&` and tested by the berth's own BS; where it is in range, the send side decides.
 -- A walk, written by tools/walks.
 use mathlib.Core.Path.{_≡_, refl, sym, _∙_, ap}
 use mathlib.Core.Bool.{Bool, false}
@@ -53,7 +53,6 @@ use Rattle.rules.proofs.Cases.{is-true, is-false}
 use Rattle.looks.proofs.Lent.{uint, boolean, looked, shut, returned, had}
 use Rattle.looks.proofs.Item.{item}
 use Rattle.looks.proofs.Ten.{FT, FB, FG, us, us-at, us-length, us-within, at-is, berth-is, settings-is, bytes-fit}
-use Rattle.rules.specs.Tests.{all}
 use Rattle.rules.specs.declared.BerthSettings.{BerthSettings}
 use Rattle.rules.specs.declared.Rx.{Rx}
 use Rattle.rules.specs.declared.Tx.{Tx}
@@ -61,11 +60,12 @@ use Rattle.rules.proofs.BerthSettings as O
 use Rattle.rules.proofs.Rx as R
 use Rattle.rules.proofs.Tx as X
 use Rattle.looks.proofs.Sides.{FR, FX, FO, see-parts, rx-of, last-of, tx-of, own-of, side-fails, side-passes}
-use Rattle.rules.specs.Ranges.{berthInOrder, ownAllowed, rxInRange, txInRange}
-use Rattle.berth.proofs.ranges.receive_in_order as c1
-use Rattle.berth.proofs.ranges.receive_in_order.Symbol as c1-def
-use Rattle.berth.proofs.ranges.receive_in_order.Symbol.{name as #c1}
-use Rattle.berth.proofs.ranges.receive_in_order.Met as c1-thm
+use Rattle.rules.specs.Ranges.{rxInRange, txInRange}
+use Rattle.looks.specs.Order.{sidesInOrder}
+use Rattle.berth.proofs.ranges.rx_in_range as c1
+use Rattle.berth.proofs.ranges.rx_in_range.Symbol as c1-def
+use Rattle.berth.proofs.ranges.rx_in_range.Symbol.{name as #c1}
+use Rattle.berth.proofs.ranges.rx_in_range.Met as c1-thm
 use Rattle.berth.proofs.ranges.tx_in_range as c2
 use Rattle.berth.proofs.ranges.tx_in_range.Symbol as c2-def
 use Rattle.berth.proofs.ranges.tx_in_range.Symbol.{name as #c2}
@@ -102,7 +102,7 @@ module _ {M : Type 1} (𝓤 : URA M) (H : Heap 𝓤) (A : Atoms 𝓤) (W : Given
   OwnP = ShrRef (named 0) κ T.the-row .own p (vptr b o ∷ [])
 
   abbrev Ensured : Bool → Node → Type 0
-  Ensured r h′ = r ≡ berthInOrder (h .settings) (berthAt h k)
+  Ensured r h′ = r ≡ sidesInOrder (h .settings) (berthAt h k)
 
   exits : (r : Bool) → Ensured r h → Is bool r (boolean .val r ∷ []) → ent 𝓤 (⋆ 𝓤 H A (‵ (flft κ q) ∷ ‵ OwnP ∷ [])) (Post (boolean .val r))
   exits r e is =
@@ -146,11 +146,11 @@ module _ {M : Type 1} (𝓤 : URA M) (H : Heap 𝓤) (A : Atoms 𝓤) (W : Given
         assigns ! (addr ! (from ! (hop ! (look ! 36 refl) (fld ! {τ = tyArray B′.mir 10} {d = 8} refl (stop !))))) (from ! (stop !)) (init ! 12 refl (tt, tt)) $
         assigns ! (bin ! (load ! (from ! (stop !)) (look ! 12 refl)) (load ! (from ! (stop !)) (look ! 22 refl)) tt) (from ! (stop !)) (init ! 10 refl (tt, tt)) $ rewrite ! 10 (λ (m : ℕ). ‵ (fat fullShare tyPtr l₁₄ 0 (vptr b m))) (sym (place-is 52 (o + 8) k)) refl $
         assigns ! (of-opd ! (load ! (from ! (hop ! (look ! 10 refl) (fld ! {τ = R′.mir} {d = 0} refl (stop !)))) (look-in ! 0 (sub ! 0 {τ = R′.mir} {d = 0} refl (item ! (us (h .berths)) k (FB .val fresh) (us-within h was k within) (us-length h was) (us-at (h .berths) k ∙ see-parts (getD (h .berths) k fresh)) (sub ! 2 {τ = tyArray B′.mir 10} {d = 8} refl (whole !))))))) (from ! (stop !)) (init ! 26 refl (FR .lawful 𝓤 H A W .typed ((getD (h .berths) k fresh) .rx) _ (rx-of (getD (h .berths) k fresh) (berth-is h was k within)) .0)) $
-        -- if berth::ranges::receive_in_order(settings, own, last, rx) {
+        -- if berth::ranges::rx_in_range(settings, own, last, rx) {
         use0 W (raw (C1 𝓤 H A at-mem run .pre ((tt, tt, tt, ((h .settings), (((getD (h .berths) k fresh) .settings), (((getD (h .berths) k fresh) .last), (((getD (h .berths) k fresh) .rx), tt)))), (FG .val (h .settings) ∷ [], (FO .val ((getD (h .berths) k fresh) .settings) ∷ [], ((uint w32) .val ((getD (h .berths) k fresh) .last) ∷ [], (FR .val ((getD (h .berths) k fresh) .rx) ∷ [], tt))))), tt))) (goes-c1 (h .settings) ((getD (h .berths) k fresh) .settings) ((getD (h .berths) k fresh) .last) ((getD (h .berths) k fresh) .rx) (settings-is h was) (own-of (getD (h .berths) k fresh) (berth-is h was k within)) (last-of (getD (h .berths) k fresh) (berth-is h was k within)) (rx-of (getD (h .berths) k fresh) (berth-is h was k within))) $
         calls-at ! fm (C1 𝓤 H A at-mem run) known-c1 ((tt, tt, tt, ((h .settings), (((getD (h .berths) k fresh) .settings), (((getD (h .berths) k fresh) .last), (((getD (h .berths) k fresh) .rx), tt)))), (FG .val (h .settings) ∷ [], (FO .val ((getD (h .berths) k fresh) .settings) ∷ [], ((uint w32) .val ((getD (h .berths) k fresh) .last) ∷ [], (FR .val ((getD (h .berths) k fresh) .rx) ∷ [], tt))))), tt) (and-then ! (load ! (from ! (stop !)) (look ! 33 refl)) (and-then ! (load ! (from ! (stop !)) (look ! 31 refl)) (and-then ! (load ! (from ! (stop !)) (look ! 29 refl)) (and-then ! (load ! (from ! (stop !)) (look ! 27 refl)) (no-more !))))) (λ v1.
         use1 W (later (some (λ (r : Bool). (‵ ftrue ⊛ ‵ (bool .own r (v1 ∷ []))) ⊛ raw (ensured 𝓤 H A c1.ended (c1.clauses 𝓤 H A at-mem run) tt ((h .settings), (((getD (h .berths) k fresh) .settings), (((getD (h .berths) k fresh) .last), (((getD (h .berths) k fresh) .rx), tt)))) tt r)))) (id⊢ 𝓤 _) $ await ! tt $ pick ! (λ r.
-        split ! $ move ! (1 ∷ []) $ use1 W (raw (fact 𝓤 (r ≡ all (ownAllowed (((getD (h .berths) k fresh) .settings) .block) (((getD (h .berths) k fresh) .settings) .stmin) ∷ rxInRange (h .settings) (((getD (h .berths) k fresh) .settings) .block) ((getD (h .berths) k fresh) .last) ((getD (h .berths) k fresh) .rx) ∷ [])))) (exE 𝓤 _ (λ ws. snd∗ 𝓤 (sem 𝓤 H A (lasts c1.ended tt ((h .settings), (((getD (h .berths) k fresh) .settings), (((getD (h .berths) k fresh) .last), (((getD (h .berths) k fresh) .rx), tt)))) ws)) (fact 𝓤 (r ≡ all (ownAllowed (((getD (h .berths) k fresh) .settings) .block) (((getD (h .berths) k fresh) .settings) .stmin) ∷ rxInRange (h .settings) (((getD (h .berths) k fresh) .settings) .block) ((getD (h .berths) k fresh) .last) ((getD (h .berths) k fresh) .rx) ∷ []))))) $ heard ! (r ≡ all (ownAllowed (((getD (h .berths) k fresh) .settings) .block) (((getD (h .berths) k fresh) .settings) .stmin) ∷ rxInRange (h .settings) (((getD (h .berths) k fresh) .settings) .block) ((getD (h .berths) k fresh) .last) ((getD (h .berths) k fresh) .rx) ∷ [])) (λ e. split ! $ drop ! $ returned ! boolean r v1 (λ is.
+        split ! $ move ! (1 ∷ []) $ use1 W (raw (fact 𝓤 (r ≡ rxInRange (h .settings) (((getD (h .berths) k fresh) .settings) .block) ((getD (h .berths) k fresh) .last) ((getD (h .berths) k fresh) .rx)))) (exE 𝓤 _ (λ ws. snd∗ 𝓤 (sem 𝓤 H A (lasts c1.ended tt ((h .settings), (((getD (h .berths) k fresh) .settings), (((getD (h .berths) k fresh) .last), (((getD (h .berths) k fresh) .rx), tt)))) ws)) (fact 𝓤 (r ≡ rxInRange (h .settings) (((getD (h .berths) k fresh) .settings) .block) ((getD (h .berths) k fresh) .last) ((getD (h .berths) k fresh) .rx))))) $ heard ! (r ≡ rxInRange (h .settings) (((getD (h .berths) k fresh) .settings) .block) ((getD (h .berths) k fresh) .last) ((getD (h .berths) k fresh) .rx)) (λ e. split ! $ drop ! $ returned ! boolean r v1 (λ is.
         land ! (from ! (stop !)) (init ! 8 refl (boolean .lawful 𝓤 H A W .typed r _ is .0)) $
         first ! $ branches ! (load ! (from ! (stop !)) (look ! 8 refl))
         (λ yes.
@@ -168,14 +168,14 @@ module _ {M : Type 1} (𝓤 : URA M) (H : Heap 𝓤) (A : Atoms 𝓤) (W : Given
         use1 W (‵ (cellAt q′ (T.the-row .mir) (FT .val h ∷ []) b o)) (W .laws .at-raw q′ T′.mir b o (FT .val h)) $ shut ! tt FT q′ h b o was $
         returns-within ! Post refl (look ! 37 refl) $ forget ! 1 refl $ forget ! 3 refl $ forget ! 5 refl $ forget ! 7 refl $ forget ! 9 refl $ forget ! 11 refl $ forget ! 13 refl $ forget ! 15 refl $ forget ! 17 refl $ forget ! 19 refl $ forget ! 21 refl $ forget ! 23 refl $ forget ! 25 refl $ forget ! 27 refl $ forget ! 29 refl $ forget ! 31 refl $ forget ! 33 refl $ forget ! 35 refl $ forget ! 37 refl $
         move ! (37 ∷ 38 ∷ []) $ free1 ! $ move ! (35 ∷ 36 ∷ []) $ free1 ! $ move ! (33 ∷ 34 ∷ []) $ free1 ! $ move ! (31 ∷ 32 ∷ []) $ free1 ! $ move ! (29 ∷ 30 ∷ []) $ free1 ! $ move ! (27 ∷ 28 ∷ []) $ free1 ! $ move ! (25 ∷ 26 ∷ []) $ free1 ! $ move ! (23 ∷ 24 ∷ []) $ free1 ! $ move ! (21 ∷ 22 ∷ []) $ free1 ! $ move ! (19 ∷ 20 ∷ []) $ free1 ! $ move ! (17 ∷ 18 ∷ []) $ free1 ! $ move ! (15 ∷ 16 ∷ []) $ free1 ! $ move ! (13 ∷ 14 ∷ []) $ free1 ! $ move ! (11 ∷ 12 ∷ []) $ free1 ! $ move ! (9 ∷ 10 ∷ []) $ free1 ! $ move ! (7 ∷ 8 ∷ []) $ free1 ! $ move ! (5 ∷ 6 ∷ []) $ free1 ! $ move ! (3 ∷ 4 ∷ []) $ free1 ! $ move ! (1 ∷ 2 ∷ []) $ free1 ! $ free0 ! $
-        keep ! (0 ∷ 1 ∷ []) $ by ! (exits t (side-passes (h .settings) (getD (h .berths) k fresh) (sym e ∙ is-true r yes) et ∙ ap (berthInOrder (h .settings)) (sym (at-is h k))) t-is))))))
+        keep ! (0 ∷ 1 ∷ []) $ by ! (exits t (side-passes (h .settings) (getD (h .berths) k fresh) (sym e ∙ is-true r yes) et ∙ ap (sidesInOrder (h .settings)) (sym (at-is h k))) t-is))))))
         (λ no. skips ! $ exec ! C Λ _ body.t-16 (atRet _ Post) $
         -- false
         assigns ! (of-opd ! (false-lit !)) (from ! (stop !)) (init ! 38 refl (tt, tt)) $
         use1 W (‵ (cellAt q′ (T.the-row .mir) (FT .val h ∷ []) b o)) (W .laws .at-raw q′ T′.mir b o (FT .val h)) $ shut ! tt FT q′ h b o was $
         returns ! (look ! 37 refl) $ forget ! 7 refl $ forget ! 9 refl $ forget ! 11 refl $ forget ! 13 refl $ forget ! 15 refl $ forget ! 17 refl $ forget ! 19 refl $ forget ! 21 refl $ forget ! 25 refl $ forget ! 27 refl $ forget ! 29 refl $ forget ! 31 refl $ forget ! 33 refl $ forget ! 35 refl $ forget ! 37 refl $
         move ! (37 ∷ 38 ∷ []) $ free1 ! $ move ! (35 ∷ 36 ∷ []) $ free1 ! $ move ! (33 ∷ 34 ∷ []) $ free1 ! $ move ! (31 ∷ 32 ∷ []) $ free1 ! $ move ! (29 ∷ 30 ∷ []) $ free1 ! $ move ! (27 ∷ 28 ∷ []) $ free1 ! $ move ! (25 ∷ 26 ∷ []) $ free1 ! $ move ! (23 ∷ 24 ∷ []) $ free1 ! $ move ! (21 ∷ 22 ∷ []) $ free1 ! $ move ! (19 ∷ 20 ∷ []) $ free1 ! $ move ! (17 ∷ 18 ∷ []) $ free1 ! $ move ! (15 ∷ 16 ∷ []) $ free1 ! $ move ! (13 ∷ 14 ∷ []) $ free1 ! $ move ! (11 ∷ 12 ∷ []) $ free1 ! $ move ! (9 ∷ 10 ∷ []) $ free1 ! $ move ! (7 ∷ 8 ∷ []) $ free1 ! $ move ! (5 ∷ 6 ∷ []) $ free1 ! $ move ! (3 ∷ 4 ∷ []) $ free1 ! $ move ! (1 ∷ 2 ∷ []) $ free1 ! $ free0 ! $
-        keep ! (0 ∷ 1 ∷ []) $ by ! (exits false (side-fails (h .settings) (getD (h .berths) k fresh) (sym e ∙ is-false r no) ∙ ap (berthInOrder (h .settings)) (sym (at-is h k))) refl))))))))))))))))))))))))))
+        keep ! (0 ∷ 1 ∷ []) $ by ! (exits false (side-fails (h .settings) (getD (h .berths) k fresh) (sym e ∙ is-false r no) ∙ ap (sidesInOrder (h .settings)) (sym (at-is h k))) refl))))))))))))))))))))))))))
 
 module _ {M : Type 1} (𝓤 : URA M) (H : Heap 𝓤) (A : Atoms 𝓤) (W : Given 𝓤 H A) (at-mem : Memory → SProp 𝓤) (run : Routine → Fun 𝓤) where
   walks : (𝓣 : Tables 𝓤 H) → FmC 𝓤 H (W .laws) (𝓣 .C) → Triple 𝓤 (𝓣 .C #c1) (C1 𝓤 H A at-mem run) → Triple 𝓤 (𝓣 .C #c2) (C2 𝓤 H A at-mem run) → Walks 𝓤 H A self.ended stayed (WpFn 𝓤 H (𝓣 .C) (𝓣 .Λ) code.function) (self.clauses 𝓤 H A at-mem run)
@@ -192,5 +192,5 @@ order-at-spec 𝓤 H 𝓜 𝓖 𝓡 =
     entered 𝓤 H (tripleOf 𝓤 H (𝓖 .A) self.signature (self.spec 𝓤 H (𝓖 .A) (𝓜 .mem) (𝓡 .run)))
     (tables 𝓤 H 𝓜 𝓡 code.env .C) (tables 𝓤 H 𝓜 𝓡 code.env .Λ) #self code.function (code.unfolded 𝓤 H 𝓜 𝓡)
     (meets 𝓤 H (𝓖 .A) (givenOf 𝓤 H 𝓜 𝓖) (𝓜 .mem) (𝓡 .run) (tablesOf 𝓤 H 𝓜 (tables 𝓤 H 𝓜 𝓡 code.env))
-    (cited 𝓤 H (C1 𝓤 H (𝓖 .A) (𝓜 .mem) (𝓡 .run)) 𝓜 𝓡 code.env #c1 c1-def.routine code.calls-berth·ranges·receive-in-order (c1-thm.met 𝓤 H 𝓜 𝓖 𝓡))
+    (cited 𝓤 H (C1 𝓤 H (𝓖 .A) (𝓜 .mem) (𝓡 .run)) 𝓜 𝓡 code.env #c1 c1-def.routine code.calls-berth·ranges·rx-in-range (c1-thm.met 𝓤 H 𝓜 𝓖 𝓡))
     (cited 𝓤 H (C2 𝓤 H (𝓖 .A) (𝓜 .mem) (𝓡 .run)) 𝓜 𝓡 code.env #c2 c2-def.routine code.calls-berth·ranges·tx-in-range (c2-thm.met 𝓤 H 𝓜 𝓖 𝓡)))

@@ -1,4 +1,4 @@
--- A loop asks berth after berth whether it is in order. What is left says what all of them from the first one asked on say.
+-- A loop asks berth after berth whether its sides are in order. What is left says what all of them from the first one asked on say.
 -- A walk, written by tools/walks.
 use mathlib.Core.Path.{_≡_, refl, sym, _∙_, ap, subst}
 use mathlib.Core.Bool.{Bool, true, false}
@@ -57,7 +57,7 @@ use prog.Wp.{Out, Env, afterSeq, afterBlock, afterTurn, Wp, atReturn}
 use denote.Memory.{pointee}
 use Rattle.looks.proofs.Loops.{Nearing, nearing-ends}
 use Rattle.rules.specs.Tests.{each}
-use Rattle.rules.specs.Ranges.{berthInOrder}
+use Rattle.looks.specs.Order.{sidesInOrder}
 use Rattle.looks.proofs.Ordered.{ends-all, fails-at, passes-at}
 use Rattle.looks.proofs.order_at as c1
 use Rattle.looks.proofs.order_at.Symbol as c1-def
@@ -92,7 +92,7 @@ module _ {M : Type 1} (𝓤 : URA M) (H : Heap 𝓤) (A : Atoms 𝓤) (W : Given
   OwnP = ShrRef (named 0) κ T.the-row .own p (vptr b o ∷ [])
 
   abbrev Ensured : Bool → Node → Type 0
-  Ensured r h′ = r ≡ each (berthInOrder (h .settings)) (dropL begun (h .berths))
+  Ensured r h′ = r ≡ each (sidesInOrder (h .settings)) (dropL begun (h .berths))
 
   exits : (r : Bool) → Ensured r h → Is bool r (boolean .val r ∷ []) → ent 𝓤 (⋆ 𝓤 H A (‵ (flft κ q) ∷ ‵ OwnP ∷ [])) (Post (boolean .val r))
   exits r e is =
@@ -114,7 +114,7 @@ module _ {M : Type 1} (𝓤 : URA M) (H : Heap 𝓤) (A : Atoms 𝓤) (W : Given
 
     -- how far the loop is, and what is known there
     abbrev Upto : Type 0
-    Upto = (i : ℕ) × (i < 2 ^ 64) × (each (berthInOrder (h .settings)) (dropL i (h .berths)) ≡ each (berthInOrder (h .settings)) (dropL begun (h .berths)))
+    Upto = (i : ℕ) × (i < 2 ^ 64) × (each (sidesInOrder (h .settings)) (dropL i (h .berths)) ≡ each (sidesInOrder (h .settings)) (dropL begun (h .berths)))
 
     abbrev Nearer : Upto → Upto → Type 0
     Nearer = Nearing (λ (i : Upto). i .0)
@@ -144,27 +144,27 @@ module _ {M : Type 1} (𝓤 : URA M) (H : Heap 𝓤) (A : Atoms 𝓤) (W : Given
           move ! (14 ∷ 1 ∷ []) $ uses W (‵ (flft κ q) ∷ ‵ OwnP ∷ []) (raw (C1 𝓤 H A at-mem run .pre (((κ, tt), (q, tt), tt, (p, ((i .0), tt)), (vptr b o ∷ [], ((uint w64) .val (i .0) ∷ [], tt))), tt))) (goes-c1 (i .0) (refl, i .1) (below less)) $
           calls-at ! fm (C1 𝓤 H A at-mem run) known-c1 (((κ, tt), (q, tt), tt, (p, ((i .0), tt)), (vptr b o ∷ [], ((uint w64) .val (i .0) ∷ [], tt))), tt) (and-then ! (load ! (from ! (stop !)) (look ! 10 refl)) (and-then ! (load ! (from ! (stop !)) (look ! 6 refl)) (no-more !))) (λ v1.
           use1 W (later (some (λ (r : Bool). ((‵ (flft κ q) ⊛ ‵ ftrue) ⊛ ‵ (bool .own r (v1 ∷ []))) ⊛ raw (ensured 𝓤 H A c1.ended (c1.clauses 𝓤 H A at-mem run) (κ, tt) (p, ((i .0), tt)) tt r)))) (id⊢ 𝓤 _) $ await ! tt $ pick ! (λ r.
-          split ! $ move ! (1 ∷ []) $ use1 W (raw (fact 𝓤 (r ≡ berthInOrder (h .settings) (berthAt h (i .0))))) (exE 𝓤 _ (λ ws. snd∗ 𝓤 (sem 𝓤 H A (lasts c1.ended (κ, tt) (p, ((i .0), tt)) ws)) (fact 𝓤 (r ≡ berthInOrder (h .settings) (berthAt h (i .0)))))) $ heard ! (r ≡ berthInOrder (h .settings) (berthAt h (i .0))) (λ e. split ! $ move ! (1 ∷ []) $ returned ! boolean r v1 (λ is.
+          split ! $ move ! (1 ∷ []) $ use1 W (raw (fact 𝓤 (r ≡ sidesInOrder (h .settings) (berthAt h (i .0))))) (exE 𝓤 _ (λ ws. snd∗ 𝓤 (sem 𝓤 H A (lasts c1.ended (κ, tt) (p, ((i .0), tt)) ws)) (fact 𝓤 (r ≡ sidesInOrder (h .settings) (berthAt h (i .0)))))) $ heard ! (r ≡ sidesInOrder (h .settings) (berthAt h (i .0))) (λ e. split ! $ move ! (1 ∷ []) $ returned ! boolean r v1 (λ is.
           land ! (from ! (stop !)) (init ! 2 refl (boolean .lawful 𝓤 H A W .typed r _ is .0)) $
           split ! $ move ! (1 ∷ []) $ drop ! $
           branches ! (load ! (from ! (stop !)) (look ! 2 refl))
           (λ yes.
           -- i += 1;
-          assigns-last ! (bin ! (load ! (from ! (stop !)) (look ! 6 refl)) (lit ! tt) (record { fits = (next less (passes-at (berthInOrder (h .settings)) (h .berths) (i .0) fresh (in-ten less) (ap (berthInOrder (h .settings)) (sym (at-is h (i .0))) ∙ sym e ∙ is-true r yes) ∙ i .2)) .1 })) (from ! (stop !)) (store ! 6 refl (tt, record { fits = (next less (passes-at (berthInOrder (h .settings)) (h .berths) (i .0) fresh (in-ten less) (ap (berthInOrder (h .settings)) (sym (at-is h (i .0))) ∙ sym e ∙ is-true r yes) ∙ i .2)) .1 })) $
+          assigns-last ! (bin ! (load ! (from ! (stop !)) (look ! 6 refl)) (lit ! tt) (record { fits = (next less (passes-at (sidesInOrder (h .settings)) (h .berths) (i .0) fresh (in-ten less) (ap (sidesInOrder (h .settings)) (sym (at-is h (i .0))) ∙ sym e ∙ is-true r yes) ∙ i .2)) .1 })) (from ! (stop !)) (store ! 6 refl (tt, record { fits = (next less (passes-at (sidesInOrder (h .settings)) (h .berths) (i .0) fresh (in-ten less) (ap (sidesInOrder (h .settings)) (sym (at-is h (i .0))) ∙ sym e ∙ is-true r yes) ∙ i .2)) .1 })) $
           forget ! 4 refl $ forget ! 2 refl $
-          keep ! (2 ∷ 3 ∷ 4 ∷ 5 ∷ 6 ∷ 7 ∷ 8 ∷ 9 ∷ 10 ∷ 11 ∷ 12 ∷ 13 ∷ 1 ∷ 0 ∷ []) $ again ! Nearer At i (next less (passes-at (berthInOrder (h .settings)) (h .berths) (i .0) fresh (in-ten less) (ap (berthInOrder (h .settings)) (sym (at-is h (i .0))) ∙ sym e ∙ is-true r yes) ∙ i .2)) (add-one-dec 10 (i .0) (below less)))
+          keep ! (2 ∷ 3 ∷ 4 ∷ 5 ∷ 6 ∷ 7 ∷ 8 ∷ 9 ∷ 10 ∷ 11 ∷ 12 ∷ 13 ∷ 1 ∷ 0 ∷ []) $ again ! Nearer At i (next less (passes-at (sidesInOrder (h .settings)) (h .berths) (i .0) fresh (in-ten less) (ap (sidesInOrder (h .settings)) (sym (at-is h (i .0))) ∙ sym e ∙ is-true r yes) ∙ i .2)) (add-one-dec 10 (i .0) (below less)))
           (λ no.
           -- return false;
           assigns ! (of-opd ! (false-lit !)) (from ! (stop !)) (init ! 12 refl (tt, tt)) $
           returns-within ! Post refl (look ! 12 refl) $ forget ! 2 refl $ forget ! 4 refl $ forget ! 6 refl $ forget ! 8 refl $ forget ! 10 refl $ forget ! 12 refl $
           move ! (12 ∷ 13 ∷ []) $ free1 ! $ move ! (10 ∷ 11 ∷ []) $ free1 ! $ move ! (8 ∷ 9 ∷ []) $ free1 ! $ move ! (6 ∷ 7 ∷ []) $ free1 ! $ move ! (4 ∷ 5 ∷ []) $ free1 ! $ move ! (2 ∷ 3 ∷ []) $ free1 ! $ free0 ! $
-          keep ! (0 ∷ 1 ∷ []) $ by ! (exits false (fails-at (berthInOrder (h .settings)) (h .berths) (i .0) fresh (in-ten less) (ap (berthInOrder (h .settings)) (sym (at-is h (i .0))) ∙ sym e ∙ is-false r no) ∙ i .2) refl)))))))
+          keep ! (0 ∷ 1 ∷ []) $ by ! (exits false (fails-at (sidesInOrder (h .settings)) (h .berths) (i .0) fresh (in-ten less) (ap (sidesInOrder (h .settings)) (sym (at-is h (i .0))) ∙ sym e ∙ is-false r no) ∙ i .2) refl)))))))
           (λ over. jumps ! $ exec ! C Λ En body.t-3 (atRet En Post) $
           -- true
           assigns ! (of-opd ! (true-lit !)) (from ! (stop !)) (init ! 10 refl (tt, tt)) $
           returns ! (look ! 10 refl) $ forget ! 2 refl $ forget ! 4 refl $ forget ! 6 refl $ forget ! 8 refl $ forget ! 10 refl $
           move ! (10 ∷ 11 ∷ []) $ free1 ! $ move ! (8 ∷ 9 ∷ []) $ free1 ! $ move ! (6 ∷ 7 ∷ []) $ free1 ! $ move ! (4 ∷ 5 ∷ []) $ free1 ! $ move ! (2 ∷ 3 ∷ []) $ free1 ! $ free1 ! $ free0 ! $
-          keep ! (1 ∷ 0 ∷ []) $ by ! (exits true (ends-all (berthInOrder (h .settings)) (h .berths) (i .0) (past over) ∙ i .2) refl))
+          keep ! (1 ∷ 0 ∷ []) $ by ! (exits true (ends-all (sidesInOrder (h .settings)) (h .berths) (i .0) (past over) ∙ i .2) refl))
         where
           below : Holds (ltb (i .0) 10) → i .0 < 10
           below less = ltb→lt (i .0) 10 less
@@ -175,7 +175,7 @@ module _ {M : Type 1} (𝓤 : URA M) (H : Heap 𝓤) (A : Atoms 𝓤) (W : Given
           past : Holds (not (ltb (i .0) 10)) → length (h .berths) ≤ i .0
           past over = subst (λ m. m ≤ i .0) (sym ten) (nltb→le (i .0) 10 over)
 
-          next : Holds (ltb (i .0) 10) → (each (berthInOrder (h .settings)) (dropL (i .0 + 1) (h .berths)) ≡ each (berthInOrder (h .settings)) (dropL begun (h .berths))) → Upto
+          next : Holds (ltb (i .0) 10) → (each (sidesInOrder (h .settings)) (dropL (i .0 + 1) (h .berths)) ≡ each (sidesInOrder (h .settings)) (dropL begun (h .berths))) → Upto
           next less known = (i .0 + 1, lt-of-le-of-lt (add-one-le (below less)) (lit< tt), known)
 
     walk : ent 𝓤 (onEntry 𝓤 H A self.signature (κ, tt) (q, tt) x at) (WpFn 𝓤 H C Λ code.function (vptr b o ∷ (uint w64) .val begun ∷ []) Post)

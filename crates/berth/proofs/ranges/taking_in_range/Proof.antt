@@ -23,16 +23,16 @@ returns-2 c = later _ _ (later _ _ (stop _ (le-ltb _ _ (c .if2 .taken))))
 under-way-requires : tie.Need-under-way-requires
 under-way-requires c κs = search needs
 
-least-block-requires : tie.Need-least-block-requires
-least-block-requires c κs = search needs
+in-block-requires : tie.Need-in-block-requires
+in-block-requires c κs = search needs
 
 returns-3 : tie.Need-returns-3
 unfolding takingInRange
 returns-3 c =
-    let found = c .before .before .before in
-    let way = sym (found .under-way .ensures) ∙ c .before .before .if3 .taken in
+    let found = c .before .before in
+    let way = sym (found .under-way .ensures) ∙ c .before .if3 .taken in
     more _ (eq-eqb _ _ (found .before .before .if1 .left))
-    (c .before .least-block .ensures _ ∙ more _ way (ends refl) ∙ time-last _ _ (lt-ltb _ _ (found .before .if2 .left)))
+    (c .in-block .ensures ∙ more _ way (ends refl) ∙ time-last _ _ (lt-ltb _ _ (found .before .if2 .left)))
 
 returns-4 : tie.Need-returns-4
 unfolding takingInRange
@@ -41,4 +41,4 @@ returns-4 c = later _ _ (stop _ (sym (stop _ (sym (c .before .under-way .ensures
 pub taking-in-range-spec : {M : Type 1} → statement M
 taking-in-range-spec =
     tie.close
-    (tie.spec returns returns-2 under-way-requires least-block-requires returns-3 returns-4)
+    (tie.spec returns returns-2 under-way-requires in-block-requires returns-3 returns-4)

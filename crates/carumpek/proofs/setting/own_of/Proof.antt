@@ -4,12 +4,12 @@ use mathlib.Core.Logic.{⊎-elim}
 use borrow.Author.Needs.{needs}
 use Rattle.rules.specs.Ranges.{OwnRange}
 use Rattle.rules.proofs.Cases.{yes-of}
-use Rattle.rules.proofs.Ranges.{settings-range}
+use Rattle.rules.proofs.Ranges.{own-range}
 use Rattle.carumpek.proofs.setting.own_of.Statement.{statement}
 use Rattle.carumpek.proofs.setting.own_of.Tie as tie
 
 range : (c : tie.Start) → let a = c .args in OwnRange (a .block) (a .stmin)
-range c = let a = c .args in settings-range (c .pre .0) (a .block) (a .stmin) (yes-of (c .pre .1)) .own
+range c = let a = c .args in own-range (a .block) (a .stmin) (yes-of (c .pre))
 
 cast-t3 : tie.Need-cast-t3
 cast-t3 c = omega (arith, range c .block-most)
