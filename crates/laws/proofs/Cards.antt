@@ -210,18 +210,18 @@ unfolding partOf
 run-frozen-stays k h cs f = ap (λ (p : Part). p .card) (berth-alone k h cs) ∙ frozen-stays (h .node .settings) (partOf k h) (owns k h cs) f
 
 -- after a set-up with cards of zeros every berth starts so
-pub set-up-unbegun : (h : Held) (s : Settings) (set : BerthSettings) (k : ℕ) → k < berthCount → setUpRefusal (s .area) (set .block) (set .stmin) ≡ 0 → h .cards ≡ zeroCards
-    → UnbegunAt k (setUp h s set)
+pub set-up-unbegun : (h : Held) (s : Settings) (alike : BerthSettings) (k : ℕ) → k < berthCount → setUpRefusal (s .area) (alike .block) (alike .stmin) ≡ 0 → h .cards ≡ zeroCards
+    → UnbegunAt k (setUp h s alike)
 unfolding partOf cardAt
-set-up-unbegun h s set k l e z =
-    let part = set-up-part h s set k l e in
+set-up-unbegun h s alike k l e z =
+    let part = set-up-part h s alike k l e in
     record {
       zeros = ap (λ (p : Part). p .card) part ∙ ap (λ (cards : List Card). cardAt cards k) z ∙ getD-replicate berthCount k zeroCard zeroCard l;
       idle = ap (λ (p : Part). underWay (p .berth .rx)) part;
     }
 
 -- THE LAW OF THE CARDS AFTER A SET-UP, from cards of zeros, of every berth.
-pub tallies-after-set-up : (h : Held) (s : Settings) (set : BerthSettings) (cs : List Call) (c : Call) (k : ℕ) → k < berthCount
-    → setUpRefusal (s .area) (set .block) (set .stmin) ≡ 0 → h .cards ≡ zeroCards → frozenAt k (final (setUp h s set) cs) ≡ false
-    → TalliesAt k (final (setUp h s set) (cs ++ c ∷ [])) (historyOf k (setUp h s set) (cs ++ c ∷ []))
-tallies-after-set-up h s set cs c k l e z f = run-tallies k (setUp h s set) cs c (set-up-unbegun h s set k l e z) f
+pub tallies-after-set-up : (h : Held) (s : Settings) (alike : BerthSettings) (cs : List Call) (c : Call) (k : ℕ) → k < berthCount
+    → setUpRefusal (s .area) (alike .block) (alike .stmin) ≡ 0 → h .cards ≡ zeroCards → frozenAt k (final (setUp h s alike) cs) ≡ false
+    → TalliesAt k (final (setUp h s alike) (cs ++ c ∷ [])) (historyOf k (setUp h s alike) (cs ++ c ∷ []))
+tallies-after-set-up h s alike cs c k l e z f = run-tallies k (setUp h s alike) cs c (set-up-unbegun h s alike k l e z) f

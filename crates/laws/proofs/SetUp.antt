@@ -73,25 +73,25 @@ sound-run h (c ∷ cs) s = sound-run (outcome h c .held) cs (sound-step h c s)
 
 -- ---- after a set-up
 
-set-up-held : (h : Held) (s : Settings) (own : BerthSettings) → setUpRefusal (s .area) (own .block) (own .stmin) ≡ 0
-    → setUp h s own ≡ withNode h (setUpNode s own)
+set-up-held : (h : Held) (s : Settings) (alike : BerthSettings) → setUpRefusal (s .area) (alike .block) (alike .stmin) ≡ 0
+    → setUp h s alike ≡ withNode h (setUpNode s alike)
 unfolding setUpOutcome
-set-up-held h s own e =
+set-up-held h s alike e =
     ap (λ (n : ℕ).
     unless n (refusedOutcome h [])
-    (record { answer = Answer.ready; held = withNode h (setUpNode s own); buffer = [] }) .held)
+    (record { answer = Answer.ready; held = withNode h (setUpNode s alike); buffer = [] }) .held)
     e
 
-pub set-up-part : (h : Held) (s : Settings) (own : BerthSettings) (k : ℕ) → k < berthCount → setUpRefusal (s .area) (own .block) (own .stmin) ≡ 0
-    → partOf k (setUp h s own) ≡ freshPart h s own k
+pub set-up-part : (h : Held) (s : Settings) (alike : BerthSettings) (k : ℕ) → k < berthCount → setUpRefusal (s .area) (alike .block) (alike .stmin) ≡ 0
+    → partOf k (setUp h s alike) ≡ freshPart h s alike k
 unfolding partOf berthAt setUpNode
-set-up-part h s own k l e =
-    ap (partOf k) (set-up-held h s own e)
-    ∙ part-path (getD-replicate berthCount k (freshWith own) fresh l) refl refl refl
+set-up-part h s alike k l e =
+    ap (partOf k) (set-up-held h s alike e)
+    ∙ part-path (getD-replicate berthCount k (freshWith alike) fresh l) refl refl refl
 
-set-up-settings : (h : Held) (s : Settings) (own : BerthSettings) → setUpRefusal (s .area) (own .block) (own .stmin) ≡ 0 → setUp h s own .node .settings ≡ s
+set-up-settings : (h : Held) (s : Settings) (alike : BerthSettings) → setUpRefusal (s .area) (alike .block) (alike .stmin) ≡ 0 → setUp h s alike .node .settings ≡ s
 unfolding setUpNode
-set-up-settings h s own e = ap (λ (g : Held). g .node .settings) (set-up-held h s own e)
+set-up-settings h s alike e = ap (λ (g : Held). g .node .settings) (set-up-held h s alike e)
 
 -- EACH BERTH ALONE, in any run of the six calls from any start.
 pub each-alone : (h : Held) (cs : List Call) (k : ℕ) → k < berthCount → Alone (h .node .settings) (partOf k h) k h (owns k h cs) (answers h cs) (final h cs)
@@ -110,18 +110,18 @@ each-alone h cs k l =
 -- list of cards throughout. Each berth's state, areas, card, words, codes, frames and reports, and what is shown of it, are those that
 -- the rules give for that berth alone, fresh at the start: its own frames, sends and changes, all ticks, and the turns it received, refused
 -- calls left out.
-pub each-alone-after-set-up : (h : Held) (s : Settings) (own : BerthSettings) (cs : List Call) (k : ℕ) → k < berthCount
-    → setUpRefusal (s .area) (own .block) (own .stmin) ≡ 0 → Alone s (freshPart h s own k) k (setUp h s own) (owns k (setUp h s own) cs) (answers (setUp h s own) cs) (final (setUp h s own) cs)
-each-alone-after-set-up h s own cs k l e = rw (set-up-settings h s own e, set-up-part h s own k l e) at (each-alone (setUp h s own) cs k l)
+pub each-alone-after-set-up : (h : Held) (s : Settings) (alike : BerthSettings) (cs : List Call) (k : ℕ) → k < berthCount
+    → setUpRefusal (s .area) (alike .block) (alike .stmin) ≡ 0 → Alone s (freshPart h s alike k) k (setUp h s alike) (owns k (setUp h s alike) cs) (answers (setUp h s alike) cs) (final (setUp h s alike) cs)
+each-alone-after-set-up h s alike cs k l e = rw (set-up-settings h s alike e, set-up-part h s alike k l e) at (each-alone (setUp h s alike) cs k l)
 
 -- after it what is lent is sound, if the stores and the list of cards have their lengths
-pub set-up-sound : (h : Held) (s : Settings) (own : BerthSettings) → setUpRefusal (s .area) (own .block) (own .stmin) ≡ 0
-    → length (h .incoming) ≡ berthCount * s .area → length (h .outgoing) ≡ berthCount * s .area → length (h .cards) ≡ berthCount → Sound (setUp h s own)
-set-up-sound h s own e i o t =
-    let a : setUp h s own .node .settings .area ≡ s .area = ap (λ (x : Settings). x .area) (set-up-settings h s own e) in
-    let q = set-up-held h s own e in
+pub set-up-sound : (h : Held) (s : Settings) (alike : BerthSettings) → setUpRefusal (s .area) (alike .block) (alike .stmin) ≡ 0
+    → length (h .incoming) ≡ berthCount * s .area → length (h .outgoing) ≡ berthCount * s .area → length (h .cards) ≡ berthCount → Sound (setUp h s alike)
+set-up-sound h s alike e i o t =
+    let a : setUp h s alike .node .settings .area ≡ s .area = ap (λ (x : Settings). x .area) (set-up-settings h s alike e) in
+    let q = set-up-held h s alike e in
     record {
-      order = set-up-in-order h (s .area) (own .block) (own .stmin) e;
+      order = set-up-in-order h (s .area) (alike .block) (alike .stmin) e;
       incoming = ap (λ (g : Held). length (g .incoming)) q ∙ i ∙ ap (λ (x : ℕ). berthCount * x) (sym a);
       outgoing = ap (λ (g : Held). length (g .outgoing)) q ∙ o ∙ ap (λ (x : ℕ). berthCount * x) (sym a);
       ten = ap (λ (g : Held). length (g .cards)) q ∙ t;

@@ -131,10 +131,10 @@ every-chain h [] = tt
 every-chain h (c ∷ cs) = (every-step h c, every-chain (outcome h c .held) cs)
 
 -- EVERY SET-UP HAS AN ANSWER THAT MEETS ITS PROMISE, and with allowed settings it is Ready
-every-ready : (n : Node) (s : Settings) (set : BerthSettings) → setUpRefusal (s .area) (set .block) (set .stmin) ≡ 0
-    → SetUpPromise n (s .area) (set .block) (set .stmin) SetUpAnswer.Ready (setUpNode s set)
+every-ready : (n : Node) (s : Settings) (alike : BerthSettings) → setUpRefusal (s .area) (alike .block) (alike .stmin) ≡ 0
+    → SetUpPromise n (s .area) (alike .block) (alike .stmin) SetUpAnswer.Ready (setUpNode s alike)
 unfolding setUpSays setUpOutcome
-every-ready n s set e cards incoming outgoing = rw e (agrees refl)
+every-ready n s alike e cards incoming outgoing = rw e (agrees refl)
 
 pub every-set-up : (n : Node) (area block stmin : ℕ) → (a : SetUpAnswer) × (n′ : Node) × SetUpPromise n area block stmin a n′
 unfolding setUpSays setUpOutcome refusedOutcome
@@ -143,11 +143,11 @@ every-set-up n area block stmin = go (setUpRefusal area block stmin) refl
     go : (number : ℕ) → setUpRefusal area block stmin ≡ number → (a : SetUpAnswer) × (n′ : Node) × SetUpPromise n area block stmin a n′
     go zero e =
         let s : Settings = record { area = area } in
-        let set : BerthSettings = record { block = block; stmin = stmin } in
-        (SetUpAnswer.Ready, setUpNode s set, every-ready n s set e)
+        let alike : BerthSettings = record { block = block; stmin = stmin } in
+        (SetUpAnswer.Ready, setUpNode s alike, every-ready n s alike e)
     go (suc number) e = (SetUpAnswer.Refused (suc number), n, λ cards incoming outgoing. rw e (agrees refl))
 
 -- and after one with allowed settings every list of calls has a chain
-pub every-after-set-up : (h : Held) (s : Settings) (set : BerthSettings) (cs : List Call) → setUpRefusal (s .area) (set .block) (set .stmin) ≡ 0
-    → AfterSetUp h s set (setUpNode s set) (madeOf (withNode h (setUpNode s set)) cs)
-every-after-set-up h s set cs e = record { ready = every-ready (h .node) s set e; chain = every-chain (withNode h (setUpNode s set)) cs }
+pub every-after-set-up : (h : Held) (s : Settings) (alike : BerthSettings) (cs : List Call) → setUpRefusal (s .area) (alike .block) (alike .stmin) ≡ 0
+    → AfterSetUp h s alike (setUpNode s alike) (madeOf (withNode h (setUpNode s alike)) cs)
+every-after-set-up h s alike cs e = record { ready = every-ready (h .node) s alike e; chain = every-chain (withNode h (setUpNode s alike)) cs }

@@ -59,12 +59,12 @@ module _ (k : ℕ) where
   said-more [] m = append-nil _
   said-more (x ∷ ms) m = ap (λ (r : List Says). saysOf k (x .out .answer) ++ r) (said-more ms m) ∙ sym (append-assoc (saysOf k (x .out .answer)) _ _)
 
-module _ {h : Held} {s : Settings} {set : BerthSettings} {n : Node} {ms : List Made} {k : ℕ} {p : Part} {e : Event} {m : Made} (r : OneMore h s set n ms k p e m) where
+module _ {h : Held} {s : Settings} {alike : BerthSettings} {n : Node} {ms : List Made} {k : ℕ} {p : Part} {e : Event} {m : Made} (r : OneMore h s alike n ms k p e m) where
   own-now : ownIn k (withNode h n) (ms ++ m ∷ []) ≡ ownIn k (withNode h n) ms ++ (e ∷ [])
   own-now = own-more k (withNode h n) ms m ∙ ap (λ (es : List Event). ownIn k (withNode h n) ms ++ es) (r .its)
 
   -- what the events before it made of the berth
-  part-before : alone s (freshPart h s set k) (ownIn k (withNode h n) ms) ≡ p
+  part-before : alone s (freshPart h s alike k) (ownIn k (withNode h n) ms) ≡ p
   part-before = sym (r .without k (r .small) .part) ∙ r .given
 
   -- DEMAND 3 OF ONE CALL: the berth's part after it is what its own event makes of it alone,
@@ -187,15 +187,15 @@ module _ (k : ℕ) (g : Held) where
       let room = area-length (g .node .settings .area) k (g .outgoing) (ok .mine) (ok .store) in
       omega (arith, ok .fits)
 
-module _ {h : Held} {s : Settings} {set : BerthSettings} {n : Node} {ms : List Made} {k : ℕ} {p : Part} {m : Made} where
+module _ {h : Held} {s : Settings} {alike : BerthSettings} {n : Node} {ms : List Made} {k : ℕ} {p : Part} {m : Made} where
   -- DOING NOTHING, AGAIN: a tick of a berth with a side that is not idle does not leave the berth as it was,
-  pub idle-again-timers : OneMore h s set n ms k p ticks m → ((p .berth .rx ≡ Rx.Idle) × (p .berth .tx ≡ Tx.Idle) → ⊥)
+  pub idle-again-timers : OneMore h s alike n ms k p ticks m → ((p .berth .rx ≡ Rx.Idle) × (p .berth .tx ≡ Tx.Idle) → ⊥)
       → partOf k (m .out .held) .berth ≡ p .berth → ⊥
   unfolding stateAfter partAfter
   idle-again-timers r busy same = busy (still-idle (p .berth) (sym (ap (λ (q : Part). q .berth) (part-now r)) ∙ same))
 
   -- nor does a frame whose bytes differ from those at their place leave the berth's incoming area,
-  pub idle-again-bytes : (d : List ℕ) → OneMore h s set n ms k p (arrives d) m
+  pub idle-again-bytes : (d : List ℕ) → OneMore h s alike n ms k p (arrives d) m
       → (take (length (frameCame s (p .berth) d .bytes)) (drop (frameCame s (p .berth) d .place) (p .incoming)) ≡ frameCame s (p .berth) d .bytes → ⊥)
       → partOf k (m .out .held) .incoming ≡ p .incoming → ⊥
   unfolding stateAfter partAfter
@@ -204,7 +204,7 @@ module _ {h : Held} {s : Settings} {set : BerthSettings} {n : Node} {ms : List M
       differ (stood-before (p .incoming) _ _ fits (sym (ap (λ (q : Part). q .incoming) (part-now r)) ∙ same))
 
   -- nor a send whose message differs from the bytes at the front leave the outgoing one
-  pub idle-again-message : (v : List ℕ) → OneMore h s set n ms k p (sends v) m → (take (length v) (p .outgoing) ≡ v → ⊥)
+  pub idle-again-message : (v : List ℕ) → OneMore h s alike n ms k p (sends v) m → (take (length v) (p .outgoing) ≡ v → ⊥)
       → partOf k (m .out .held) .outgoing ≡ p .outgoing → ⊥
   unfolding stateAfter partAfter
   idle-again-message v r differ same =
@@ -212,14 +212,14 @@ module _ {h : Held} {s : Settings} {set : BerthSettings} {n : Node} {ms : List M
       differ (stood-before (p .outgoing) 0 v (omega arith) (sym (ap (λ (q : Part). q .outgoing) (part-now r)) ∙ same))
 
   -- nor a change to another value leave the berth's settings
-  pub idle-again-settings : (parameter value : ℕ) → OneMore h s set n ms k p (changes parameter value) m
+  pub idle-again-settings : (parameter value : ℕ) → OneMore h s alike n ms k p (changes parameter value) m
       → (changedSettings (p .berth .settings) parameter value ≡ p .berth .settings → ⊥)
       → partOf k (m .out .held) .berth .settings ≡ p .berth .settings → ⊥
   unfolding stateAfter partAfter changed
   idle-again-settings parameter value r differ same = differ (sym (ap (λ (q : Part). q .berth .settings) (part-now r)) ∙ same)
 
   -- COUNTING, AGAIN: so a right awaited consecutive frame does not leave the area
-  pub counting-again : (d : List ℕ) (q : Taking) (t : ℕ) → OneMore h s set n ms k p (arrives d) m
+  pub counting-again : (d : List ℕ) (q : Taking) (t : ℕ) → OneMore h s alike n ms k p (arrives d) m
       → p .berth .rx ≡ Rx.Awaits q t → kind d ≡ consecutiveKind → T (consecutiveFits (missing q) d) → low d ≡ q .sn .0
       → (take (length (piece q d)) (drop (q .got) (p .incoming)) ≡ piece q d → ⊥)
       → partOf k (m .out .held) .incoming ≡ p .incoming → ⊥
@@ -229,8 +229,8 @@ module _ {h : Held} {s : Settings} {set : BerthSettings} {n : Node} {ms : List M
 
 -- A FIXED ANSWER, AGAIN: two calls of which the rules say otherwise on the berth alone are not answered the same, and two of which they
 -- leave otherwise do not leave the same area
-module _ {h g : Held} {s t : Settings} {set other : BerthSettings} {n o : Node} {ms ls : List Made} {k : ℕ} {p q : Part} {e f : Event} {m l : Made}
-    (r : OneMore h s set n ms k p e m) (x : OneMore g t other o ls k q f l) where
+module _ {h g : Held} {s t : Settings} {alike other : BerthSettings} {n o : Node} {ms ls : List Made} {k : ℕ} {p q : Part} {e f : Event} {m l : Made}
+    (r : OneMore h s alike n ms k p e m) (x : OneMore g t other o ls k q f l) where
   pub fixed-again : (says s p e ≡ says t q f → ⊥) → m .out .answer ≡ l .out .answer → ⊥
   fixed-again differ same =
       let z : says s p e ∷ [] ≡ says t q f ∷ [] = sym (says-now r) ∙ ap (saysOf k) same ∙ says-now x in
@@ -243,13 +243,13 @@ module _ {h g : Held} {s t : Settings} {set other : BerthSettings} {n o : Node} 
 -- ---- the code's calls
 
 -- EVERY CALL OF THE CODE AFTER A SET-UP is such a call, so a chain in which one of the answers above stands is no run
-pub one-more : {h : Held} {s : Settings} {set : BerthSettings} {n : Node} (ms : List Made) (m : Made) (k : ℕ) (e : Event) → AfterSetUp h s set n (ms ++ m ∷ []) → k < berthCount
-    → own k (leftBy (withNode h n) ms) (m .call) ≡ e ∷ [] → OneMore h s set n ms k (partOf k (leftBy (withNode h n) ms)) e m
-one-more {h} {s} {set} {n} ms m k e r l its =
+pub one-more : {h : Held} {s : Settings} {alike : BerthSettings} {n : Node} (ms : List Made) (m : Made) (k : ℕ) (e : Event) → AfterSetUp h s alike n (ms ++ m ∷ []) → k < berthCount
+    → own k (leftBy (withNode h n) ms) (m .call) ≡ e ∷ [] → OneMore h s alike n ms k (partOf k (leftBy (withNode h n) ms)) e m
+one-more {h} {s} {alike} {n} ms m k e r l its =
     record {
       small = l;
       given = refl;
       its = its;
-      without = chain-alone-after-set-up h s set n ms (record { ready = r .ready; chain = chain-front (withNode h n) ms m (r .chain) });
-      with = chain-alone-after-set-up h s set n (ms ++ m ∷ []) r;
+      without = chain-alone-after-set-up h s alike n ms (record { ready = r .ready; chain = chain-front (withNode h n) ms m (r .chain) });
+      with = chain-alone-after-set-up h s alike n (ms ++ m ∷ []) r;
     }

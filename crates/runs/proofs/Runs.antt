@@ -137,30 +137,30 @@ pub chain-fair : (k : ℕ) → k < berthCount → (h : Held) (ms : List Made) �
 chain-fair k l h ms c t = rw (chain-says h ms c) (fair k l h (callsOf ms) (chain-due k h ms c t))
 
 -- a set-up that is answered Ready was not refused, and left what the rules leave
-module _ (h : Held) (s : Settings) (set : BerthSettings) (n : Node) (p : SetUpPromise (h .node) (s .area) (set .block) (set .stmin) SetUpAnswer.Ready n) where
-  set-up-left : left ready (withNode h n) [] ≡ setUpOutcome h (s .area) (set .block) (set .stmin)
+module _ (h : Held) (s : Settings) (alike : BerthSettings) (n : Node) (p : SetUpPromise (h .node) (s .area) (alike .block) (alike .stmin) SetUpAnswer.Ready n) where
+  set-up-left : left ready (withNode h n) [] ≡ setUpOutcome h (s .area) (alike .block) (alike .stmin)
   unfolding setUpSays
   set-up-left = same (p (h .cards) (h .incoming) (h .outgoing))
 
-  ready-free : setUpRefusal (s .area) (set .block) (set .stmin) ≡ 0
+  ready-free : setUpRefusal (s .area) (alike .block) (alike .stmin) ≡ 0
   unfolding setUpOutcome refusedOutcome
-  ready-free = go (setUpRefusal (s .area) (set .block) (set .stmin)) (ap (λ (o : Outcome). o .answer) set-up-left)
+  ready-free = go (setUpRefusal (s .area) (alike .block) (alike .stmin)) (ap (λ (o : Outcome). o .answer) set-up-left)
     where
       go : (number : ℕ)
-          → ready ≡ unless number (refusedOutcome h []) (left ready (withNode h (setUpNode s set)) []) .answer → number ≡ 0
+          → ready ≡ unless number (refusedOutcome h []) (left ready (withNode h (setUpNode s alike)) []) .answer → number ≡ 0
       go zero e = refl
       go (suc number) e = cc
 
-  ready-held : withNode h n ≡ setUp h s set
+  ready-held : withNode h n ≡ setUp h s alike
   ready-held = ap (λ (o : Outcome). o .held) set-up-left
 
 -- DEMAND 3, FIRST HALF, OF THE CODE. Take any chain of calls after a set-up that the code answered with Ready. Each berth's state,
 -- areas, card, words, codes, frames and reports, and what is shown of it, are those that the rules give for that berth alone, fresh at
 -- the start: its own frames, sends and changes, all ticks, and the turns it received, refused calls left out.
-pub chain-alone-after-set-up : (h : Held) (s : Settings) (set : BerthSettings) (n : Node) (ms : List Made) → AfterSetUp h s set n ms → EachAlone h s set n ms
-chain-alone-after-set-up h s set n ms r k l =
-    as-run s (freshPart h s set k) k (withNode h n) ms (r .chain)
-    (rw (ready-held h s set n (r .ready)) (each-alone-after-set-up h s set (callsOf ms) k l (ready-free h s set n (r .ready))))
+pub chain-alone-after-set-up : (h : Held) (s : Settings) (alike : BerthSettings) (n : Node) (ms : List Made) → AfterSetUp h s alike n ms → EachAlone h s alike n ms
+chain-alone-after-set-up h s alike n ms r k l =
+    as-run s (freshPart h s alike k) k (withNode h n) ms (r .chain)
+    (rw (ready-held h s alike n (r .ready)) (each-alone-after-set-up h s alike (callsOf ms) k l (ready-free h s alike n (r .ready))))
 
 -- ---- the cards
 
@@ -187,12 +187,12 @@ pub chain-frozen-stays : (k : ℕ) (h : Held) (ms : List Made) → Chain h ms �
 chain-frozen-stays k h ms c f = rw (chain-leaves h ms c) (run-frozen-stays k h (callsOf ms) f)
 
 -- AFTER A SET-UP that the code answered with Ready, lent cards of zeros, the law is every berth's.
-pub chain-tallies-after-set-up : (h : Held) (s : Settings) (set : BerthSettings) (n : Node) (ms : List Made) (m : Made) → AfterSetUp h s set n (ms ++ m ∷ []) → h .cards ≡ zeroCards
+pub chain-tallies-after-set-up : (h : Held) (s : Settings) (alike : BerthSettings) (n : Node) (ms : List Made) (m : Made) → AfterSetUp h s alike n (ms ++ m ∷ []) → h .cards ≡ zeroCards
     → (k : ℕ) → k < berthCount → frozenAt k (leftBy (withNode h n) ms) ≡ false
     → TalliesAt k (leftBy (withNode h n) (ms ++ m ∷ [])) (historyIn k (withNode h n) (ms ++ m ∷ []))
-chain-tallies-after-set-up h s set n ms m r z k l f =
+chain-tallies-after-set-up h s alike n ms m r z k l f =
     chain-tallies k (withNode h n) ms m (r .chain)
-    (subst (UnbegunAt k) (sym (ready-held h s set n (r .ready))) (set-up-unbegun h s set k l (ready-free h s set n (r .ready)) z)) f
+    (subst (UnbegunAt k) (sym (ready-held h s alike n (r .ready))) (set-up-unbegun h s alike k l (ready-free h s alike n (r .ready)) z)) f
 
 -- ---- the gaps
 
@@ -228,17 +228,17 @@ chain-all-come-free h ms c order ten n enough only-ticks =
     rw (chain-says h ms c, chain-leaves h ms c, only-ticks) (all-come-free h order ten n enough)
 
 -- A CHAIN AFTER A SET-UP that the code answered with Ready leaves a node in order: so what follows it is such a chain as above.
-pub chain-in-order : (h : Held) (s : Settings) (set : BerthSettings) (n : Node) (ms : List Made) → AfterSetUp h s set n ms → InOrder (leftBy (withNode h n) ms .node)
-chain-in-order h s set n ms r =
-    let fresh = set-up-in-order h (s .area) (set .block) (set .stmin) (ready-free h s set n (r .ready)) in
-    let order : InOrder (withNode h n .node) = subst (λ (g : Held). InOrder (g .node)) (sym (ready-held h s set n (r .ready))) fresh in
+pub chain-in-order : (h : Held) (s : Settings) (alike : BerthSettings) (n : Node) (ms : List Made) → AfterSetUp h s alike n ms → InOrder (leftBy (withNode h n) ms .node)
+chain-in-order h s alike n ms r =
+    let fresh = set-up-in-order h (s .area) (alike .block) (alike .stmin) (ready-free h s alike n (r .ready)) in
+    let order : InOrder (withNode h n .node) = subst (λ (g : Held). InOrder (g .node)) (sym (ready-held h s alike n (r .ready))) fresh in
     rw (chain-leaves (withNode h n) ms (r .chain)) (run-in-order (withNode h n) (callsOf ms) order)
 
 -- AFTER A SET-UP that the code answered with Ready, with ten cards, 1,128 ticks or more free every berth at any place of a run, whatever came
 -- before.
-pub chain-free-after-set-up : (h : Held) (s : Settings) (set : BerthSettings) (n : Node) (ms : List Made) → AfterSetUp h s set n ms → length (h .cards) ≡ berthCount
+pub chain-free-after-set-up : (h : Held) (s : Settings) (alike : BerthSettings) (n : Node) (ms : List Made) → AfterSetUp h s alike n ms → length (h .cards) ≡ berthCount
     → (ts : List Made) → Chain (leftBy (withNode h n) ms) ts → (t : ℕ) → mostTime ≤ t → callsOf ts ≡ replicate t tick
     → AllComeFree (leftBy (withNode h n) ms) (saidBy ts) (leftBy (leftBy (withNode h n) ms) ts)
-chain-free-after-set-up h s set n ms r ten ts c t enough only-ticks =
+chain-free-after-set-up h s alike n ms r ten ts c t enough only-ticks =
     let cards = ap (λ (g : Held). length (g .cards)) (chain-leaves (withNode h n) ms (r .chain)) ∙ ten-run (withNode h n) (callsOf ms) ∙ ten in
-    chain-all-come-free (leftBy (withNode h n) ms) ts c (chain-in-order h s set n ms r) cards t enough only-ticks
+    chain-all-come-free (leftBy (withNode h n) ms) ts c (chain-in-order h s alike n ms r) cards t enough only-ticks
