@@ -29,7 +29,7 @@ none-awaited (Rx.Awaits p t) d o = absurd (miss (0 ∷ 1 ∷ 2 ∷ []) 3 tt o)
 pub flow-not-awaited :
     (tx : Tx) (d : List ℕ) → OneOf (0 ∷ 1 ∷ 2 ∷ 4 ∷ []) (tagOf sending.the-type tx) → flowCame tx d ≡ flowIgnored notAwaited tx
 flow-not-awaited Tx.Idle d o = refl
-flow-not-awaited (Tx.SingleDue n t) d o = refl
-flow-not-awaited (Tx.FirstDue n t) d o = refl
-flow-not-awaited (Tx.AwaitsFlow p t) d o = absurd (miss (0 ∷ 1 ∷ 2 ∷ 4 ∷ []) 3 tt o)
-flow-not-awaited (Tx.Consecutive p t) d o = refl
+flow-not-awaited (Tx.SingleDue party n t) d o = refl
+flow-not-awaited (Tx.FirstDue party n t) d o = refl
+flow-not-awaited (Tx.AwaitsFlow party p t) d o = absurd (miss (0 ∷ 1 ∷ 2 ∷ 4 ∷ []) 3 tt o)
+flow-not-awaited (Tx.Consecutive party p t) d o = refl

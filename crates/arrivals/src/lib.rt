@@ -12,6 +12,7 @@ ghost use Rattle.rules.specs.Ranges.{TakingRange, RxRange};
 ghost use Rattle.rules.specs.Arrivals.{ignored, oldCode, singleCame, taking, begun, firstCame, missing, piece, grown, afterTook, awaitedCame, consecutiveCame, granted, byStatus, flowIgnored, flowCame};
 ghost use Rattle.rules.specs.declared.Settings.{Settings};
 ghost use Rattle.arrivals.specs.Reading.{Hears, toldOf, isFlow, rxCame, unlessFits, whyConsecutive, whyIgnored};
+use rules::Party;
 use rules::Rx;
 use rules::Sending;
 use rules::Settings;
@@ -188,7 +189,12 @@ fn awaited_came(block: u8, p: Taking, t: u16, last: u32, frame: &[u8]) -> Heard
             }
             return pieced(p, after_took(block, p), last, Word::Took);
         }
-        return unstored(Rx::Idle, last, 0, Word::Failed(rules::N_WRONG_SN));
+        return unstored(
+            Rx::Idle,
+            last,
+            0,
+            Word::Failed(rules::N_WRONG_SN, Party::scheduler()),
+        );
     }
     ignored(rules::WRONG_LENGTH, Rx::Awaits(p, t), last)
 }
@@ -222,33 +228,33 @@ fn granted(o: Sending, frame: &[u8]) -> Sending
     }
 }
 
-fn by_status(o: Sending, frame: &[u8]) -> Told
+fn by_status(o: Sending, party: Party, frame: &[u8]) -> Told
     requires { ⌜ leastFlow ≤ length (now frame) ⌝ }
-    ensures { λ r. ⌜ toldOf r ≡ byStatus o (now (frame .entry)) ⌝ }
+    ensures { λ r. ⌜ toldOf r ≡ byStatus o party (now (frame .entry)) ⌝ }
 {
     let status = frames::low(frame);
     if status == rules::GO_STATUS {
         let q = granted(o, frame);
         return Told {
-            tx: Tx::Consecutive(q, 0),
+            tx: Tx::Consecutive(party, q, 0),
             word: Word::Going,
         };
     }
     if status == rules::WAIT_STATUS {
         return Told {
-            tx: Tx::AwaitsFlow(o, 0),
+            tx: Tx::AwaitsFlow(party, o, 0),
             word: Word::Waiting,
         };
     }
     if status == rules::OVERFLOW_STATUS {
         return Told {
             tx: Tx::Idle,
-            word: Word::Failed(rules::N_BUFFER_OVFLW),
+            word: Word::Failed(rules::N_BUFFER_OVFLW, party),
         };
     }
     Told {
         tx: Tx::Idle,
-        word: Word::Failed(rules::N_INVALID_FS),
+        word: Word::Failed(rules::N_INVALID_FS, party),
     }
 }
 
@@ -267,9 +273,9 @@ pub fn flow_came(tx: Tx, frame: &[u8]) -> Told
     ensures { λ r. ⌜ toldOf r ≡ flowCame tx (now (frame .entry)) ⌝ }
 {
     match tx {
-        Tx::AwaitsFlow(o, _) => {
+        Tx::AwaitsFlow(party, o, _) => {
             if frames::flow_fits(frame) {
-                return by_status(o, frame);
+                return by_status(o, party, frame);
             }
             flow_ignored(rules::WRONG_LENGTH, tx)
         }

@@ -41,11 +41,15 @@ pub(crate) fn tick(node: Node) -> u64 {
     )
 }
 
+// A message of the laptop's.
 pub(crate) fn send(node: Node, outgoing: &mut [u8], berth: u32, message: &[u8]) -> u64 {
-    let out = carumpek::local::send(node, outgoing, berth, message);
+    let out = carumpek::local::send(node, outgoing, berth, rules::LAPTOP, message);
     let answer = out.answer;
     let after = out.node;
-    sums::add(sums::of_send(answer), sums::of_node(after))
+    sums::add(
+        sums::of_send(answer),
+        sums::add(sums::of_node(after), sums::of_sender(after)),
+    )
 }
 
 pub(crate) fn turn(node: Node, outgoing: &[u8], buffer: &mut [u8]) -> u64 {

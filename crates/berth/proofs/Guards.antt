@@ -58,24 +58,24 @@ is-busy Tx.Idle (inl e) = absurd (omega (arith, e))
 is-busy Tx.Idle (inr (inl e)) = absurd (omega (arith, e))
 is-busy Tx.Idle (inr (inr (inl e))) = absurd (omega (arith, e))
 is-busy Tx.Idle (inr (inr (inr e))) = absurd (omega (arith, e))
-is-busy (Tx.SingleDue n t) k = refl
-is-busy (Tx.FirstDue n t) k = refl
-is-busy (Tx.AwaitsFlow o t) k = refl
-is-busy (Tx.Consecutive o t) k = refl
+is-busy (Tx.SingleDue party n t) k = refl
+is-busy (Tx.FirstDue party n t) k = refl
+is-busy (Tx.AwaitsFlow party o t) k = refl
+is-busy (Tx.Consecutive party o t) k = refl
 
 pub not-busy : (tx : Tx) → not (busy tx) ≡ true → tx ≡ Tx.Idle
 not-busy Tx.Idle e = refl
-not-busy (Tx.SingleDue n t) e = absurd (true≢false (sym e))
-not-busy (Tx.FirstDue n t) e = absurd (true≢false (sym e))
-not-busy (Tx.AwaitsFlow o t) e = absurd (true≢false (sym e))
-not-busy (Tx.Consecutive o t) e = absurd (true≢false (sym e))
+not-busy (Tx.SingleDue party n t) e = absurd (true≢false (sym e))
+not-busy (Tx.FirstDue party n t) e = absurd (true≢false (sym e))
+not-busy (Tx.AwaitsFlow party o t) e = absurd (true≢false (sym e))
+not-busy (Tx.Consecutive party o t) e = absurd (true≢false (sym e))
 
 -- a sending side does not await flow control too
-pub not-both : {tx : Tx} {o p : Sending} {t u : ℕ} → tx ≡ Tx.AwaitsFlow o t → tx ≡ Tx.Consecutive p u → ⊥
+pub not-both : {tx : Tx} {o p : Sending} {t u : ℕ} → tx ≡ Tx.AwaitsFlow party o t → tx ≡ Tx.Consecutive party p u → ⊥
 not-both e f = let z : _≡_ {A = ℕ} 3 4 = ap (tagOf X.the-type) (sym e ∙ f) in omega (arith, z)
 
 -- and its tag is the fifth
-pub not-sending : {o : Sending} {t : ℕ} (tx : Tx) → OneOf (0 ∷ 1 ∷ 2 ∷ 3 ∷ []) (tagOf X.the-type tx) → tx ≡ Tx.Consecutive o t → ⊥
+pub not-sending : {o : Sending} {t : ℕ} (tx : Tx) → OneOf (0 ∷ 1 ∷ 2 ∷ 3 ∷ []) (tagOf X.the-type tx) → tx ≡ Tx.Consecutive party o t → ⊥
 not-sending tx (inl z) e = let f : tagOf X.the-type tx ≡ 4 = ap (tagOf X.the-type) e in omega (arith, z, f)
 not-sending tx (inr (inl z)) e = let f : tagOf X.the-type tx ≡ 4 = ap (tagOf X.the-type) e in omega (arith, z, f)
 not-sending tx (inr (inr (inl z))) e = let f : tagOf X.the-type tx ≡ 4 = ap (tagOf X.the-type) e in omega (arith, z, f)
@@ -102,12 +102,12 @@ none-left a false y d e = later a _ (stop _ refl)
 
 module _ (s : Settings) (o : Sending) (t : ℕ) where
   abbrev pub Form : Tx → Type 0
-  Form tx = (tx ≡ Tx.AwaitsFlow o t) ⊎ (tx ≡ Tx.Consecutive o t)
+  Form tx = (tx ≡ Tx.AwaitsFlow party o t) ⊎ (tx ≡ Tx.Consecutive party o t)
 
   abbrev underWay : Bool
   underWay = underWayInRange (s .area) (o .length) (o .position) (o .sn .0)
 
-  both : {r : Bool} (tx : Tx) → Form tx → r ≡ txInRange s (Tx.AwaitsFlow o t) → r ≡ txInRange s (Tx.Consecutive o t) → r ≡ txInRange s tx
+  both : {r : Bool} (tx : Tx) → Form tx → r ≡ txInRange s (Tx.AwaitsFlow party o t) → r ≡ txInRange s (Tx.Consecutive party o t) → r ≡ txInRange s tx
   both tx (inl e) p q = p ∙ sym (ap (txInRange s) e)
   both tx (inr e) p q = q ∙ sym (ap (txInRange s) e)
 
@@ -139,8 +139,8 @@ module _ (s : Settings) (o : Sending) (t : ℕ) where
         both tx f (more _ whole (more _ sent (more _ left (ends over)))) (more _ whole (more _ (ap (λ c. c || eqb t 0) left) (ends over)))
 
     pub flows : (r : Bool) → (eqb (o .sent) 0 && eqb (o .left) 0) ≡ false
-        → (tx ≡ Tx.AwaitsFlow o t → r ≡ false)
-        × (tx ≡ Tx.Consecutive o t → r ≡ all (leb (o .left) longestGap ∷ inBlock (o .block) (o .sent) ∷ (eqb (o .left) 0 || eqb t 0) ∷ []))
+        → (tx ≡ Tx.AwaitsFlow party o t → r ≡ false)
+        × (tx ≡ Tx.Consecutive party o t → r ≡ all (leb (o .left) longestGap ∷ inBlock (o .block) (o .sent) ∷ (eqb (o .left) 0 || eqb t 0) ∷ []))
         → r ≡ txInRange s tx
     unfolding sendingInRange
     flows r e (off, on) = go f

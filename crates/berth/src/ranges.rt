@@ -10,9 +10,10 @@ ghost use mathlib.Core.List.{[], _∷_};
 ghost use lib.Dec.{eqb, ltb, leb};
 ghost use Rattle.rules.specs.Numbers.{largestBlock, timeout, longestGap};
 ghost use Rattle.rules.specs.Tests.{all};
-ghost use Rattle.rules.specs.Ranges.{stminAllowed, areaAllowed, ownAllowed, settingsAllowed, inBlock, underWayInRange, takingInRange, rxInRange, txInRange};
+ghost use Rattle.rules.specs.Ranges.{stminAllowed, areaAllowed, ownAllowed, settingsAllowed, inBlock, underWayInRange, takingInRange, rxInRange, txInRange, partyInRange};
 ghost use Rattle.rules.specs.Changes.{valueAllowed};
 ghost use Rattle.rules.specs.Turns.{busy};
+ghost use Rattle.rules.specs.declared.Party.{Party};
 ghost use Rattle.rules.specs.declared.Tx.{Tx};
 ghost use Rattle.berth.specs.Idle.{receiving};
 use rules::BerthSettings;
@@ -153,10 +154,10 @@ fn due_in_range(least: u32, most: u32, n: u32, t: u16) -> bool
 // Where the frames sent or the gap left are above 0: they may be so only while frames follow, and then the gap, the block and the timer
 // are tested.
 fn flows_in_range(tx: Tx, o: Sending, t: u16) -> bool
-    ensures { λ r. ⌜ (tx ≡ Tx.AwaitsFlow o t → r ≡ false) × (tx ≡ Tx.Consecutive o t → r ≡ all (leb (o .left) longestGap ∷ inBlock (o .block) (o .sent) ∷ (eqb (o .left) 0 || eqb t 0) ∷ [])) ⌝ }
+    ensures { λ r. ⌜ ((party : Party) → tx ≡ Tx.AwaitsFlow party o t → r ≡ false) × ((party : Party) → tx ≡ Tx.Consecutive party o t → r ≡ all (leb (o .left) longestGap ∷ inBlock (o .block) (o .sent) ∷ (eqb (o .left) 0 || eqb t 0) ∷ [])) ⌝ }
 {
     match tx {
-        Tx::Consecutive(_, _) => {
+        Tx::Consecutive(_, _, _) => {
             if rules::LONGEST_GAP < o.left {
                 return false;
             }
@@ -172,7 +173,7 @@ fn flows_in_range(tx: Tx, o: Sending, t: u16) -> bool
 // A sending under way, awaiting flow control or not. Just after flow control, and while awaiting it, nothing is sent and no gap is left:
 // then nothing more is asked.
 fn sending_in_range(settings: Settings, tx: Tx, o: Sending, t: u16) -> bool
-    requires { ⌜ (tx ≡ Tx.AwaitsFlow o t) ⊎ (tx ≡ Tx.Consecutive o t) ⌝ }
+    requires { ⌜ ((party : Party) × ((tx ≡ Tx.AwaitsFlow party o t) ⊎ (tx ≡ Tx.Consecutive party o t))) ⌝ }
     ensures { λ r. ⌜ r ≡ txInRange settings tx ⌝ }
 {
     if rules::LONGEST_GAP < o.gap {
@@ -205,20 +206,30 @@ fn busy_in_range(settings: Settings, tx: Tx) -> bool
 {
     match tx {
         Tx::Idle => true,
-        Tx::SingleDue(n, t) => due_in_range(1, rules::SINGLE_MOST, n, t),
-        Tx::FirstDue(n, t) => due_in_range(rules::LEAST_LONG, settings.area, n, t),
-        Tx::AwaitsFlow(o, t) | Tx::Consecutive(o, t) => sending_in_range(settings, tx, o, t),
+        Tx::SingleDue(_, n, t) => due_in_range(1, rules::SINGLE_MOST, n, t),
+        Tx::FirstDue(_, n, t) => due_in_range(rules::LEAST_LONG, settings.area, n, t),
+        Tx::AwaitsFlow(_, o, t) | Tx::Consecutive(_, o, t) => sending_in_range(settings, tx, o, t),
     }
 }
 
-// The idle side first: most sides are.
+fn party_in_range(tx: Tx) -> bool
+    ensures { λ r. ⌜ r ≡ partyInRange tx ⌝ }
+{
+    let party = crate::turns::party_of(tx);
+    party.0 as u32 <= rules::LAPTOP
+}
+
+// The idle side first: most sides are. The party lies at the same place in each state, so it is tested before these are told apart.
 pub fn tx_in_range(settings: Settings, tx: Tx) -> bool
-    ensures { λ r. ⌜ r ≡ txInRange settings tx ⌝ }
+    ensures { λ r. ⌜ r ≡ all (txInRange settings tx ∷ partyInRange tx ∷ []) ⌝ }
 {
     if is_idle(tx) {
         return true;
     }
-    busy_in_range(settings, tx)
+    if party_in_range(tx) {
+        return busy_in_range(settings, tx);
+    }
+    false
 }
 
 // Both sides idle, and the last length in range: such sides are in order, and a tick leaves them as they are.

@@ -5,11 +5,13 @@ ghost use mathlib.Core.Bool.{true};
 ghost use mathlib.Core.List.{[], _∷_};
 ghost use Prim.Native.Nat.{_≤_, _<_};
 ghost use lib.ListN.{length, take, drop};
-ghost use Rattle.rules.specs.Numbers.{leastArea, largestArea, snCount, flowKind, frameSize, singleMost, firstBytes, consecutiveMost};
+ghost use Rattle.rules.specs.Numbers.{N-OK, leastArea, largestArea, snCount, flowKind, frameSize, singleMost, firstBytes, consecutiveMost};
+ghost use Rattle.rules.specs.Parties.{scheduler, partyOf};
 ghost use Rattle.rules.specs.Frames.{headed, singleFrame, firstFrame, consecutiveFrame, share};
 ghost use Rattle.rules.specs.Ranges.{SendingRange, TxRange};
-ghost use Rattle.rules.specs.Turns.{flowDue, messageDue, flowFrame, afterFlow, toGo, messageFrame, messageCode, opened, moved, afterConsecutive, afterMessage, beginsWith, lengthSending, busy};
+ghost use Rattle.rules.specs.Turns.{flowDue, messageDue, flowFrame, afterFlow, toGo, messageFrame, messageCode, messageParty, opened, moved, afterConsecutive, afterMessage, beginsWith, lengthSending, busy};
 use rules::BerthSettings;
+use rules::Party;
 use rules::Rx;
 use rules::Sending;
 use rules::Settings;
@@ -104,27 +106,51 @@ pub fn message_frame(settings: Settings, tx: Tx, area: &[u8], frame: &mut [u8])
 {
     match tx {
         Tx::Idle => {}
-        Tx::SingleDue(n, _) => single_frame(n, area, frame),
-        Tx::FirstDue(n, _) => first_frame(n, area, frame),
-        Tx::AwaitsFlow(_, _) => {}
-        Tx::Consecutive(o, _) => consecutive_frame(o, area, frame),
+        Tx::SingleDue(_, n, _) => single_frame(n, area, frame),
+        Tx::FirstDue(_, n, _) => first_frame(n, area, frame),
+        Tx::AwaitsFlow(_, _, _) => {}
+        Tx::Consecutive(_, o, _) => consecutive_frame(o, area, frame),
     }
 }
 
-pub fn message_code(settings: Settings, tx: Tx) -> u8
+// What a message's frame reports: code and party, both 0 where it is not the last.
+pub struct Report {
+    pub code: u8,
+    pub party: Party,
+}
+
+fn no_report() -> Report
+    ensures { λ r. ⌜ r ≡ record { code = 0; party = scheduler } ⌝ }
+{
+    Report {
+        code: 0,
+        party: Party::scheduler(),
+    }
+}
+
+fn done(party: Party) -> Report
+    ensures { λ r. ⌜ r ≡ record { code = N-OK; party = party } ⌝ }
+{
+    Report {
+        code: rules::N_OK,
+        party: party,
+    }
+}
+
+pub fn message_report(settings: Settings, tx: Tx) -> Report
     requires { ⌜ TxRange settings tx ⌝ }
-    ensures { λ r. ⌜ r ≡ messageCode tx ⌝ }
+    ensures { λ r. ⌜ r ≡ record { code = messageCode tx; party = messageParty tx } ⌝ }
 {
     match tx {
-        Tx::Idle => 0,
-        Tx::SingleDue(_, _) => rules::N_OK,
-        Tx::FirstDue(_, _) => 0,
-        Tx::AwaitsFlow(_, _) => 0,
-        Tx::Consecutive(o, _) => {
+        Tx::Idle => no_report(),
+        Tx::SingleDue(party, _, _) => done(party),
+        Tx::FirstDue(_, _, _) => no_report(),
+        Tx::AwaitsFlow(_, _, _) => no_report(),
+        Tx::Consecutive(party, o, _) => {
             if to_go(o) <= rules::CONSECUTIVE_MOST {
-                return rules::N_OK;
+                return done(party);
             }
-            0
+            no_report()
         }
     }
 }
@@ -158,19 +184,19 @@ fn moved(o: Sending, sent: u8, left: u8) -> Sending
     }
 }
 
-fn after_consecutive(settings: Settings, o: Sending) -> Tx
+fn after_consecutive(settings: Settings, o: Sending, party: Party) -> Tx
     requires { ⌜ SendingRange settings o ⌝ }
-    ensures { λ r. ⌜ r ≡ afterConsecutive o ⌝ }
+    ensures { λ r. ⌜ r ≡ afterConsecutive o party ⌝ }
 {
     if to_go(o) <= rules::CONSECUTIVE_MOST {
         return Tx::Idle;
     }
     if frames::fills_block(o.block, o.sent) {
         let q = moved(o, 0, 0);
-        return Tx::AwaitsFlow(q, 0);
+        return Tx::AwaitsFlow(party, q, 0);
     }
     let q = moved(o, frames::counted(o.block, o.sent), o.gap);
-    Tx::Consecutive(q, 0)
+    Tx::Consecutive(party, q, 0)
 }
 
 pub fn after_message(settings: Settings, tx: Tx) -> Tx
@@ -179,24 +205,37 @@ pub fn after_message(settings: Settings, tx: Tx) -> Tx
 {
     match tx {
         Tx::Idle => tx,
-        Tx::SingleDue(_, _) => Tx::Idle,
-        Tx::FirstDue(n, _) => {
+        Tx::SingleDue(_, _, _) => Tx::Idle,
+        Tx::FirstDue(party, n, _) => {
             let q = opened(n);
-            Tx::AwaitsFlow(q, 0)
+            Tx::AwaitsFlow(party, q, 0)
         }
-        Tx::AwaitsFlow(_, _) => tx,
-        Tx::Consecutive(o, _) => after_consecutive(settings, o),
+        Tx::AwaitsFlow(_, _, _) => tx,
+        Tx::Consecutive(party, o, _) => after_consecutive(settings, o, party),
     }
 }
 
-// How a message of n bytes begins to be sent.
-pub fn begins_with(n: u32) -> Tx
-    ensures { λ r. ⌜ r ≡ beginsWith n ⌝ }
+// How a party's message of n bytes begins to be sent.
+pub fn begins_with(n: u32, party: Party) -> Tx
+    ensures { λ r. ⌜ r ≡ beginsWith n party ⌝ }
 {
     if n <= rules::SINGLE_MOST {
-        return Tx::SingleDue(n, 0);
+        return Tx::SingleDue(party, n, 0);
     }
-    Tx::FirstDue(n, 0)
+    Tx::FirstDue(party, n, 0)
+}
+
+// The party whose message is being sent, the scheduler where none is.
+pub fn party_of(tx: Tx) -> Party
+    ensures { λ r. ⌜ r ≡ partyOf tx ⌝ }
+{
+    match tx {
+        Tx::Idle => Party::scheduler(),
+        Tx::SingleDue(party, _, _) => party,
+        Tx::FirstDue(party, _, _) => party,
+        Tx::AwaitsFlow(party, _, _) => party,
+        Tx::Consecutive(party, _, _) => party,
+    }
 }
 
 // The length of the message now being sent, 0 for none.
@@ -205,10 +244,10 @@ pub fn length_sending(tx: Tx) -> u32
 {
     match tx {
         Tx::Idle => 0,
-        Tx::SingleDue(n, _) => n,
-        Tx::FirstDue(n, _) => n,
-        Tx::AwaitsFlow(o, _) => o.length,
-        Tx::Consecutive(o, _) => o.length,
+        Tx::SingleDue(_, n, _) => n,
+        Tx::FirstDue(_, n, _) => n,
+        Tx::AwaitsFlow(_, o, _) => o.length,
+        Tx::Consecutive(_, o, _) => o.length,
     }
 }
 
@@ -217,9 +256,9 @@ pub fn busy(tx: Tx) -> bool
 {
     match tx {
         Tx::Idle => false,
-        Tx::SingleDue(_, _) => true,
-        Tx::FirstDue(_, _) => true,
-        Tx::AwaitsFlow(_, _) => true,
-        Tx::Consecutive(_, _) => true,
+        Tx::SingleDue(_, _, _) => true,
+        Tx::FirstDue(_, _, _) => true,
+        Tx::AwaitsFlow(_, _, _) => true,
+        Tx::Consecutive(_, _, _) => true,
     }
 }

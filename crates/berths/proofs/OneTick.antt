@@ -49,14 +49,14 @@ unfolding berthAt withBerth
 sends-nothing h k is = (sym (ap txCode is), sym (ap (put-tx h k) (ap txTicked is ∙ sym is) ∙ ap (λ bs. record { settings = h .settings; served = h .served; berths = bs }) (set-same (h .berths) k fresh)))
 
 -- while the gap left is above 0 it falls; once it is 0 the timer runs
-pub gap-code : (o : Sending) (t : ℕ) → T (not (eqb (o .left) 0)) → txCode (Tx.Consecutive o t) ≡ 0
+pub gap-code : (o : Sending) (t : ℕ) → T (not (eqb (o .left) 0)) → txCode (Tx.Consecutive party o t) ≡ 0
 gap-code o t some = rw (is-false (eqb (o .left) 0) some)
 
-pub gap-falls : (o : Sending) (t : ℕ) → T (not (eqb (o .left) 0)) → txTicked (Tx.Consecutive o t) ≡ Tx.Consecutive (closer o) t
+pub gap-falls : (o : Sending) (t : ℕ) → T (not (eqb (o .left) 0)) → txTicked (Tx.Consecutive party o t) ≡ Tx.Consecutive party (closer o) t
 gap-falls o t some = rw (is-false (eqb (o .left) 0) some)
 
 pub gap-over : (o : Sending) (t : ℕ) {y : Tx} {c : ℕ} → T (not (not (eqb (o .left) 0)))
-    → ran t (λ u. 0) 2 ≡ c → ran t (λ u. Tx.Consecutive o u) Tx.Idle ≡ y → (txCode (Tx.Consecutive o t) ≡ c) × (txTicked (Tx.Consecutive o t) ≡ y)
+    → ran t (λ u. 0) 2 ≡ c → ran t (λ u. Tx.Consecutive party o u) Tx.Idle ≡ y → (txCode (Tx.Consecutive party o t) ≡ c) × (txTicked (Tx.Consecutive party o t) ≡ y)
 gap-over o t none code after = let z = not-not (eqb (o .left) 0) none in (rw z code, rw z after)
 
 pub some-left : (n : ℕ) → T (not (eqb n 0)) → 0 < n

@@ -19,6 +19,7 @@ use rules::Adds;
 use rules::Card;
 use rules::Codes;
 use rules::Node;
+use rules::Party;
 use rules::Rx;
 use rules::Sending;
 use rules::Taking;
@@ -81,42 +82,66 @@ fn receive(node: &mut Node, k: usize) -> u8
     }
 }
 
-// ---- the send side of berth k, in each of its states, and its code
+// ---- the send side of berth k, in each of its states, and how it ended
 
-fn single_due(node: &mut Node, k: usize, n: u32, t: u16) -> u8
-    requires { ⌜ (k < berthCount) × (berthAt (now node) k .tx ≡ Tx.SingleDue n t) ⌝ }
-    ensures { λ r. ⌜ SendTicked (now (node .entry)) k r (now (node .exit)) ⌝ }
-{
-    if t < LAST {
-        node.berths[k].tx = Tx::SingleDue(n, t + 1);
-        return 0;
-    }
-    node.berths[k].tx = Tx::Idle;
-    rules::N_TIMEOUT_A
+// The code, 0 where the side did not end, and the party that the report names.
+struct SendEnd {
+    code: u8,
+    party: Party,
 }
 
-fn first_due(node: &mut Node, k: usize, n: u32, t: u16) -> u8
-    requires { ⌜ (k < berthCount) × (berthAt (now node) k .tx ≡ Tx.FirstDue n t) ⌝ }
-    ensures { λ r. ⌜ SendTicked (now (node .entry)) k r (now (node .exit)) ⌝ }
+fn goes_on() -> SendEnd
+    ensures { λ r. ⌜ r ≡ goesOn ⌝ }
 {
-    if t < LAST {
-        node.berths[k].tx = Tx::FirstDue(n, t + 1);
-        return 0;
+    SendEnd {
+        code: 0,
+        party: Party::scheduler(),
     }
-    node.berths[k].tx = Tx::Idle;
-    rules::N_TIMEOUT_A
 }
 
-fn awaits_flow(node: &mut Node, k: usize, o: Sending, t: u16) -> u8
-    requires { ⌜ (k < berthCount) × (berthAt (now node) k .tx ≡ Tx.AwaitsFlow o t) ⌝ }
+fn ends_with(code: u8, party: Party) -> SendEnd
+    ensures { λ r. ⌜ r ≡ record { code = code; party = party } ⌝ }
+{
+    SendEnd {
+        code: code,
+        party: party,
+    }
+}
+
+fn single_due(node: &mut Node, k: usize, n: u32, t: u16, party: Party) -> SendEnd
+    requires { ⌜ (k < berthCount) × (berthAt (now node) k .tx ≡ Tx.SingleDue party n t) ⌝ }
     ensures { λ r. ⌜ SendTicked (now (node .entry)) k r (now (node .exit)) ⌝ }
 {
     if t < LAST {
-        node.berths[k].tx = Tx::AwaitsFlow(o, t + 1);
-        return 0;
+        node.berths[k].tx = Tx::SingleDue(party, n, t + 1);
+        return goes_on();
     }
     node.berths[k].tx = Tx::Idle;
-    rules::N_TIMEOUT_BS
+    ends_with(rules::N_TIMEOUT_A, party)
+}
+
+fn first_due(node: &mut Node, k: usize, n: u32, t: u16, party: Party) -> SendEnd
+    requires { ⌜ (k < berthCount) × (berthAt (now node) k .tx ≡ Tx.FirstDue party n t) ⌝ }
+    ensures { λ r. ⌜ SendTicked (now (node .entry)) k r (now (node .exit)) ⌝ }
+{
+    if t < LAST {
+        node.berths[k].tx = Tx::FirstDue(party, n, t + 1);
+        return goes_on();
+    }
+    node.berths[k].tx = Tx::Idle;
+    ends_with(rules::N_TIMEOUT_A, party)
+}
+
+fn awaits_flow(node: &mut Node, k: usize, o: Sending, t: u16, party: Party) -> SendEnd
+    requires { ⌜ (k < berthCount) × (berthAt (now node) k .tx ≡ Tx.AwaitsFlow party o t) ⌝ }
+    ensures { λ r. ⌜ SendTicked (now (node .entry)) k r (now (node .exit)) ⌝ }
+{
+    if t < LAST {
+        node.berths[k].tx = Tx::AwaitsFlow(party, o, t + 1);
+        return goes_on();
+    }
+    node.berths[k].tx = Tx::Idle;
+    ends_with(rules::N_TIMEOUT_BS, party)
 }
 
 // The gap left falls by one.
@@ -130,32 +155,32 @@ fn closer(o: Sending) -> Sending
 }
 
 // While the gap left is above 0 it falls, and the timer stays.
-fn consecutive(node: &mut Node, k: usize, o: Sending, t: u16) -> u8
-    requires { ⌜ (k < berthCount) × (berthAt (now node) k .tx ≡ Tx.Consecutive o t) ⌝ }
+fn consecutive(node: &mut Node, k: usize, o: Sending, t: u16, party: Party) -> SendEnd
+    requires { ⌜ (k < berthCount) × (berthAt (now node) k .tx ≡ Tx.Consecutive party o t) ⌝ }
     ensures { λ r. ⌜ SendTicked (now (node .entry)) k r (now (node .exit)) ⌝ }
 {
     if o.left != 0 {
-        node.berths[k].tx = Tx::Consecutive(closer(o), t);
-        return 0;
+        node.berths[k].tx = Tx::Consecutive(party, closer(o), t);
+        return goes_on();
     }
     if t < LAST {
-        node.berths[k].tx = Tx::Consecutive(o, t + 1);
-        return 0;
+        node.berths[k].tx = Tx::Consecutive(party, o, t + 1);
+        return goes_on();
     }
     node.berths[k].tx = Tx::Idle;
-    rules::N_TIMEOUT_A
+    ends_with(rules::N_TIMEOUT_A, party)
 }
 
-fn send(node: &mut Node, k: usize) -> u8
+fn send(node: &mut Node, k: usize) -> SendEnd
     requires { ⌜ k < berthCount ⌝ }
     ensures { λ r. ⌜ SendTicked (now (node .entry)) k r (now (node .exit)) ⌝ }
 {
     match node.berths[k].tx {
-        Tx::Idle => return 0,
-        Tx::SingleDue(n, t) => return single_due(&mut *node, k, n, t),
-        Tx::FirstDue(n, t) => return first_due(&mut *node, k, n, t),
-        Tx::AwaitsFlow(o, t) => return awaits_flow(&mut *node, k, o, t),
-        Tx::Consecutive(o, t) => return consecutive(&mut *node, k, o, t),
+        Tx::Idle => return goes_on(),
+        Tx::SingleDue(party, n, t) => return single_due(&mut *node, k, n, t, party),
+        Tx::FirstDue(party, n, t) => return first_due(&mut *node, k, n, t, party),
+        Tx::AwaitsFlow(party, o, t) => return awaits_flow(&mut *node, k, o, t, party),
+        Tx::Consecutive(party, o, t) => return consecutive(&mut *node, k, o, t, party),
     }
 }
 
@@ -164,10 +189,10 @@ fn send(node: &mut Node, k: usize) -> u8
 // How the two sides of a berth ended, 0 for not.
 struct Ends {
     receive: u8,
-    send: u8,
+    send: SendEnd,
 }
 
-fn both_ends(receive: u8, send: u8) -> Ends
+fn both_ends(receive: u8, send: SendEnd) -> Ends
     ensures { λ r. ⌜ r ≡ record { receive = receive; send = send } ⌝ }
 {
     Ends {
@@ -179,7 +204,7 @@ fn both_ends(receive: u8, send: u8) -> Ends
 fn any(ends: Ends) -> bool
     ensures { λ r. ⌜ r ≡ anyEnd ends ⌝ }
 {
-    (ends.receive != 0) | (ends.send != 0)
+    (ends.receive != 0) | (ends.send.code != 0)
 }
 
 fn codes(ends: Ends) -> Codes
@@ -190,16 +215,19 @@ fn codes(ends: Ends) -> Codes
     } else {
         ends.receive
     };
+    let send = ends.send;
+    let party = send.party;
     Codes {
         receive: receive,
-        send: ends.send,
+        send: send.code,
+        party: party,
     }
 }
 
 fn adds(ends: Ends) -> Adds
-    ensures { λ r. ⌜ r ≡ endAdds (ends .receive) (ends .send) ⌝ }
+    ensures { λ r. ⌜ r ≡ endAdds (ends .receive) (ends .send .code) ⌝ }
 {
-    cards::of_tick(ends.receive, ends.send)
+    cards::of_tick(ends.receive, ends.send.code)
 }
 
 // Both sides of berth k, and how they ended.
@@ -223,6 +251,7 @@ pub fn quiet(refused: u8) -> TickAnswer
         codes: [Codes {
             receive: 0,
             send: 0,
+            party: Party::scheduler(),
         }; 10],
     }
 }

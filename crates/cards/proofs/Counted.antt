@@ -32,7 +32,7 @@ unfolding counts answerAdds frameAdds
 uncounted b (FrameAnswer.Refused n) e = refl
 uncounted b (FrameAnswer.Heard k old (Delivered n)) e = or-true (eqb old N-UNEXP-PDU) e
 uncounted b (FrameAnswer.Heard k old (Begun n)) e = or-true (eqb old N-UNEXP-PDU) e
-uncounted b (FrameAnswer.Heard k old (Failed c)) e = or-true (eqb old N-UNEXP-PDU) e
+uncounted b (FrameAnswer.Heard k old (Failed c party)) e = or-true (eqb old N-UNEXP-PDU) e
 uncounted b (FrameAnswer.Heard k old (Ignored i)) e = simp (or-neither (eqb old N-UNEXP-PDU) false e .0, and-false)
 uncounted b (FrameAnswer.Heard k old TooLong) e = or-true (eqb old N-UNEXP-PDU) e
 uncounted b (FrameAnswer.Heard k old Took) e = simp (or-neither (eqb old N-UNEXP-PDU) false e .0, and-false)
@@ -45,7 +45,7 @@ unfolding delivers answerAdds frameAdds
 undelivered b (FrameAnswer.Refused n) e = refl
 undelivered b (FrameAnswer.Heard k old (Delivered n)) e = clash (cc)
 undelivered b (FrameAnswer.Heard k old (Begun n)) e = refl
-undelivered b (FrameAnswer.Heard k old (Failed c)) e = simp and-false
+undelivered b (FrameAnswer.Heard k old (Failed c party)) e = simp and-false
 undelivered b (FrameAnswer.Heard k old (Ignored i)) e = simp and-false
 undelivered b (FrameAnswer.Heard k old TooLong) e = simp and-false
 undelivered b (FrameAnswer.Heard k old Took) e = simp and-false

@@ -30,7 +30,7 @@ delivers (FrameAnswer.Heard k old w) = isDelivered w
 abbrev pub wordCounts : Word → Bool
 wordCounts (Delivered n) = true
 wordCounts (Begun n) = true
-wordCounts (Failed c) = true
+wordCounts (Failed c party) = true
 wordCounts (Ignored i) = false
 wordCounts TooLong = true
 wordCounts Took = false

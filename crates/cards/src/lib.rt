@@ -35,7 +35,7 @@ fn is_delivered(word: Word) -> bool
     match word {
         Word::Delivered(_) => true,
         Word::Begun(_) => false,
-        Word::Failed(_) => false,
+        Word::Failed(_, _) => false,
         Word::Ignored(_) => false,
         Word::TooLong => false,
         Word::Took => false,
@@ -50,7 +50,7 @@ fn word_counts(word: Word) -> bool
     match word {
         Word::Delivered(_) => true,
         Word::Begun(_) => true,
-        Word::Failed(_) => true,
+        Word::Failed(_, _) => true,
         Word::Ignored(_) => false,
         Word::TooLong => true,
         Word::Took => false,
@@ -126,7 +126,7 @@ fn of_word(old: u8, word: Word) -> Adds
             adds.begun = true;
             adds
         }
-        Word::Failed(code) => {
+        Word::Failed(code, _) => {
             adds.failed5 = code == rules::N_WRONG_SN;
             adds.unsent = (code == rules::N_INVALID_FS) | (code == rules::N_BUFFER_OVFLW);
             adds

@@ -71,20 +71,34 @@ pub fn tick(node: &mut Node, cards: &mut [Card]) -> TickAnswer
     berths::ticks::each(&mut *node, &mut *cards, order)
 }
 
-// Send a message.
-pub fn send(node: &mut Node, outgoing: &mut [u8], berth: u32, message: &[u8]) -> SendAnswer
-    ensures { λ r. ⌜ SendPromise (now (node .entry)) (now (outgoing .entry)) berth (now (message .entry)) r (now (node .exit)) (now (outgoing .exit)) ⌝ }
+// Send a message: the scheduler's or the laptop's.
+pub fn send(
+    node: &mut Node,
+    outgoing: &mut [u8],
+    berth: u32,
+    party: u32,
+    message: &[u8],
+) -> SendAnswer
+    ensures { λ r. ⌜ SendPromise (now (node .entry)) (now (outgoing .entry)) berth party (now (message .entry)) r (now (node .exit)) (now (outgoing .exit)) ⌝ }
 {
     let order = looks::order(&*node);
     let ordered = order < looks::UNORDERED;
     let area = node.settings.area;
     let at = node::places::of_berth(berth);
     let tx = node.berths[at].tx;
-    let number = node::refusals::send(ordered, area, tx, outgoing.len(), berth, message.len());
+    let number = node::refusals::send(
+        ordered,
+        area,
+        tx,
+        outgoing.len(),
+        berth,
+        party,
+        message.len(),
+    );
     if number != 0 {
         return SendAnswer::Refused(number);
     }
-    let sent = sides::sent(area, at, outgoing, message);
+    let sent = sides::sent(area, at, party, outgoing, message);
     berths::put::tx(&mut *node, at, sent.tx);
     sent.answer
 }

@@ -93,11 +93,11 @@ pub struct SendOut {
     pub node: Node,
 }
 
-pub fn send(node: Node, outgoing: &mut [u8], berth: u32, message: &[u8]) -> SendOut
-    ensures { λ r. ⌜ SendPromise node (now (outgoing .entry)) berth (now (message .entry)) (r .answer) (r .node) (now (outgoing .exit)) ⌝ }
+pub fn send(node: Node, outgoing: &mut [u8], berth: u32, party: u32, message: &[u8]) -> SendOut
+    ensures { λ r. ⌜ SendPromise node (now (outgoing .entry)) berth party (now (message .entry)) (r .answer) (r .node) (now (outgoing .exit)) ⌝ }
 {
     let mut held = node;
-    let answer = crate::send(&mut held, outgoing, berth, message);
+    let answer = crate::send(&mut held, outgoing, berth, party, message);
     SendOut {
         answer: answer,
         node: held,

@@ -84,7 +84,7 @@ fn ticked(number: u64, node: Node, cards: [Card; 12]) -> Left
     }
 }
 
-// A send is lent no cards.
+// The scheduler sends. A send is lent no cards.
 fn sent(
     number: u64,
     node: Node,
@@ -95,12 +95,18 @@ fn sent(
     first: u8,
 ) -> Left
     requires { ⌜ length ≤ 1001 ⌝ }
-    ensures { λ r. ⌜ Whatever (λ incoming. Does number (lent node (lentCards cards) incoming (now (outgoing .entry))) (send berth (risingFrom first length)) (r .text) (lent (r .node) (lentCards (r .cards)) incoming (now (outgoing .exit)))) ⌝ }
+    ensures { λ r. ⌜ Whatever (λ incoming. Does number (lent node (lentCards cards) incoming (now (outgoing .entry))) (send berth theScheduler (risingFrom first length)) (r .text) (lent (r .node) (lentCards (r .cards)) incoming (now (outgoing .exit)))) ⌝ }
 {
     let mut message = [0u8; 1001];
     records::message::rise(&mut message, first);
     let n = length as usize;
-    let out = carumpek::local::send(node, outgoing, berth as u32, &message[..n]);
+    let out = carumpek::local::send(
+        node,
+        outgoing,
+        berth as u32,
+        rules::SCHEDULER,
+        &message[..n],
+    );
     let answer = out.answer;
     let after = out.node;
     Left {

@@ -87,7 +87,7 @@ moment-adds : (s : Settings) (p : Part) (e : Event) → adds s (p .berth) (p .ou
 unfolding adds frameAdds tickAdds turnAdds says
 moment-adds s p (arrives d) = refl
 moment-adds s p ticks = refl
-moment-adds s p (sends m) = refl
+moment-adds s p (sends party m) = refl
 moment-adds s p turns = refl
 moment-adds s p (changes parameter value) = refl
 

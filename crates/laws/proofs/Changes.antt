@@ -41,7 +41,7 @@ alone-settings s p [] = refl
 alone-settings s p (arrives d ∷ es) =
     alone-settings s (partAfter s p (arrives d)) es ∙ ap (λ (given : BerthSettings). settingsAfter given es) (settings-frame s (p .berth) d)
 alone-settings s p (ticks ∷ es) = alone-settings s (partAfter s p ticks) es
-alone-settings s p (sends m ∷ es) = alone-settings s (partAfter s p (sends m)) es
+alone-settings s p (sends party m ∷ es) = alone-settings s (partAfter s p (sends party m)) es
 alone-settings s p (turns ∷ es) =
     alone-settings s (partAfter s p turns) es ∙ ap (λ (given : BerthSettings). settingsAfter given es) (settings-turn (p .berth) (p .outgoing))
 alone-settings s p (changes parameter value ∷ es) = alone-settings s (partAfter s p (changes parameter value)) es

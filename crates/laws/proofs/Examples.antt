@@ -132,7 +132,7 @@ crowd =
       node = record {
         settings = record { area = 8 };
         served = 4;
-        berths = replicate berthCount (withTx fresh (Tx.SingleDue 1 0));
+        berths = replicate berthCount (withTx fresh (Tx.SingleDue scheduler 1 0));
       };
       incoming = replicate 80 0;
       outgoing = replicate 80 7;
@@ -460,9 +460,9 @@ stuck =
         settings = record { area = 8 };
         served = 3;
         berths =
-            berthOf (Rx.OwesOverflow 999) 5 Tx.Idle ∷ berthOf (Rx.OwesGo (taking 0) 0) 0 (Tx.SingleDue 3 999)
-            ∷ berthOf (Rx.Awaits (taking 1) 400) 0 (Tx.FirstDue 8 0) ∷ berthOf Rx.Idle 8 (Tx.AwaitsFlow (sending 0) 998) ∷ freshWith twoOwn
-            ∷ berthOf Rx.Idle 0 (Tx.Consecutive (sending 0) 500) ∷ berthOf (Rx.Awaits (taking 0) 0) 0 (Tx.Consecutive (sending 128) 0)
+            berthOf (Rx.OwesOverflow 999) 5 Tx.Idle ∷ berthOf (Rx.OwesGo (taking 0) 0) 0 (Tx.SingleDue scheduler 3 999)
+            ∷ berthOf (Rx.Awaits (taking 1) 400) 0 (Tx.FirstDue scheduler 8 0) ∷ berthOf Rx.Idle 8 (Tx.AwaitsFlow scheduler (sending 0) 998) ∷ freshWith twoOwn
+            ∷ berthOf Rx.Idle 0 (Tx.Consecutive scheduler (sending 0) 500) ∷ berthOf (Rx.Awaits (taking 0) 0) 0 (Tx.Consecutive scheduler (sending 128) 0)
             ∷ replicate 3 (freshWith twoOwn);
       };
       incoming = replicate 80 1;

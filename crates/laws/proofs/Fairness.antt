@@ -51,7 +51,7 @@ module _ (k : ℕ) (small : k < berthCount) where
   unfolding done reply afterFrame withBerth tickedNode turnOf
   served-done h (frame id d) e t = no-turn refl refl
   served-done h tick e t = no-turn refl refl
-  served-done h (send j m) e t = no-turn refl refl
+  served-done h (send j party m) e t = no-turn refl refl
   served-done h (turn buffer) e t = served-turn h buffer (in-order-range (h .node) (turn-answered h buffer e .order)) (t e)
   served-done h (show j choice) e t = no-turn refl refl
   served-done h (change j parameter value) e t = no-turn refl refl

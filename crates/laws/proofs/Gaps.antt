@@ -47,7 +47,7 @@ module _ (s : Settings) (p : Part) where
   unfolding says partAfter stateAfter
   paced-going (arrives d) t = going-paced s (p .berth) d t
   paced-going ticks t = absurd t
-  paced-going (sends m) t = absurd t
+  paced-going (sends party m) t = absurd t
   paced-going turns t = absurd t
   paced-going (changes parameter value) t = absurd t
 
@@ -121,10 +121,10 @@ module _ (s : Settings) where
       not-sent ticks u r none = refl
       not-sent turns u r none = refl
       not-sent (changes parameter value) u r none = refl
-      not-sent (sends m) u r none =
+      not-sent (sends party m) u r none =
           let g = howMany ticksAt ms + 1 in
-          let begun : Paced g g 0 (partAfter s p (sends m) .berth .tx) = unfold partAfter stateAfter sent in (begins-paced g g 0 (length m)) in
-          let (most, after) = to-frame g g 0 ms x later (omega arith) (record { part = partAfter s p (sends m); events = es; served = u; told = r; paced = begun }) none t in
+          let begun : Paced g g 0 (partAfter s p (sends party m) .berth .tx) = unfold partAfter stateAfter sent in (begins-paced g g 0 (length m)) in
+          let (most, after) = to-frame g g 0 ms x later (omega arith) (record { part = partAfter s p (sends party m); events = es; served = u; told = r; paced = begun }) none t in
           absurd (omega (arith, most))
 
   -- ---- from the Going on

@@ -103,7 +103,7 @@ module _ (k : ℕ) where
           (card-other (h .cards) (senderOf id) k _ ne))
 
   part-send : (h : Held) (j : ℕ) (m : List ℕ) → SendAnswered h j m
-      → partOf k (done h (send j m)) ≡ alone (h .node .settings) (partOf k h) (ownDone k h (send j m))
+      → partOf k (done h (send j party m)) ≡ alone (h .node .settings) (partOf k h) (ownDone k h (send j party m))
   unfolding partOf done withBerth berthAt alone stateAfter partAfter adds ownDone
   part-send h j m ok = go (eqb-cases j k)
     where
@@ -111,7 +111,7 @@ module _ (k : ℕ) where
       fits = omega (arith, ok .fits)
 
       go : Tested (eqb j k) (j ≡ k) (j ≡ k → ⊥)
-          → partOf k (done h (send j m)) ≡ alone (h .node .settings) (partOf k h) (ownDone k h (send j m))
+          → partOf k (done h (send j party m)) ≡ alone (h .node .settings) (partOf k h) (ownDone k h (send j party m))
       go (holds t e) =
           rw t (part-path (berth-same k (h .node) j (sentBerth (berthAt (h .node) j) (length m)) (ten (h .node) (ok .order)) (ok .mine) e ∙ rw e)
           refl (rw e (area-same (h .node .settings .area) k 0 m (h .outgoing) fits)) (sym (added-nothing (cardAt (h .cards) k))))
@@ -154,7 +154,7 @@ module _ (k : ℕ) where
   pub part-done : (h : Held) (c : Call) → refusal h c ≡ 0 → partOf k (done h c) ≡ alone (h .node .settings) (partOf k h) (ownDone k h c)
   part-done h (frame id d) e = part-frame h id d e
   part-done h tick e = part-tick h (tick-answered h e)
-  part-done h (send j m) e = part-send h j m (send-answered h j m e)
+  part-done h (send j party m) e = part-send h j m (send-answered h j m e)
   part-done h (turn buffer) e = part-turn h buffer (turn-answered h buffer e)
   part-done h (show j choice) e = unfold done ownDone alone in refl
   part-done h (change j parameter value) e = part-change h j parameter value (change-answered h j parameter value e)
@@ -186,10 +186,10 @@ module _ (k : ℕ) where
       go (holds t e) = rw (t, e)
       go (fails t ne) = rw t
   says-done h tick = says-tick h
-  says-done h (send j m) = go (eqb-cases j k)
+  says-done h (send j party m) = go (eqb-cases j k)
     where
       go : Tested (eqb j k) (j ≡ k) (j ≡ k → ⊥)
-          → saysOf k (reply h (send j m)) ≡ saysAll (h .node .settings) (partOf k h) (ownDone k h (send j m))
+          → saysOf k (reply h (send j party m)) ≡ saysAll (h .node .settings) (partOf k h) (ownDone k h (send j party m))
       go (holds t e) = rw t
       go (fails t ne) = rw t
   says-done h (turn buffer) = go (ltb-cases (passedOver (h .node)) berthCount) (eqb-cases (reached (h .node)) k)
@@ -224,7 +224,7 @@ settings-done : (h : Held) (c : Call) → done h c .node .settings ≡ h .node .
 unfolding done afterFrame afterTurn withBerth tickedNode servedNode
 settings-done h (frame id d) = refl
 settings-done h tick = refl
-settings-done h (send j m) = refl
+settings-done h (send j party m) = refl
 settings-done h (turn buffer) = go (ltb-cases (passedOver (h .node)) berthCount)
   where
     go : Tested (ltb (passedOver (h .node)) berthCount) (passedOver (h .node) < berthCount) (berthCount ≤ passedOver (h .node))

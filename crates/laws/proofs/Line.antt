@@ -150,25 +150,25 @@ module _ (i j : ℕ) (set : Settings) (n : ℕ) (out : List ℕ) (E : BerthSetti
   -- is said of any; from Begun on they stay
   pub data Phase : Line → ℕ → Type 0 where
     single-ready : {own : BerthSettings} (t last : ℕ) (ina : List ℕ) → n ≤ singleMost → n ≤ length ina
-        → ((any : BerthSettings) → there (singleOf n out) ∷ [] ≡ E any) → Phase (under-way own (Tx.SingleDue n t) [] [] [] Rx.Idle last ina) 2
+        → ((any : BerthSettings) → there (singleOf n out) ∷ [] ≡ E any) → Phase (under-way own (Tx.SingleDue party n t) [] [] [] Rx.Idle last ina) 2
     single-sent : {own : BerthSettings} (last : ℕ) (ina : List ℕ) (g : List Handed) → n ≤ singleMost → n ≤ length ina → ((any : BerthSettings) → g ≡ E any)
         → Phase (all-sent own (singleOf n out ∷ []) g Rx.Idle last ina) 1
     first-ready : {own : BerthSettings} (t last : ℕ) (ina : List ℕ) (l : ℕ) → leastLong ≤ n → n ≤ length ina → Ahead n 0 l
         → ((any : BerthSettings) → there (firstOf n out) ∷ back (goFrame any) ∷ rest any 0 0 l ≡ E any)
-        → Phase (under-way own (Tx.FirstDue n t) [] [] [] Rx.Idle last ina) (pace * suc l + 4)
+        → Phase (under-way own (Tx.FirstDue party n t) [] [] [] Rx.Idle last ina) (pace * suc l + 4)
     first-sent : {own : BerthSettings} (o : Sending) (t last : ℕ) (ina : List ℕ) (l : ℕ) (g : List Handed) → leastLong ≤ n → n ≤ length ina → SendAt n o 0
         → Ahead n 0 l → ((any : BerthSettings) → g ++ (back (goFrame any) ∷ rest any 0 0 l) ≡ E any)
-        → Phase (under-way own (Tx.AwaitsFlow o t) (firstOf n out ∷ []) [] g Rx.Idle last ina) (pace * suc l + 3)
+        → Phase (under-way own (Tx.AwaitsFlow party o t) (firstOf n out ∷ []) [] g Rx.Idle last ina) (pace * suc l + 3)
     go-owed : {own : BerthSettings} (o : Sending) (t : ℕ) (p : Taking) (u last : ℕ) (ina : List ℕ) (k l : ℕ) (g : List Handed) → SendAt n o k
         → TakeAt n out p k ina → Ahead n k l → g ++ (back (goFrame own) ∷ rest own 0 k l) ≡ E own
-        → Phase (under-way own (Tx.AwaitsFlow o t) [] [] g (Rx.OwesGo p u) last ina) (pace * suc l + 2)
+        → Phase (under-way own (Tx.AwaitsFlow party o t) [] [] g (Rx.OwesGo p u) last ina) (pace * suc l + 2)
     go-sent : {own : BerthSettings} (o : Sending) (t : ℕ) (p : Taking) (u last : ℕ) (ina : List ℕ) (k l : ℕ) (g : List Handed) → SendAt n o k
         → TakeAt n out p k ina → p .taken ≡ 0 → Ahead n k l → g ++ rest own 0 k l ≡ E own
-        → Phase (under-way own (Tx.AwaitsFlow o t) [] (goFrame own ∷ []) g (Rx.Awaits p u) last ina) (pace * suc l + 1)
+        → Phase (under-way own (Tx.AwaitsFlow party o t) [] (goFrame own ∷ []) g (Rx.Awaits p u) last ina) (pace * suc l + 1)
     in-block : {own : BerthSettings} (o : Sending) (t : ℕ) (q : List (List ℕ)) (p : Taking) (u last : ℕ) (ina : List ℕ) (k c l : ℕ) (g : List Handed)
-        → InBlock own q o p ina k c l g → Phase (under-way own (Tx.Consecutive o t) q [] g (Rx.Awaits p u) last ina) (pace * suc l + (o .left + c))
+        → InBlock own q o p ina k c l g → Phase (under-way own (Tx.Consecutive party o t) q [] g (Rx.Awaits p u) last ina) (pace * suc l + (o .left + c))
     block-full : {own : BerthSettings} (o : Sending) (t : ℕ) (q : List (List ℕ)) (p : Taking) (u last : ℕ) (ina : List ℕ) (k c l : ℕ) (g : List Handed)
-        → BlockFull own q o p ina k c l g → Phase (under-way own (Tx.AwaitsFlow o t) q [] g (Rx.Awaits p u) last ina) (pace * suc l + (3 + c))
+        → BlockFull own q o p ina k c l g → Phase (under-way own (Tx.AwaitsFlow party o t) q [] g (Rx.Awaits p u) last ina) (pace * suc l + (3 + c))
     last-sent : {own : BerthSettings} (q : List (List ℕ)) (p : Taking) (u last : ℕ) (ina : List ℕ) (k c : ℕ) (g : List Handed)
         → LastSent own q p ina k c g → Phase (all-sent own q g (Rx.Awaits p u) last ina) (suc c)
     arrived : {own : BerthSettings} (begun : List BerthSettings) (ina : List ℕ) (g : List Handed) → take n ina ≡ take n out
@@ -268,25 +268,25 @@ module _ (i j : ℕ) (set : Settings) (n : ℕ) (out : List ℕ) (E : BerthSetti
       }
 
   pub ticks-S : (l : Line) (m : ℕ) → txCode (l .tx) ≡ 0 → Phase l m → NoFarther m (tickS l)
-  ticks-S l m k (single-ready t last ina a b e) = rw (ran-on (λ u. Tx.SingleDue n u) Tx.Idle t 1 k) (stays (single-ready (t + 1) last ina a b e))
+  ticks-S l m k (single-ready t last ina a b e) = rw (ran-on (λ u. Tx.SingleDue party n u) Tx.Idle t 1 k) (stays (single-ready (t + 1) last ina a b e))
   ticks-S l m k (single-sent last ina g a b e) = (stays (single-sent last ina g a b e))
-  ticks-S l m k (first-ready t last ina h a b c e) = rw (ran-on (λ u. Tx.FirstDue n u) Tx.Idle t 1 k) (stays (first-ready (t + 1) last ina h a b c e))
+  ticks-S l m k (first-ready t last ina h a b c e) = rw (ran-on (λ u. Tx.FirstDue party n u) Tx.Idle t 1 k) (stays (first-ready (t + 1) last ina h a b c e))
   ticks-S l m k (first-sent o t last ina h g a b c d e) =
-      rw (ran-on (λ u. Tx.AwaitsFlow o u) Tx.Idle t 2 k) (stays (first-sent o (t + 1) last ina h g a b c d e))
+      rw (ran-on (λ u. Tx.AwaitsFlow party o u) Tx.Idle t 2 k) (stays (first-sent o (t + 1) last ina h g a b c d e))
   ticks-S l m k (go-owed o t p u last ina f h g a b c e) =
-      rw (ran-on (λ v. Tx.AwaitsFlow o v) Tx.Idle t 2 k) (stays (go-owed o (t + 1) p u last ina f h g a b c e))
+      rw (ran-on (λ v. Tx.AwaitsFlow party o v) Tx.Idle t 2 k) (stays (go-owed o (t + 1) p u last ina f h g a b c e))
   ticks-S l m k (go-sent o t p u last ina f h g a b c d e) =
-      rw (ran-on (λ v. Tx.AwaitsFlow o v) Tx.Idle t 2 k) (stays (go-sent o (t + 1) p u last ina f h g a b c d e))
+      rw (ran-on (λ v. Tx.AwaitsFlow party o v) Tx.Idle t 2 k) (stays (go-sent o (t + 1) p u last ina f h g a b c d e))
   ticks-S l m k (in-block {own = own} o t q p u last ina f c h g r) = go (eqb-cases (o .left) 0)
     where
       go : Tested (eqb (o .left) 0) (o .left ≡ 0) (o .left ≡ 0 → ⊥)
-          → NoFarther (pace * suc h + (o .left + c)) (tickS (under-way own (Tx.Consecutive o t) q [] g (Rx.Awaits p u) last ina))
+          → NoFarther (pace * suc h + (o .left + c)) (tickS (under-way own (Tx.Consecutive party o t) q [] g (Rx.Awaits p u) last ina))
       go (holds d z) =
-          rw (d, ran-on (λ v. Tx.Consecutive o v) Tx.Idle t 1 (rw d at k)) (stays (in-block o (t + 1) q p u last ina f c h g r))
+          rw (d, ran-on (λ v. Tx.Consecutive party o v) Tx.Idle t 1 (rw d at k)) (stays (in-block o (t + 1) q p u last ina f c h g r))
       go (fails d z) =
           rw d (pace * suc h + (closer o .left + c), omega (arith, gap-falls o), in-block (closer o) t q p u last ina f c h g (gap-closes q o p ina f c h g r))
   ticks-S l m k (block-full o t q p u last ina f c h g r) =
-      rw (ran-on (λ v. Tx.AwaitsFlow o v) Tx.Idle t 2 k) (stays (block-full o (t + 1) q p u last ina f c h g r))
+      rw (ran-on (λ v. Tx.AwaitsFlow party o v) Tx.Idle t 2 k) (stays (block-full o (t + 1) q p u last ina f c h g r))
   ticks-S l m k (last-sent q p u last ina f c g r) = (stays (last-sent q p u last ina f c g r))
   ticks-S l m k (arrived begun ina g a b e) = (stays (arrived begun ina g a b e))
 
@@ -323,7 +323,7 @@ module _ (i j : ℕ) (set : Settings) (n : ℕ) (out : List ℕ) (E : BerthSetti
 
   -- ---- a frame of the message is handed over
 
-  frame-of : (o : Sending) (t k : ℕ) → SendAt n o k → messageFrame (Tx.Consecutive o t) out ≡ frameAt n out k
+  frame-of : (o : Sending) (t k : ℕ) → SendAt n o k → messageFrame (Tx.Consecutive party o t) out ≡ frameAt n out k
   unfolding frameAt partAt
   frame-of o t k s = rw (s .length, s .position, s .sn)
 
@@ -344,17 +344,17 @@ module _ (i j : ℕ) (set : Settings) (n : ℕ) (out : List ℕ) (E : BerthSetti
 
   -- the frames on the way and this one
   queue-on : {own : BerthSettings} (o : Sending) (t : ℕ) (q : List (List ℕ)) (p : Taking) (ina : List ℕ) (k c l : ℕ) (g : List Handed) → InBlock own q o p ina k c l g
-      → q ++ (messageFrame (Tx.Consecutive o t) out ∷ []) ≡ span n out (suc c) k
+      → q ++ (messageFrame (Tx.Consecutive party o t) out ∷ []) ≡ span n out (suc c) k
   queue-on o t q p ina k c l g r =
       ap₂ (λ (x : List (List ℕ)) (y : List ℕ). x ++ (y ∷ [])) (r .queued) (frame-of o t (k + c) (r .sender)) ∙ sym (span-snoc n out c k)
 
   hand-on : {own : BerthSettings} (o : Sending) (t : ℕ) (q : List (List ℕ)) (p : Taking) (u last : ℕ) (ina : List ℕ) (k c l : ℕ) (g : List Handed)
       → InBlock own q o p ina k c l g
-      → Nearer (pace * suc l + (o .left + c)) (handS (under-way own (Tx.Consecutive o t) q [] g (Rx.Awaits p u) last ina))
+      → Nearer (pace * suc l + (o .left + c)) (handS (under-way own (Tx.Consecutive party o t) q [] g (Rx.Awaits p u) last ina))
   unfolding afterConsecutive reported moved
   hand-on {own = own} o t q p u last ina k c zero g r =
       let d : leb (toGo o) consecutiveMost ≡ true = leb-is (toGo o) consecutiveMost (unfold posAt in (omega (arith, to-go o (k + c) (r .sender), r .ahead .last))) in
-      let log : g ++ (there (messageFrame (Tx.Consecutive o t) out) ∷ []) ≡ E own =
+      let log : g ++ (there (messageFrame (Tx.Consecutive party o t) out) ∷ []) ≡ E own =
       ap (λ (y : List ℕ). g ++ (there y ∷ [])) (frame-of o t (k + c) (r .sender)) ∙ unfold inBlocks span in (r .to-come) in
       rw d (nearer (last-sent _ p u last ina k c _ (record {
         queued = queue-on o t q p ina k c zero g r;
@@ -379,11 +379,11 @@ module _ (i j : ℕ) (set : Settings) (n : ℕ) (out : List ℕ) (E : BerthSetti
 
       -- what is still to be handed over, by whether this frame fills the block
       to-come : (b : Bool) → fillsBlock (o .block) (o .sent) ≡ b
-          → (g ++ (there (messageFrame (Tx.Consecutive o t) out) ∷ []))
+          → (g ++ (there (messageFrame (Tx.Consecutive party o t) out) ∷ []))
           ++ pick b (back (goFrame own) ∷ rest own 0 (k + suc c) l) (rest own (counted (o .block) (o .sent)) (k + suc c) l)
           ≡ E own
       to-come x y =
-          append-snoc g (there (messageFrame (Tx.Consecutive o t) out)) _
+          append-snoc g (there (messageFrame (Tx.Consecutive party o t) out)) _
           ∙ ap₂ (λ (z : List ℕ) (v : List Handed). g ++ there z ∷ v) (frame-of o t (k + c) (r .sender))
           (ap₂ (λ (z : ℕ) (v : Bool). pick v (back (goFrame own) ∷ rest own 0 (k + suc c) l) (rest own (counted z (o .sent)) (k + suc c) l)) (r .same-block)
           (sym y ∙ ap (λ (z : ℕ). fillsBlock z (o .sent)) (r .same-block)))
@@ -391,7 +391,7 @@ module _ (i j : ℕ) (set : Settings) (n : ℕ) (out : List ℕ) (E : BerthSetti
           ∙ r .to-come
 
       go : Tested (fillsBlock (o .block) (o .sent)) ((0 < o .block) × (o .sent + 1 ≡ o .block)) (0 < o .block → o .sent + 1 ≡ o .block → ⊥)
-          → Nearer (pace * suc (suc l) + (o .left + c)) (handS (under-way own (Tx.Consecutive o t) q [] g (Rx.Awaits p u) last ina))
+          → Nearer (pace * suc (suc l) + (o .left + c)) (handS (under-way own (Tx.Consecutive party o t) q [] g (Rx.Awaits p u) last ina))
       go (holds d x) =
           let b = r .same-block in
           let (y, z) = r .counts (omega (arith, x .0)) in
@@ -469,9 +469,9 @@ module _ (i j : ℕ) (set : Settings) (n : ℕ) (out : List ℕ) (E : BerthSetti
   granted-at o d k k′ s e = rw e (record { length = s .length; position = s .position; sn = s .sn; more = s .more })
 
   pub went : (own : BerthSettings) (setS : Settings) (o : Sending) (t : ℕ)
-      → frameCame setS (withTx fresh (Tx.AwaitsFlow o t)) (goFrame own)
+      → frameCame setS (withTx fresh (Tx.AwaitsFlow party o t)) (goFrame own)
       ≡ record {
-        berth = withTx fresh (Tx.Consecutive (granted o (goFrame own)) 0);
+        berth = withTx fresh (Tx.Consecutive party (granted o (goFrame own)) 0);
         old = 0;
         word = Going;
         place = 0;
@@ -489,7 +489,7 @@ module _ (i j : ℕ) (set : Settings) (n : ℕ) (out : List ℕ) (E : BerthSetti
 
   take-go : (own : BerthSettings) (setS : Settings) (o : Sending) (t : ℕ) (p : Taking) (u last : ℕ) (ina : List ℕ) (k l : ℕ) (g : List Handed) → SendAt n o k
       → TakeAt n out p k ina → p .taken ≡ 0 → Ahead n k l → g ++ rest own 0 k l ≡ E own
-      → (line : Line) → line ≡ under-way own (Tx.AwaitsFlow o t) [] (goFrame own ∷ []) g (Rx.Awaits p u) last ina
+      → (line : Line) → line ≡ under-way own (Tx.AwaitsFlow party o t) [] (goFrame own ∷ []) g (Rx.Awaits p u) last ina
       → Nearer (pace * suc l + 1) (tookS line [] (frameCame setS (senderBerth line) (goFrame own)))
   unfolding tookS reported wordReports
   take-go own setS o t p u last ina k l g s r z a w line e =
@@ -578,13 +578,13 @@ module _ (i j : ℕ) (set : Settings) (n : ℕ) (out : List ℕ) (E : BerthSetti
 
     take-in-block : {own : BerthSettings} (o : Sending) (t : ℕ) (q : List (List ℕ)) (p : Taking) (u last : ℕ) (ina : List ℕ) (k c l : ℕ) (g : List Handed)
         → InBlock own q o p ina k (suc c) l g
-        → (line : Line) → line ≡ under-way own (Tx.Consecutive o t) q [] g (Rx.Awaits p u) last ina
+        → (line : Line) → line ≡ under-way own (Tx.Consecutive party o t) q [] g (Rx.Awaits p u) last ina
         → Nearer (pace * suc l + (o .left + suc c)) (tookR line (span n out c (suc k)) (frameCame set (takerBerth line) (frameAt n out k)))
     take-in-block {own = own} o t q p u last ina k c l g r line e =
         let m : posAt (suc k) < n = unfold posAt in (omega (arith, r .sender .more)) in
         let room : fillsBlock (own .block) (p .taken) ≡ false = fills-no (own .block) (p .taken) (λ h. let (x, y) = r .counts h in omega arith) in
         let next : k + suc c ≡ suc k + c = omega arith in
-        rw e (rw (took-more (under-way own (Tx.Consecutive o t) q [] g (Rx.Awaits p u) last ina) (span n out c (suc k)) p u k refl (r .taker) m, room)
+        rw e (rw (took-more (under-way own (Tx.Consecutive party o t) q [] g (Rx.Awaits p u) last ina) (span n out c (suc k)) p u k refl (r .taker) m, room)
         (nearer (in-block o t _ (grown p (counted (own .block) (p .taken))) 0 last _ (suc k) c l g (record {
           queued = refl;
           sender = rw next at (r .sender);
@@ -599,14 +599,14 @@ module _ (i j : ℕ) (set : Settings) (n : ℕ) (out : List ℕ) (E : BerthSetti
 
     take-block-full : {own : BerthSettings} (o : Sending) (t : ℕ) (q : List (List ℕ)) (p : Taking) (u last : ℕ) (ina : List ℕ) (k c l : ℕ) (g : List Handed)
         → BlockFull own q o p ina k c l g
-        → (line : Line) → line ≡ under-way own (Tx.AwaitsFlow o t) q [] g (Rx.Awaits p u) last ina
+        → (line : Line) → line ≡ under-way own (Tx.AwaitsFlow party o t) q [] g (Rx.Awaits p u) last ina
         → Nearer (pace * suc l + (3 + c)) (tookR line (span n out c (suc k)) (frameCame set (takerBerth line) (frameAt n out k)))
     unfolding span
     take-block-full {own = own} o t q p u last ina k zero l g r line e =
         let m : posAt (suc k) < n = unfold posAt in (omega (arith, r .sender .more)) in
         let full : fillsBlock (own .block) (p .taken) ≡ true = fills-yes (own .block) (p .taken) (r .some-block) (r .full) in
         let next : k + 1 ≡ suc k = omega arith in
-        rw e (rw (took-more (under-way own (Tx.AwaitsFlow o t) q [] g (Rx.Awaits p u) last ina) [] p u k refl (r .taker) m, full)
+        rw e (rw (took-more (under-way own (Tx.AwaitsFlow party o t) q [] g (Rx.Awaits p u) last ina) [] p u k refl (r .taker) m, full)
         (nearer (go-owed o t (grown p 0) 0 last _ (suc k) l g (rw next at (r .sender)) (take-on p k 0 ina (r .taker) m) (rw next at (r .ahead)) (rw next at (r .to-come)))
         (omega arith)))
     take-block-full {own = own} o t q p u last ina k (suc c) l g r line e =
@@ -614,7 +614,7 @@ module _ (i j : ℕ) (set : Settings) (n : ℕ) (out : List ℕ) (E : BerthSetti
         let f = r .full in
         let room : fillsBlock (own .block) (p .taken) ≡ false = fills-no (own .block) (p .taken) (λ h. omega arith) in
         let next : k + suc (suc c) ≡ suc k + suc c = omega arith in
-        rw e (rw (took-more (under-way own (Tx.AwaitsFlow o t) q [] g (Rx.Awaits p u) last ina) (span n out (suc c) (suc k)) p u k refl (r .taker) m, room)
+        rw e (rw (took-more (under-way own (Tx.AwaitsFlow party o t) q [] g (Rx.Awaits p u) last ina) (span n out (suc c) (suc k)) p u k refl (r .taker) m, room)
         (nearer (block-full o t _ (grown p (counted (own .block) (p .taken))) 0 last _ (suc k) c l g (record {
           queued = refl;
           sender = rw next at (r .sender);

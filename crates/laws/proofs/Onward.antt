@@ -97,10 +97,10 @@ module _ (i j : ℕ) (set : Settings) (n : ℕ) (out : List ℕ) (E : BerthSetti
     whole-there l m d q z (in-block o t r p u last ina f zero h g s) = absurd (nil≢cons (sym (s .queued) ∙ z))
     whole-there l m d q z (in-block {own = own} o t r p u last ina f (suc c) h g s) =
         rw (← (head-eq-of-cons-eq (sym (s .queued) ∙ z)))
-        (whole-more (under-way i j set n out E own (Tx.Consecutive o t) r [] g (Rx.Awaits p u) last ina) q p u f refl (s .taker) (unfold posAt in (omega (arith, s .sender .more))))
+        (whole-more (under-way i j set n out E own (Tx.Consecutive party o t) r [] g (Rx.Awaits p u) last ina) q p u f refl (s .taker) (unfold posAt in (omega (arith, s .sender .more))))
     whole-there l m d q z (block-full {own = own} o t r p u last ina f c h g s) =
         rw (← (head-eq-of-cons-eq (sym (s .queued) ∙ z)))
-        (whole-more (under-way i j set n out E own (Tx.AwaitsFlow o t) r [] g (Rx.Awaits p u) last ina) q p u f refl (s .taker) (unfold posAt in (omega (arith, s .sender .more))))
+        (whole-more (under-way i j set n out E own (Tx.AwaitsFlow party o t) r [] g (Rx.Awaits p u) last ina) q p u f refl (s .taker) (unfold posAt in (omega (arith, s .sender .more))))
     whole-there l m d q z (last-sent {own = own} r p u last ina f zero g s) =
         rw (← (head-eq-of-cons-eq (sym (s .queued) ∙ z)))
         (subst (λ (x : Line). Whole (x .rx))
@@ -145,10 +145,10 @@ module _ (i j : ℕ) (set : Settings) (n : ℕ) (out : List ℕ) (E : BerthSetti
       at-end : l .toR ≡ [] → l .toS ≡ [] → messageDue (l .tx) ≡ false → gapLeft (txClock (l .tx)) ≡ 0 → flowDue (l .rx) ≡ false → Next l m
 
     waits : {own : BerthSettings} (o : Sending) (t : ℕ) (q : List (List ℕ)) (p : Taking) (u last : ℕ) (ina : List ℕ) (k l m : ℕ) (g : List Handed) → q ≡ []
-        → (o .left ≡ 0 → ⊥) → eqb (o .left) 0 ≡ false → Young (under-way i j set n out E own (Tx.Consecutive o t) q [] g (Rx.Awaits p u) last ina)
-        → (Phase i j set n out E (under-way i j set n out E own (Tx.Consecutive (closer o) t) q [] g (Rx.Awaits p (u + 1)) last ina) m)
+        → (o .left ≡ 0 → ⊥) → eqb (o .left) 0 ≡ false → Young (under-way i j set n out E own (Tx.Consecutive party o t) q [] g (Rx.Awaits p u) last ina)
+        → (Phase i j set n out E (under-way i j set n out E own (Tx.Consecutive party (closer o) t) q [] g (Rx.Awaits p (u + 1)) last ina) m)
         → (m′ : ℕ) → m < m′
-        → Next (under-way i j set n out E own (Tx.Consecutive o t) q [] g (Rx.Awaits p u) last ina) m′
+        → Next (under-way i j set n out E own (Tx.Consecutive party o t) q [] g (Rx.Awaits p u) last ina) m′
     unfolding ran
     waits o t q p u last ina k l m g empty ne left young ph m′ less =
         let lasts = awaits-lasts (o .left) p u (young empty) in
@@ -166,7 +166,7 @@ module _ (i j : ℕ) (set : Settings) (n : ℕ) (out : List ℕ) (E : BerthSetti
     next l m (in-block {own = own} o t q p u last ina f zero h g s) y = go (eqb-cases (o .left) 0)
       where
         go : Tested (eqb (o .left) 0) (o .left ≡ 0) (o .left ≡ 0 → ⊥)
-            → Next (under-way i j set n out E own (Tx.Consecutive o t) q [] g (Rx.Awaits p u) last ina) (pace * suc h + (o .left + 0))
+            → Next (under-way i j set n out E own (Tx.Consecutive party o t) q [] g (Rx.Awaits p u) last ina) (pace * suc h + (o .left + 0))
         go (holds r c) = hand-message (rw r tt)
         go (fails r c) =
             waits o t q p u last ina f h (pace * suc h + (closer o .left + 0)) g (s .queued) c r y

@@ -62,7 +62,7 @@ module _ (k j : ℕ) where
   unfolding wordReports ofBerth only
   word-of (Delivered n) = reported-of receive N-OK
   word-of (Begun n) = none-either (eqb j k)
-  word-of (Failed c) = reported-of (failedSide c) c
+  word-of (Failed c party) = reported-of (failedSide c) c
   word-of (Ignored i) = none-either (eqb j k)
   word-of TooLong = none-either (eqb j k)
   word-of Took = none-either (eqb j k)
@@ -104,10 +104,10 @@ module _ (k : ℕ) where
       go (fails t e) = rw (of-append, reported-of k j receive old, word-of k j w, t)
   reports-of (codes cs) = codes-at cs k 0 (omega arith) ∙ sym (append-nil _)
   reports-of (sent j) = pick-either (λ (xs : List Says). [] ≡ over (saidReports k) xs) (eqb j k) _ _ (λ t. refl) (λ t. refl)
-  reports-of (handed id f c passed) = go (leb-cases toBerth id) (eqb-cases (id - toBerth) k)
+  reports-of (handed id f c passed party) = go (leb-cases toBerth id) (eqb-cases (id - toBerth) k)
     where
       go : Tested (leb toBerth id) (toBerth ≤ id) (id < toBerth) → Tested (eqb (id - toBerth) k) (id - toBerth ≡ k) (id - toBerth ≡ k → ⊥)
-          → ofBerth k (reports (handed id f c passed)) ≡ over (saidReports k) (saysOf k (handed id f c passed))
+          → ofBerth k (reports (handed id f c passed party)) ≡ over (saidReports k) (saysOf k (handed id f c passed party))
       go (holds l u) (holds t e) = rw (l, reported-of k (id - toBerth) send c, t, append-nil, e)
       go (holds l u) (fails t e) = rw (l, reported-of k (id - toBerth) send c, t)
       go (fails l u) t = rw l

@@ -36,7 +36,7 @@ lengths-done : (h : Held) (c : Call) → SameLengths h (done h c)
 unfolding done afterFrame afterTurn stored
 lengths-done h (frame id d) = (simp length-sets, refl, added-at-length (h .cards) (senderOf id) _)
 lengths-done h tick = (refl, refl, ticked-cards-length (h .node .berths) (h .cards))
-lengths-done h (send k m) = (refl, simp length-sets, refl)
+lengths-done h (send k party m) = (refl, simp length-sets, refl)
 lengths-done h (turn buffer) = pick-either (SameLengths h) (ltb (passedOver (h .node)) berthCount) _ _
     (λ t. (refl, refl, added-at-length (h .cards) (reached (h .node)) _)) (λ t. (refl, refl, refl))
 lengths-done h (show k choice) = (refl, refl, refl)

@@ -65,7 +65,7 @@ module _ (s : Side) (k : ℕ) where
     said-done (frame id d) e =
         pick-either (SaidAlike (frame id d)) (eqb (senderOf id) k) (arrives d ∷ []) [] (λ t. alike (sameSide s (frameSide d)) _ (arrives d)) (λ t. refl)
     said-done tick e = refl
-    said-done (send j m) e = pick-either (SaidAlike (send j m)) (eqb j k) (sends m ∷ []) [] (λ t. alike (sameSide s sendSide) _ (sends m)) (λ t. refl)
+    said-done (send j party m) e = pick-either (SaidAlike (send j party m)) (eqb j k) (sends party m ∷ []) [] (λ t. alike (sameSide s sendSide) _ (sends party m)) (λ t. refl)
     said-done (turn buffer) e =
         let b = ltb (passedOver (h .node)) berthCount in
         let c = eqb (reached (h .node)) k in
@@ -97,8 +97,8 @@ module _ (s : Side) (k : ℕ) where
         of-tick : (s : Side) → [] ≡ over handedIn (over (saysFor s tick) (saysOf k (reply h tick)))
         of-tick receive = refl
         of-tick sendSide = refl
-    frames-done (send j m) =
-        pick-either (λ (xs : List Says). [] ≡ over handedIn (over (saysFor s (send j m)) xs)) (eqb j k) _ _
+    frames-done (send j party m) =
+        pick-either (λ (xs : List Says). [] ≡ over handedIn (over (saysFor s (send j party m)) xs)) (eqb j k) _ _
         (λ t. pick-either (λ (xs : List Says). [] ≡ over handedIn (xs ++ [])) (sameSide s sendSide) _ _ (λ u. refl) (λ u. refl)) (λ t. refl)
     frames-done (turn buffer) = go (ltb-cases (passedOver (h .node)) berthCount) (eqb-cases (reached (h .node)) k)
       where

@@ -143,15 +143,15 @@ module _ (k : ℕ) where
   flow-all : (tx : Tx) (d : List ℕ) → ToldAll (flowCame tx d)
   unfolding byStatus flowIgnored wordReports failedSide
   flow-all Tx.Idle d = no-reports send
-  flow-all (Tx.SingleDue n t) d = no-reports send
-  flow-all (Tx.FirstDue n t) d = no-reports send
-  flow-all (Tx.AwaitsFlow o t) d =
+  flow-all (Tx.SingleDue party n t) d = no-reports send
+  flow-all (Tx.FirstDue party n t) d = no-reports send
+  flow-all (Tx.AwaitsFlow party o t) d =
       pick-either ToldAll (flowFits d) _ _
       (λ u. pick-either ToldAll (eqb (low d) goStatus) _ _ (λ v. no-reports send)
       (λ v. pick-either ToldAll (eqb (low d) waitStatus) _ _ (λ w. no-reports send)
       (λ w. pick-either ToldAll (eqb (low d) overflowStatus) _ _ (λ x. reported-all send 9) (λ x. reported-all send 6))))
       (λ u. no-reports send)
-  flow-all (Tx.Consecutive o t) d = no-reports send
+  flow-all (Tx.Consecutive party o t) d = no-reports send
 
   abbrev CameAll : Side → Came → Type 0
   CameAll side c = AllOf side (reported k receive (c .old) ++ wordReports k (c .word))
@@ -198,7 +198,7 @@ module _ (set : Settings) where
   unfolding partAfter stateAfter
   uncounted-after p (arrives d) = refl
   uncounted-after p ticks = refl
-  uncounted-after p (sends m) = refl
+  uncounted-after p (sends party m) = refl
   uncounted-after p turns = refl
   uncounted-after p (changes parameter value) = refl
 
@@ -214,7 +214,7 @@ module _ (set : Settings) where
   unfolding says
   uncounted-said p (arrives d) = refl
   uncounted-said p ticks = refl
-  uncounted-said p (sends m) = refl
+  uncounted-said p (sends party m) = refl
   uncounted-said p turns = refl
   uncounted-said p (changes parameter value) = refl
 
@@ -245,8 +245,8 @@ module _ (set : Settings) where
       go send (fails t ne) = rw (t, came-receive set (p .berth) d ne) (unfold cameWithTx in refl)
   side-after receive p ticks = unfold ticked in refl
   side-after send p ticks = unfold ticked in refl
-  side-after receive p (sends m) = unfold sent in refl
-  side-after send p (sends m) = unfold sent in refl
+  side-after receive p (sends party m) = unfold sent in refl
+  side-after send p (sends party m) = unfold sent in refl
   side-after s p turns = go s (flowDue (p .berth .rx)) refl
     where
       go : (s : Side) (b : Bool) → flowDue (p .berth .rx) ≡ b
@@ -273,8 +273,8 @@ module _ (set : Settings) where
       go send (fails t ne) = rw t
   side-said receive p ticks = refl
   side-said send p ticks = refl
-  side-said receive p (sends m) = refl
-  side-said send p (sends m) = refl
+  side-said receive p (sends party m) = refl
+  side-said send p (sends party m) = refl
   side-said s p turns = go s (flowDue (p .berth .rx)) refl
     where
       go : (s : Side) (b : Bool) → flowDue (p .berth .rx) ≡ b
@@ -329,8 +329,8 @@ module _ (set : Settings) where
       go false = refl
   side-reported k receive p ticks = tick-reported k (p .berth) receive ∙ unfold reported in (sym (append-nil _ ∙ append-nil _))
   side-reported k send p ticks = tick-reported k (p .berth) send ∙ unfold reported in (sym (append-nil _))
-  side-reported k receive p (sends m) = unfold ofSide only in refl
-  side-reported k send p (sends m) = unfold ofSide only in refl
+  side-reported k receive p (sends party m) = unfold ofSide only in refl
+  side-reported k send p (sends party m) = unfold ofSide only in refl
   side-reported k s p turns = unfold handOver turnSide in (go s (flowDue (p .berth .rx)) refl)
     where
       go : (s : Side) (b : Bool) → flowDue (p .berth .rx) ≡ b
@@ -372,6 +372,6 @@ module _ (set : Settings) where
       for : (e : Event) → (e ≡ turns → turnSide p ≡ turnSide q) → forSide s p e ≡ forSide s q e
       for (arrives d) t = unfold forSide in refl
       for ticks t = unfold forSide in refl
-      for (sends m) t = unfold forSide in refl
+      for (sends party m) t = unfold forSide in refl
       for turns t = unfold forSide in (ap (λ (x : Side). pick (sameSide s x) (turns ∷ []) []) (t refl))
       for (changes parameter value) t = unfold forSide in refl

@@ -54,7 +54,7 @@ whole-heard = omega arith
 ignored-why : (w : Word) → T (isIgnored w) → (why : ℕ) × (w ≡ Ignored why)
 ignored-why (Delivered n) t = absurd t
 ignored-why (Begun n) t = absurd t
-ignored-why (Failed c) t = absurd t
+ignored-why (Failed c party) t = absurd t
 ignored-why (Ignored why) t = (why, refl)
 ignored-why TooLong t = absurd t
 ignored-why Took t = absurd t
@@ -136,10 +136,10 @@ flow-neither tx d =
 
 due-not-flow : (tx : Tx) → dueKind tx ≡ flowKind → ⊥
 due-not-flow Tx.Idle e = omega arith
-due-not-flow (Tx.SingleDue n u) e = omega arith
-due-not-flow (Tx.FirstDue n u) e = omega arith
-due-not-flow (Tx.AwaitsFlow o u) e = omega arith
-due-not-flow (Tx.Consecutive o u) e = omega arith
+due-not-flow (Tx.SingleDue party n u) e = omega arith
+due-not-flow (Tx.FirstDue party n u) e = omega arith
+due-not-flow (Tx.AwaitsFlow party o u) e = omega arith
+due-not-flow (Tx.Consecutive party o u) e = omega arith
 
 pub handed-side : (set : Settings) (p : Part) → set .area ≤ shortMost → BerthRange set (p .berth) → T (due (p .berth))
     → handedSide (handOver (p .berth) (p .outgoing) .frame) ≡ turnSide p
@@ -315,22 +315,22 @@ module _ (k : ℕ) (h : Held) where
           by (inl v) = let (x, y) = passed-by s (frame id d) d (done-as true u) v in spared (record { part = x; reported = y; frames = fs })
           by (inr v) = let (x, y) = untouched s (frame id d) (arrives d ∷ []) (done-as true u) (not-its v) in spared (record { part = x; reported = y; frames = fs })
 
-  touch-send : (s : Side) (j : ℕ) (m : List ℕ) → refusal h (send j m) ≡ 0 → T (spares s k h (send j m)) → TouchedBy s (send j m)
+  touch-send : (s : Side) (j : ℕ) (m : List ℕ) → refusal h (send j party m) ≡ 0 → T (spares s k h (send j party m)) → TouchedBy s (send j party m)
   unfolding spares
   touch-send s j m e t = go (eqb-cases j k)
     where
-      fs : framesBy s k (outcome h (send j m) .answer) ≡ []
-      fs = ap (framesBy s k) (answer-is (send j m) e) ∙ unfold reply framesBy in refl
+      fs : framesBy s k (outcome h (send j party m) .answer) ≡ []
+      fs = ap (framesBy s k) (answer-is (send j party m) e) ∙ unfold reply framesBy in refl
 
-      done-as : (b : Bool) → eqb j k ≡ b → own k h (send j m) ≡ pick b (sends m ∷ []) []
-      done-as b u = own-is (send j m) e ∙ unfold ownDone in (rw u)
+      done-as : (b : Bool) → eqb j k ≡ b → own k h (send j party m) ≡ pick b (sends party m ∷ []) []
+      done-as b u = own-is (send j party m) e ∙ unfold ownDone in (rw u)
 
-      not-its : T (not (sameSide s sendSide)) → sideEvents s set (partOf k h) (sends m ∷ []) ≡ []
+      not-its : T (not (sameSide s sendSide)) → sideEvents s set (partOf k h) (sends party m ∷ []) ≡ []
       not-its u = unfold sideEvents forSide in (rw (is-false (sameSide s sendSide) u))
 
-      go : Tested (eqb j k) (j ≡ k) (j ≡ k → ⊥) → TouchedBy s (send j m)
-      go (holds u q) = let (x, y) = untouched s (send j m) (sends m ∷ []) (done-as true u) (not-its (rw u at t)) in spared (record { part = x; reported = y; frames = fs })
-      go (fails u q) = let (x, y) = untouched s (send j m) [] (done-as false u) (unfold sideEvents in refl) in spared (record { part = x; reported = y; frames = fs })
+      go : Tested (eqb j k) (j ≡ k) (j ≡ k → ⊥) → TouchedBy s (send j party m)
+      go (holds u q) = let (x, y) = untouched s (send j party m) (sends party m ∷ []) (done-as true u) (not-its (rw u at t)) in spared (record { part = x; reported = y; frames = fs })
+      go (fails u q) = let (x, y) = untouched s (send j party m) [] (done-as false u) (unfold sideEvents in refl) in spared (record { part = x; reported = y; frames = fs })
 
   touch-change : (s : Side) (j parameter value : ℕ) → refusal h (change j parameter value) ≡ 0 → TouchedBy s (change j parameter value)
   touch-change s j parameter value e = go (eqb-cases j k) (test-cases (sameSide s receive))
@@ -488,7 +488,7 @@ module _ (k : ℕ) (h : Held) where
     touch-answered : (s : Side) (c : Call) → refusal h c ≡ 0 → T (spares s k h c) → TouchedBy s c
     touch-answered s (frame id d) e t = touch-frame s id d e t
     touch-answered s tick e t = clocked (touch-tick s e t)
-    touch-answered s (send j m) e t = touch-send s j m e t
+    touch-answered s (send j party m) e t = touch-send s j m e t
     touch-answered s (turn buffer) e t = touch-turn s buffer e
     touch-answered s (show j choice) e t =
         let (x, y) = untouched s (show j choice) [] (own-is (show j choice) e ∙ unfold ownDone in refl) (unfold sideEvents in refl) in
@@ -577,8 +577,8 @@ module _ (k : ℕ) (h : Held) where
         pick-either (λ es. Neither (saysAll set (partOf k h) es)) (eqb (senderOf id) k) (arrives d ∷ []) []
         (λ u. frame-neither d (rw (is-true (eqb (senderOf id) k) u) at t)) (λ u. (refl, λ any. refl))
     neither-done tick t = (refl, λ any. refl)
-    neither-done (send j m) t =
-        pick-either (λ es. Neither (saysAll set (partOf k h) es)) (eqb j k) (sends m ∷ []) [] (λ u. (refl, λ any. refl)) (λ u. (refl, λ any. refl))
+    neither-done (send j party m) t =
+        pick-either (λ es. Neither (saysAll set (partOf k h) es)) (eqb j k) (sends party m ∷ []) [] (λ u. (refl, λ any. refl)) (λ u. (refl, λ any. refl))
     neither-done (turn buffer) t =
         pick-either (λ es. Neither (saysAll set (partOf k h) es)) (ltb (passedOver (h .node)) berthCount && eqb (reached (h .node)) k) (turns ∷ []) []
         (λ u. (refl, λ any. refl)) (λ u. (refl, λ any. refl))

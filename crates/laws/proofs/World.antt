@@ -492,20 +492,20 @@ module _ (i j : ℕ) (small-i : i < berthCount) (small-j : j < berthCount) (set 
 -- ---- the send
 
 send-met : (h : Held) (k : ℕ) (m : List ℕ) → k < berthCount → Sound h → busy (berthAt (h .node) k .tx) ≡ false → 1 ≤ length m
-    → length m ≤ h .node .settings .area → refusal h (send k m) ≡ 0
+    → length m ≤ h .node .settings .area → refusal h (send k party m) ≡ 0
 unfolding refusal needs rightStore
 send-met h k m l s z a b =
     let free : T (not (busy (berthAt (h .node) k .tx))) = rw z tt in
-    all-met (needs h (send k m)) (range-in-order (h .node) (s .order), (yes-eqb (s .outgoing), (yes-ltb l, (yes-ltb a, (yes-leb b, (free, tt))))))
+    all-met (needs h (send k party m)) (range-in-order (h .node) (s .order), (yes-eqb (s .outgoing), (yes-ltb l, (yes-ltb a, (yes-leb b, (free, tt))))))
 
-sent-part : (h : Held) (k : ℕ) (m : List ℕ) → refusal h (send k m) ≡ 0
-    → (berthAt (outcome h (send k m) .held .node) k .tx ≡ beginsWith (length m))
-    × (partOf k (outcome h (send k m) .held) .outgoing ≡ sets (areaOf (h .node .settings .area) k (h .outgoing)) 0 m)
+sent-part : (h : Held) (k : ℕ) (m : List ℕ) → refusal h (send k party m) ≡ 0
+    → (berthAt (outcome h (send k party m) .held .node) k .tx ≡ beginsWith (length m))
+    × (partOf k (outcome h (send k party m) .held) .outgoing ≡ sets (areaOf (h .node .settings .area) k (h .outgoing)) 0 m)
 unfolding ownDone alone stateAfter partAfter sentBerth partOf
 sent-part h k m e =
-    let own-k : own k h (send k m) ≡ sends m ∷ [] = own-is k h (send k m) e ∙ rw (eqb-is k k refl) in
-    let p : partOf k (outcome h (send k m) .held) ≡ alone (h .node .settings) (partOf k h) (sends m ∷ []) =
-    part-step k h (send k m) ∙ ap (alone (h .node .settings) (partOf k h)) own-k in
+    let own-k : own k h (send k party m) ≡ sends m ∷ [] = own-is k h (send k party m) e ∙ rw (eqb-is k k refl) in
+    let p : partOf k (outcome h (send k party m) .held) ≡ alone (h .node .settings) (partOf k h) (sends party m ∷ []) =
+    part-step k h (send k party m) ∙ ap (alone (h .node .settings) (partOf k h)) own-k in
     (ap (λ (x : Part). x .berth .tx) p, ap (λ (x : Part). x .outgoing) p)
 
 sent-bytes : (l m out : List ℕ) → out ≡ sets l 0 m → length m ≤ length l → take (length m) out ≡ m

@@ -25,7 +25,7 @@ zeroCards = replicate berthCount zeroCard
 abbrev pub singleFrameCame : Event → Bool
 singleFrameCame (arrives d) = isSingle d
 singleFrameCame ticks = false
-singleFrameCame (sends m) = false
+singleFrameCame (sends party m) = false
 singleFrameCame turns = false
 singleFrameCame (changes parameter value) = false
 
@@ -40,9 +40,9 @@ delivers m = wordIs isDelivered (m .said)
 -- failed with 2 or with 4: that receive code of a tick, of a side that owed go or awaited; so code 2 after an overflow owed is none
 abbrev pub expiresWith : ℕ → Rx → Says → Bool
 expiresWith n rx (hears old w) = false
-expiresWith n rx (expires receive send) = underWay rx && eqb receive n
+expiresWith n rx (expires receive send party) = underWay rx && eqb receive n
 expiresWith n rx accepts = false
-expiresWith n rx (hands frame code) = false
+expiresWith n rx (hands frame code party) = false
 expiresWith n rx adopts = false
 
 abbrev pub timesOut : ℕ → Moment → Bool
@@ -55,9 +55,9 @@ missesSn m = wordIs (isFailed N-WRONG-SN) (m .said)
 -- failed with 7: old code 7
 abbrev pub oldIs : ℕ → Says → Bool
 oldIs n (hears old w) = eqb old n
-oldIs n (expires receive send) = false
+oldIs n (expires receive send party) = false
 oldIs n accepts = false
-oldIs n (hands frame code) = false
+oldIs n (hands frame code party) = false
 oldIs n adopts = false
 
 abbrev pub endsOld : Moment → Bool
@@ -70,9 +70,9 @@ turnsAway m = wordIs isTooLong (m .said)
 -- sent: code 1 with a frame handed over
 abbrev pub handsWith : ℕ → Says → Bool
 handsWith n (hears old w) = false
-handsWith n (expires receive send) = false
+handsWith n (expires receive send party) = false
 handsWith n accepts = false
-handsWith n (hands frame code) = eqb code n
+handsWith n (hands frame code party) = eqb code n
 handsWith n adopts = false
 
 abbrev pub endsSending : Moment → Bool
@@ -81,9 +81,9 @@ endsSending m = handsWith N-OK (m .said)
 -- failed in sending: Failed 6 or 9, or a send code of a tick
 abbrev pub sendingFails : Says → Bool
 sendingFails (hears old w) = isFailed N-INVALID-FS w || isFailed N-BUFFER-OVFLW w
-sendingFails (expires receive send) = not (eqb send 0)
+sendingFails (expires receive send party) = not (eqb send 0)
 sendingFails accepts = false
-sendingFails (hands frame code) = false
+sendingFails (hands frame code party) = false
 sendingFails adopts = false
 
 abbrev pub failsSending : Moment → Bool

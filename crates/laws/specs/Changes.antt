@@ -15,7 +15,7 @@ unfoldable pub settingsAfter : BerthSettings → List Event → BerthSettings
 settingsAfter given [] = given
 settingsAfter given (arrives d ∷ es) = settingsAfter given es
 settingsAfter given (ticks ∷ es) = settingsAfter given es
-settingsAfter given (sends m ∷ es) = settingsAfter given es
+settingsAfter given (sends party m ∷ es) = settingsAfter given es
 settingsAfter given (turns ∷ es) = settingsAfter given es
 settingsAfter given (changes parameter value ∷ es) = settingsAfter (changedSettings given parameter value) es
 

@@ -22,14 +22,14 @@ goes m = wordIs isGoing (m .said)
 abbrev pub stminIn : Event → ℕ
 stminIn (arrives d) = byteAt d 2
 stminIn ticks = 0
-stminIn (sends m) = 0
+stminIn (sends party m) = 0
 stminIn turns = 0
 stminIn (changes parameter value) = 0
 
 -- a consecutive frame is handed over
 abbrev pub isConsecutive : Says → Bool
 isConsecutive (hears old w) = false
-isConsecutive (expires receive send) = false
+isConsecutive (expires receive send party) = false
 isConsecutive accepts = false
 isConsecutive (hands f code) = eqb (kind f) consecutiveKind
 isConsecutive adopts = false
@@ -41,7 +41,7 @@ handsConsecutive m = isConsecutive (m .said)
 abbrev pub isTick : Event → Bool
 isTick (arrives d) = false
 isTick ticks = true
-isTick (sends m) = false
+isTick (sends party m) = false
 isTick turns = false
 isTick (changes parameter value) = false
 
@@ -52,7 +52,7 @@ ticksAt m = isTick (m .event)
 abbrev pub isSend : Event → Bool
 isSend (arrives d) = false
 isSend ticks = false
-isSend (sends m) = true
+isSend (sends party m) = true
 isSend turns = false
 isSend (changes parameter value) = false
 

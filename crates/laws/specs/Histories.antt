@@ -41,9 +41,9 @@ historyOf k h (c ∷ cs) =
 -- a frame's word passes a test
 abbrev pub wordIs : (Word → Bool) → Says → Bool
 wordIs f (hears old w) = f w
-wordIs f (expires receive send) = false
+wordIs f (expires receive send party) = false
 wordIs f accepts = false
-wordIs f (hands frame code) = false
+wordIs f (hands frame code party) = false
 wordIs f adopts = false
 
 -- how many of these moments pass a test

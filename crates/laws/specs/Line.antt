@@ -53,30 +53,30 @@ reportsBy s k answer = ofSide s (ofBerth k (reports answer))
 unfoldable pub deliveredIn : Says → List ℕ
 deliveredIn (hears old (Delivered n)) = n ∷ []
 deliveredIn (hears old (Begun n)) = []
-deliveredIn (hears old (Failed c)) = []
+deliveredIn (hears old (Failed c party)) = []
 deliveredIn (hears old (Ignored why)) = []
 deliveredIn (hears old TooLong) = []
 deliveredIn (hears old Took) = []
 deliveredIn (hears old Going) = []
 deliveredIn (hears old Waiting) = []
-deliveredIn (expires r c) = []
+deliveredIn (expires r c party) = []
 deliveredIn accepts = []
-deliveredIn (hands f c) = []
+deliveredIn (hands f c party) = []
 deliveredIn adopts = []
 
 -- the settings, where it is a Begun
 unfoldable pub begunIn : BerthSettings → Says → List BerthSettings
 begunIn own (hears old (Delivered n)) = []
 begunIn own (hears old (Begun n)) = own ∷ []
-begunIn own (hears old (Failed c)) = []
+begunIn own (hears old (Failed c party)) = []
 begunIn own (hears old (Ignored why)) = []
 begunIn own (hears old TooLong) = []
 begunIn own (hears old Took) = []
 begunIn own (hears old Going) = []
 begunIn own (hears old Waiting) = []
-begunIn own (expires r c) = []
+begunIn own (expires r c party) = []
 begunIn own accepts = []
-begunIn own (hands f c) = []
+begunIn own (hands f c party) = []
 begunIn own adopts = []
 
 -- the world with A's end anew, and with B's: the node with stores and cards, the frames on the way there and back, what was handed over,
@@ -147,7 +147,7 @@ living i j w (d ∷ ds) = living i j (acts i j w d) ds
 abbrev pub isIgnored : Word → Bool
 isIgnored (Delivered n) = false
 isIgnored (Begun n) = false
-isIgnored (Failed c) = false
+isIgnored (Failed c party) = false
 isIgnored (Ignored why) = true
 isIgnored TooLong = false
 isIgnored Took = false
@@ -160,7 +160,7 @@ isIgnored Waiting = false
 unfoldable pub spares : Side → ℕ → Held → Call → Bool
 spares s k h (frame id d) = not (eqb (senderOf id) k) || (isIgnored (cameAt h k d .word) || not (sameSide s (frameSide d)))
 spares s k h tick = eqb (tickCode s (berthAt (h .node) k)) 0
-spares s k h (send j m) = not (eqb j k) || not (sameSide s sendSide)
+spares s k h (send j party m) = not (eqb j k) || not (sameSide s sendSide)
 spares s k h (turn buffer) = true
 spares s k h (show j choice) = true
 spares s k h (change j parameter value) = true

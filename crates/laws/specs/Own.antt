@@ -32,7 +32,7 @@ over f (x ∷ xs) = f x ++ over f xs
 unfoldable pub ownDone : ℕ → Held → Call → List Event
 ownDone k h (frame id d) = pick (eqb (senderOf id) k) (arrives d ∷ []) []
 ownDone k h tick = ticks ∷ []
-ownDone k h (send j m) = pick (eqb j k) (sends m ∷ []) []
+ownDone k h (send j party m) = pick (eqb j k) (sends party m ∷ []) []
 ownDone k h (turn buffer) = pick (ltb (passedOver (h .node)) berthCount && eqb (reached (h .node)) k) (turns ∷ []) []
 ownDone k h (show j choice) = []
 ownDone k h (change j parameter value) = pick (eqb j k) (changes parameter value ∷ []) []
@@ -56,7 +56,7 @@ saysOf k ready = []
 saysOf k (heard j old w) = pick (eqb j k) (hears old w ∷ []) []
 saysOf k (codes cs) = expires (getD cs k noCodes .receive) (getD cs k noCodes .send) ∷ []
 saysOf k (sent j) = pick (eqb j k) (accepts ∷ []) []
-saysOf k (handed id f c passed) = forTaker id (λ j. pick (eqb j k) (hands f c ∷ []) []) []
+saysOf k (handed id f c passed party) = forTaker id (λ j. pick (eqb j k) (hands f c party ∷ []) []) []
 saysOf k (none passed) = []
 saysOf k (shown part) = []
 saysOf k (changed j) = pick (eqb j k) (adopts ∷ []) []
@@ -75,9 +75,9 @@ ofBerth k rs = only (λ r. eqb (r .berth) k) rs
 -- those in what berth k says
 unfoldable pub saidReports : ℕ → Says → List Report
 saidReports k (hears old w) = reported k receive old ++ wordReports k w
-saidReports k (expires r s) = reported k receive r ++ reported k sendSide s
+saidReports k (expires r s party) = reported k receive r ++ reported k sendSide s
 saidReports k accepts = []
-saidReports k (hands f c) = reported k sendSide c
+saidReports k (hands f c party) = reported k sendSide c
 saidReports k adopts = []
 
 -- ---- show, from a berth's own part: the last message arrived, or the message now being sent

@@ -25,7 +25,7 @@ turnOf ready = []
 turnOf (heard j old w) = []
 turnOf (codes cs) = []
 turnOf (sent j) = []
-turnOf (handed id f c passed) = forTaker id served nobody ∷ []
+turnOf (handed id f c passed party) = forTaker id served nobody ∷ []
 turnOf (none passed) = nobody ∷ []
 turnOf (shown part) = []
 turnOf (changed j) = []
@@ -34,7 +34,7 @@ turnOf (changed j) = []
 abbrev pub DueAt : ℕ → Held → Call → Type 0
 DueAt k h (frame id d) = Unit {0}
 DueAt k h tick = Unit {0}
-DueAt k h (send j m) = Unit {0}
+DueAt k h (send j party m) = Unit {0}
 DueAt k h (turn buffer) = refusal h (turn buffer) ≡ 0 → T (due (berthAt (h .node) k))
 DueAt k h (show j choice) = Unit {0}
 DueAt k h (change j parameter value) = Unit {0}

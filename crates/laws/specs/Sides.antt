@@ -49,7 +49,7 @@ turnSide p = pick (flowDue (p .berth .rx)) receive send
 unfoldable pub forSide : Side → Part → Event → List Event
 forSide s p (arrives d) = pick (sameSide s (frameSide d)) (arrives d ∷ []) []
 forSide s p ticks = ticks ∷ []
-forSide s p (sends m) = pick (sameSide s send) (sends m ∷ []) []
+forSide s p (sends party m) = pick (sameSide s send) (sends party m ∷ []) []
 forSide s p turns = pick (sameSide s (turnSide p)) (turns ∷ []) []
 forSide s p (changes parameter value) = pick (sameSide s receive) (changes parameter value ∷ []) []
 
@@ -61,10 +61,10 @@ sideEvents s set p (e ∷ es) = forSide s p e ++ sideEvents s set (partAfter set
 
 unfoldable pub onlySide : Side → Says → Says
 onlySide s (hears old w) = hears old w
-onlySide receive (expires r c) = expires r 0
-onlySide send (expires r c) = expires 0 c
+onlySide receive (expires r c party) = expires r 0
+onlySide send (expires r c party) = expires 0 c
 onlySide s accepts = accepts
-onlySide s (hands f c) = hands f c
+onlySide s (hands f c party) = hands f c
 onlySide s adopts = adopts
 
 unfoldable pub sideSays : Side → Settings → Part → List Event → List Says
@@ -79,9 +79,9 @@ ofSide s rs = only (λ r. sameSide s (r .side)) rs
 -- the frame in what a berth says
 unfoldable pub handedIn : Says → List (List ℕ)
 handedIn (hears old w) = []
-handedIn (expires r c) = []
+handedIn (expires r c party) = []
 handedIn accepts = []
-handedIn (hands f c) = f ∷ []
+handedIn (hands f c party) = f ∷ []
 handedIn adopts = []
 
 -- flow control is the receive side's, any other frame the send side's
@@ -95,7 +95,7 @@ framesBy s k ready = []
 framesBy s k (heard j old w) = []
 framesBy s k (codes cs) = []
 framesBy s k (sent j) = []
-framesBy s k (handed id f c passed) = forTaker id (λ j. pick (eqb j k && sameSide s (handedSide f)) (f ∷ []) []) []
+framesBy s k (handed id f c passed party) = forTaker id (λ j. pick (eqb j k && sameSide s (handedSide f)) (f ∷ []) []) []
 framesBy s k (none passed) = []
 framesBy s k (shown part) = []
 framesBy s k (changed j) = []
@@ -105,9 +105,9 @@ framesBy s k (changed j) = []
 -- flow control that is handed over is the receive side's to say, any other frame the send side's
 unfoldable pub handsFor : Side → Says → List Says
 handsFor s (hears old w) = []
-handsFor s (expires r c) = []
+handsFor s (expires r c party) = []
 handsFor s accepts = []
-handsFor s (hands f c) = pick (sameSide s (handedSide f)) (hands f c ∷ []) []
+handsFor s (hands f c party) = pick (sameSide s (handedSide f)) (hands f c party ∷ []) []
 handsFor s adopts = []
 
 -- of what the answer to a call says of a berth, the side's part: the word for a frame of its own, its own code of a tick, that it takes a

@@ -61,27 +61,27 @@ see-rx b = ap (λ (v : Val). vstruct (ofList (v ∷ vint w32 (b .last) ∷ FX .v
 
 abbrev pub txTag : Tx → ℕ
 txTag Tx.Idle = 0
-txTag (Tx.SingleDue n t) = 1
-txTag (Tx.FirstDue n t) = 2
-txTag (Tx.AwaitsFlow o t) = 3
-txTag (Tx.Consecutive o t) = 4
+txTag (Tx.SingleDue party n t) = 1
+txTag (Tx.FirstDue party n t) = 2
+txTag (Tx.AwaitsFlow party o t) = 3
+txTag (Tx.Consecutive party o t) = 4
 
 abbrev pub txFields : Tx → Vals
 txFields Tx.Idle = vnil
-txFields (Tx.SingleDue n t) = vcons (vint w32 n) (vcons (vint w16 t) vnil)
-txFields (Tx.FirstDue n t) = vcons (vint w32 n) (vcons (vint w16 t) vnil)
-txFields (Tx.AwaitsFlow o t) = vcons (FD .val o) (vcons (vint w16 t) vnil)
-txFields (Tx.Consecutive o t) = vcons (FD .val o) (vcons (vint w16 t) vnil)
+txFields (Tx.SingleDue party n t) = vcons (vint w32 n) (vcons (vint w16 t) vnil)
+txFields (Tx.FirstDue party n t) = vcons (vint w32 n) (vcons (vint w16 t) vnil)
+txFields (Tx.AwaitsFlow party o t) = vcons (FD .val o) (vcons (vint w16 t) vnil)
+txFields (Tx.Consecutive party o t) = vcons (FD .val o) (vcons (vint w16 t) vnil)
 
 abbrev pub txSeen : Berth → Val
 txSeen b = vstruct (ofList (FR .val (b .rx) ∷ vint w32 (b .last) ∷ live (txTag (b .tx)) (txFields (b .tx)) ∷ FO .val (b .settings) ∷ []))
 
 tx-is : (tx : Tx) → FX .val tx ≡ live (txTag tx) (txFields tx)
 tx-is Tx.Idle = refl
-tx-is (Tx.SingleDue n t) = refl
-tx-is (Tx.FirstDue n t) = refl
-tx-is (Tx.AwaitsFlow o t) = refl
-tx-is (Tx.Consecutive o t) = refl
+tx-is (Tx.SingleDue party n t) = refl
+tx-is (Tx.FirstDue party n t) = refl
+tx-is (Tx.AwaitsFlow party o t) = refl
+tx-is (Tx.Consecutive party o t) = refl
 
 pub see-tx : (b : Berth) → FB .val b ≡ txSeen b
 see-tx b = ap (λ (v : Val). vstruct (ofList (FR .val (b .rx) ∷ vint w32 (b .last) ∷ v ∷ FO .val (b .settings) ∷ []))) (tx-is (b .tx))
@@ -114,38 +114,38 @@ as-rx-Awaits (Rx.Awaits p t) e = (p, (t, refl))
 
 pub as-tx-Idle : (tx : Tx) → txTag tx ≡ 0 → tx ≡ Tx.Idle
 as-tx-Idle Tx.Idle e = refl
-as-tx-Idle (Tx.SingleDue n t) e = absurd (omega arith)
-as-tx-Idle (Tx.FirstDue n t) e = absurd (omega arith)
-as-tx-Idle (Tx.AwaitsFlow o t) e = absurd (omega arith)
-as-tx-Idle (Tx.Consecutive o t) e = absurd (omega arith)
+as-tx-Idle (Tx.SingleDue party n t) e = absurd (omega arith)
+as-tx-Idle (Tx.FirstDue party n t) e = absurd (omega arith)
+as-tx-Idle (Tx.AwaitsFlow party o t) e = absurd (omega arith)
+as-tx-Idle (Tx.Consecutive party o t) e = absurd (omega arith)
 
-pub as-tx-SingleDue : (tx : Tx) → txTag tx ≡ 1 → (n : ℕ) × ((t : ℕ) × (tx ≡ Tx.SingleDue n t))
+pub as-tx-SingleDue : (tx : Tx) → txTag tx ≡ 1 → (n : ℕ) × ((t : ℕ) × (tx ≡ Tx.SingleDue party n t))
 as-tx-SingleDue Tx.Idle e = absurd (omega arith)
-as-tx-SingleDue (Tx.SingleDue n t) e = (n, (t, refl))
-as-tx-SingleDue (Tx.FirstDue n t) e = absurd (omega arith)
-as-tx-SingleDue (Tx.AwaitsFlow o t) e = absurd (omega arith)
-as-tx-SingleDue (Tx.Consecutive o t) e = absurd (omega arith)
+as-tx-SingleDue (Tx.SingleDue party n t) e = (n, (t, refl))
+as-tx-SingleDue (Tx.FirstDue party n t) e = absurd (omega arith)
+as-tx-SingleDue (Tx.AwaitsFlow party o t) e = absurd (omega arith)
+as-tx-SingleDue (Tx.Consecutive party o t) e = absurd (omega arith)
 
-pub as-tx-FirstDue : (tx : Tx) → txTag tx ≡ 2 → (n : ℕ) × ((t : ℕ) × (tx ≡ Tx.FirstDue n t))
+pub as-tx-FirstDue : (tx : Tx) → txTag tx ≡ 2 → (n : ℕ) × ((t : ℕ) × (tx ≡ Tx.FirstDue party n t))
 as-tx-FirstDue Tx.Idle e = absurd (omega arith)
-as-tx-FirstDue (Tx.SingleDue n t) e = absurd (omega arith)
-as-tx-FirstDue (Tx.FirstDue n t) e = (n, (t, refl))
-as-tx-FirstDue (Tx.AwaitsFlow o t) e = absurd (omega arith)
-as-tx-FirstDue (Tx.Consecutive o t) e = absurd (omega arith)
+as-tx-FirstDue (Tx.SingleDue party n t) e = absurd (omega arith)
+as-tx-FirstDue (Tx.FirstDue party n t) e = (n, (t, refl))
+as-tx-FirstDue (Tx.AwaitsFlow party o t) e = absurd (omega arith)
+as-tx-FirstDue (Tx.Consecutive party o t) e = absurd (omega arith)
 
-pub as-tx-AwaitsFlow : (tx : Tx) → txTag tx ≡ 3 → (o : Sending) × ((t : ℕ) × (tx ≡ Tx.AwaitsFlow o t))
+pub as-tx-AwaitsFlow : (tx : Tx) → txTag tx ≡ 3 → (o : Sending) × ((t : ℕ) × (tx ≡ Tx.AwaitsFlow party o t))
 as-tx-AwaitsFlow Tx.Idle e = absurd (omega arith)
-as-tx-AwaitsFlow (Tx.SingleDue n t) e = absurd (omega arith)
-as-tx-AwaitsFlow (Tx.FirstDue n t) e = absurd (omega arith)
-as-tx-AwaitsFlow (Tx.AwaitsFlow o t) e = (o, (t, refl))
-as-tx-AwaitsFlow (Tx.Consecutive o t) e = absurd (omega arith)
+as-tx-AwaitsFlow (Tx.SingleDue party n t) e = absurd (omega arith)
+as-tx-AwaitsFlow (Tx.FirstDue party n t) e = absurd (omega arith)
+as-tx-AwaitsFlow (Tx.AwaitsFlow party o t) e = (o, (t, refl))
+as-tx-AwaitsFlow (Tx.Consecutive party o t) e = absurd (omega arith)
 
-pub as-tx-Consecutive : (tx : Tx) → txTag tx ≡ 4 → (o : Sending) × ((t : ℕ) × (tx ≡ Tx.Consecutive o t))
+pub as-tx-Consecutive : (tx : Tx) → txTag tx ≡ 4 → (o : Sending) × ((t : ℕ) × (tx ≡ Tx.Consecutive party o t))
 as-tx-Consecutive Tx.Idle e = absurd (omega arith)
-as-tx-Consecutive (Tx.SingleDue n t) e = absurd (omega arith)
-as-tx-Consecutive (Tx.FirstDue n t) e = absurd (omega arith)
-as-tx-Consecutive (Tx.AwaitsFlow o t) e = absurd (omega arith)
-as-tx-Consecutive (Tx.Consecutive o t) e = (o, (t, refl))
+as-tx-Consecutive (Tx.SingleDue party n t) e = absurd (omega arith)
+as-tx-Consecutive (Tx.FirstDue party n t) e = absurd (omega arith)
+as-tx-Consecutive (Tx.AwaitsFlow party o t) e = absurd (omega arith)
+as-tx-Consecutive (Tx.Consecutive party o t) e = (o, (t, refl))
 
 pub rx-seen : (b : Berth) {y : Rx} → b .rx ≡ y → FB .val b ≡ vstruct (ofList (FR .val y ∷ vint w32 (b .last) ∷ FX .val (b .tx) ∷ FO .val (b .settings) ∷ []))
 rx-seen b e = ap (λ (z : Rx). vstruct (ofList (FR .val z ∷ vint w32 (b .last) ∷ FX .val (b .tx) ∷ FO .val (b .settings) ∷ []))) e

@@ -152,10 +152,10 @@ fn message_at(node: &Node, k: usize) -> bool
 {
     match node.berths[k].tx {
         Tx::Idle => false,
-        Tx::SingleDue(_, _) => true,
-        Tx::FirstDue(_, _) => true,
-        Tx::AwaitsFlow(_, _) => false,
-        Tx::Consecutive(Sending { left: left, .. }, _) => left == 0,
+        Tx::SingleDue(_, _, _) => true,
+        Tx::FirstDue(_, _, _) => true,
+        Tx::AwaitsFlow(_, _, _) => false,
+        Tx::Consecutive(_, Sending { left: left, .. }, _) => left == 0,
     }
 }
 

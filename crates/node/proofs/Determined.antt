@@ -40,7 +40,7 @@ module _ (n : Node) (n′ : Node) where
 
   pub send-is : (outgoing outgoing′ : List ℕ) (k : ℕ) (m : List ℕ) (a : SendAnswer) → SendPromise n outgoing k m a n′ outgoing′
       → (cards : List Card) (incoming : List ℕ)
-      → left (sendSays a) (lent n′ cards incoming outgoing′) [] ≡ outcome (lent n cards incoming outgoing) (send k m)
+      → left (sendSays a) (lent n′ cards incoming outgoing′) [] ≡ outcome (lent n cards incoming outgoing) (send k party m)
   send-is outgoing outgoing′ k m a p cards incoming = same (p cards incoming)
 
   pub change-is : (k parameter value : ℕ) (a : ChangeAnswer) → ChangePromise n k parameter value a n′ → (cards : List Card) (incoming outgoing : List ℕ)

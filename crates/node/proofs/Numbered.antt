@@ -45,12 +45,12 @@ module _ (n : Node) where
 
   -- the send side is berth k's, where there is one
   pub send-found : (tx : Tx) (k : ℕ) (outgoing m : List ℕ) → (k < berthCount → tx ≡ berthAt n k .tx) → (cards : List Card) (incoming : List ℕ)
-      → sendRefusal (inOrder n) (n .settings .area) tx (length outgoing) k (length m) ≡ refusal (lent n cards incoming outgoing) (send k m)
+      → sendRefusal (inOrder n) (n .settings .area) tx (length outgoing) k (length m) ≡ refusal (lent n cards incoming outgoing) (send k party m)
   unfolding sendRefusal refusal needs rightStore firstUnmet
   send-found tx k outgoing m side cards incoming = go (ltb-cases k berthCount)
     where
       go : Tested (ltb k berthCount) (k < berthCount) (berthCount ≤ k)
-          → sendRefusal (inOrder n) (n .settings .area) tx (length outgoing) k (length m) ≡ refusal (lent n cards incoming outgoing) (send k m)
+          → sendRefusal (inOrder n) (n .settings .area) tx (length outgoing) k (length m) ≡ refusal (lent n cards incoming outgoing) (send k party m)
       go (holds e l) = rw (side l)
       go (fails e l) = rw e
 
@@ -111,9 +111,9 @@ module _ (n : Node) (number : ℕ) (some : number ≡ 0 → ⊥) where
   refused-frame cards incoming id d e a says = λ outgoing. refuses (lent n cards incoming outgoing) (frame id d) number some says refl (e outgoing)
 
   pub refused-send : (outgoing : List ℕ) (k : ℕ) (m : List ℕ)
-      → ((cards : List Card) (incoming : List ℕ) → number ≡ refusal (lent n cards incoming outgoing) (send k m))
+      → ((cards : List Card) (incoming : List ℕ) → number ≡ refusal (lent n cards incoming outgoing) (send k party m))
       → (a : SendAnswer) → sendSays a ≡ refused number → SendPromise n outgoing k m a n outgoing
-  refused-send outgoing k m e a says = λ cards incoming. refuses (lent n cards incoming outgoing) (send k m) number some says refl (e cards incoming)
+  refused-send outgoing k m e a says = λ cards incoming. refuses (lent n cards incoming outgoing) (send k party m) number some says refl (e cards incoming)
 
   pub refused-turn : (cards : List Card) (outgoing buffer : List ℕ)
       → ((incoming : List ℕ) → number ≡ refusal (lent n cards incoming outgoing) (turn buffer))

@@ -66,7 +66,7 @@ replied : (h : Held) (c : Call) (number : ℕ) → reply h c ≡ refused number 
 unfolding reply
 replied h (frame id d) number = λ e. clash (cc)
 replied h tick number = λ e. clash (cc)
-replied h (send k m) number = λ e. clash (cc)
+replied h (send k party m) number = λ e. clash (cc)
 replied h (turn buffer) number = pick-either (λ (a : Answer). a ≡ refused number → ⊥) (ltb (passedOver (h .node)) berthCount) _ _ (λ t e. clash (cc)) (λ t e. clash (cc))
 replied h (show k choice) number = λ e. clash (cc)
 replied h (change k parameter value) number = λ e. clash (cc)
@@ -86,10 +86,10 @@ module _ (h : Held) (n : Node) (number : ℕ) where
   unfolding tickSays
   not-refusing-tick a cards e r p = replied h tick (suc number) (sym (ap (λ (o : Outcome). o .answer) (answered h tick e (p .agrees (h .incoming) (h .outgoing)))) ∙ rw r)
 
-  pub not-refusing-send : (k : ℕ) (m outgoing : List ℕ) → refusal h (send k m) ≡ 0
+  pub not-refusing-send : (k : ℕ) (m outgoing : List ℕ) → refusal h (send k party m) ≡ 0
       → SendPromise (h .node) (h .outgoing) k m (SendAnswer.Refused number) n outgoing → ⊥
   unfolding sendSays
-  not-refusing-send k m outgoing e p = never (send k m) e (p (h .cards) (h .incoming))
+  not-refusing-send k party m outgoing e p = never (send k party m) e (p (h .cards) (h .incoming))
 
   pub not-refusing-turn : (buffer buffer′ : List ℕ) (cards : List Card) → refusal h (turn buffer) ≡ 0
       → TurnPromise (h .node) (h .cards) (h .outgoing) buffer (TurnAnswer.Refused number) n cards buffer′ → ⊥
@@ -125,7 +125,7 @@ named ready = 0
 named (heard k old w) = getD (wordPaper w) 1 0
 named (codes cs) = 0
 named (sent k) = k
-named (handed id f c passed) = passed
+named (handed id f c passed party) = passed
 named (none passed) = passed
 named (shown part) = length part
 named (changed k) = k
@@ -169,12 +169,12 @@ not-fixed-bytes h id x y ne e f incoming =
 
 -- A FIXED ANSWER TO A SEND, A CHANGE, A TURN, A TICK, A SET-UP; A FIXED PART: of two calls with another berth, another number passed over, one
 -- in order and one not, allowed settings and others, and a part of another length, one shuts it out
-pub not-fixed-send : (h : Held) (j k : ℕ) (m : List ℕ) → (j ≡ k → ⊥) → refusal h (send j m) ≡ 0 → refusal h (send k m) ≡ 0 → (a : SendAnswer)
+pub not-fixed-send : (h : Held) (j k : ℕ) (m : List ℕ) → (j ≡ k → ⊥) → refusal h (send j party m) ≡ 0 → refusal h (send k party m) ≡ 0 → (a : SendAnswer)
     → (i : ℕ) × ((n : Node) × (outgoing : List ℕ) × SendPromise (h .node) (h .outgoing) i m a n outgoing → ⊥)
 unfolding reply
 not-fixed-send h j k m ne e f a =
     not-both (λ i. (n : Node) × (outgoing : List ℕ) × SendPromise (h .node) (h .outgoing) i m a n outgoing) j k (named (sendSays a)) j k ne
-    (λ p. names h (send j m) e (p .2 (h .cards) (h .incoming))) (λ p. names h (send k m) f (p .2 (h .cards) (h .incoming)))
+    (λ p. names h (send j party m) e (p .2 (h .cards) (h .incoming))) (λ p. names h (send k party m) f (p .2 (h .cards) (h .incoming)))
 
 pub not-fixed-change : (h : Held) (j k parameter value : ℕ) → (j ≡ k → ⊥) → refusal h (change j parameter value) ≡ 0
     → refusal h (change k parameter value) ≡ 0 → (a : ChangeAnswer) → (i : ℕ) × ((n : Node) × ChangePromise (h .node) i parameter value a n → ⊥)
@@ -251,15 +251,15 @@ rx-still (Rx.Awaits p t) e = ended-still t (λ u. Rx.Awaits p u) Rx.Idle (λ q. 
 
 tx-still : (tx : Tx) → txTicked tx ≡ tx → tx ≡ Tx.Idle
 tx-still Tx.Idle e = refl
-tx-still (Tx.SingleDue n t) e = ended-still t (λ u. Tx.SingleDue n u) Tx.Idle (λ q. cc) e
-tx-still (Tx.FirstDue n t) e = ended-still t (λ u. Tx.FirstDue n u) Tx.Idle (λ q. cc) e
-tx-still (Tx.AwaitsFlow o t) e = ended-still t (λ u. Tx.AwaitsFlow o u) Tx.Idle (λ q. cc) e
-tx-still (Tx.Consecutive o t) e = go (eqb-cases (o .left) 0)
+tx-still (Tx.SingleDue party n t) e = ended-still t (λ u. Tx.SingleDue party n u) Tx.Idle (λ q. cc) e
+tx-still (Tx.FirstDue party n t) e = ended-still t (λ u. Tx.FirstDue party n u) Tx.Idle (λ q. cc) e
+tx-still (Tx.AwaitsFlow party o t) e = ended-still t (λ u. Tx.AwaitsFlow party o u) Tx.Idle (λ q. cc) e
+tx-still (Tx.Consecutive party o t) e = go (eqb-cases (o .left) 0)
   where
-    go : Tested (eqb (o .left) 0) (o .left ≡ 0) (o .left ≡ 0 → ⊥) → Tx.Consecutive o t ≡ Tx.Idle
-    go (holds z l) = ended-still t (λ u. Tx.Consecutive o u) Tx.Idle (λ q. cc) (rw z at e)
+    go : Tested (eqb (o .left) 0) (o .left ≡ 0) (o .left ≡ 0 → ⊥) → Tx.Consecutive party o t ≡ Tx.Idle
+    go (holds z l) = ended-still t (λ u. Tx.Consecutive party o u) Tx.Idle (λ q. cc) (rw z at e)
     go (fails z l) =
-        let f : Tx.Consecutive (closer o) t ≡ Tx.Consecutive o t = rw z at e in
+        let f : Tx.Consecutive party (closer o) t ≡ Tx.Consecutive party o t = rw z at e in
         let g : closer o ≡ o = cc in
         let m : o .left - 1 ≡ o .left = ap (λ (x : Sending). x .left) g in
         absurd (l (omega arith))
@@ -320,7 +320,7 @@ module _ (h : Held) (id : ℕ) (d : List ℕ) (a : FrameAnswer) (n : Node) (card
       differ (stood-before (areaOf (h .node .settings .area) (senderOf id) (h .incoming)) _ _ (omega (arith, answered-inside h id d e)) (sym (area-after p) ∙ kept))
 
 -- so is it at every send that the paper answers, whose message differs from the bytes at the front of the area
-pub not-idle-message : (h : Held) (k : ℕ) (m : List ℕ) (a : SendAnswer) (n : Node) (outgoing : List ℕ) → refusal h (send k m) ≡ 0
+pub not-idle-message : (h : Held) (k : ℕ) (m : List ℕ) (a : SendAnswer) (n : Node) (outgoing : List ℕ) → refusal h (send k party m) ≡ 0
     → (take (length m) (areaOf (h .node .settings .area) k (h .outgoing)) ≡ m → ⊥)
     → areaOf (h .node .settings .area) k outgoing ≡ areaOf (h .node .settings .area) k (h .outgoing)
     → SendPromise (h .node) (h .outgoing) k m a n outgoing → ⊥
@@ -328,7 +328,7 @@ unfolding done
 not-idle-message h k m a n outgoing e differ kept p =
     let ok = send-answered h k m e in
     let fits = ok .fits in
-    let after = ap (λ (o : Outcome). areaOf (h .node .settings .area) k (o .held .outgoing)) (answered h (send k m) e (p (h .cards) (h .incoming)))
+    let after = ap (λ (o : Outcome). areaOf (h .node .settings .area) k (o .held .outgoing)) (answered h (send k party m) e (p (h .cards) (h .incoming)))
     ∙ area-same (h .node .settings .area) k 0 m (h .outgoing) (omega arith) in
     let room = area-length (h .node .settings .area) k (h .outgoing) (ok .mine) (ok .store) in
     differ (stood-before (areaOf (h .node .settings .area) k (h .outgoing)) 0 m (omega arith) (sym after ∙ kept))

@@ -37,10 +37,10 @@ last-fits s bs last (Rx.Awaits p t) h = omega arith
 
 sending-fits : (s : Settings) (tx : Tx) → leastArea ≤ s .area → TxRange s tx → lengthSending tx ≤ s .area
 sending-fits s Tx.Idle l h = omega arith
-sending-fits s (Tx.SingleDue n t) l h = omega arith
-sending-fits s (Tx.FirstDue n t) l h = omega arith
-sending-fits s (Tx.AwaitsFlow o t) l h = h .0 .length-most
-sending-fits s (Tx.Consecutive o t) l h = h .0 .length-most
+sending-fits s (Tx.SingleDue party n t) l h = omega arith
+sending-fits s (Tx.FirstDue party n t) l h = omega arith
+sending-fits s (Tx.AwaitsFlow party o t) l h = h .0 .length-most
+sending-fits s (Tx.Consecutive party o t) l h = h .0 .length-most
 
 pub shown-fits : (s : Settings) (b : Berth) (choice : Choice) → leastArea ≤ s .area → BerthRange s b
     → chosen choice (b .last) (lengthSending (b .tx)) ≤ s .area

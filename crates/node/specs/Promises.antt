@@ -60,7 +60,7 @@ pub record TickPromise (n : Node) (cards : List Card) (a : TickAnswer) (n′ : N
 abbrev pub SendPromise : Node → List ℕ → ℕ → List ℕ → SendAnswer → Node → List ℕ → Type 0
 SendPromise n outgoing k m a n′ outgoing′ =
     (cards : List Card) (incoming : List ℕ) →
-    Agrees (left (sendSays a) (lent n′ cards incoming outgoing′) []) (outcome (lent n cards incoming outgoing) (send k m))
+    Agrees (left (sendSays a) (lent n′ cards incoming outgoing′) []) (outcome (lent n cards incoming outgoing) (send k party m))
 
 abbrev pub TurnPromise : Node → List Card → List ℕ → List ℕ → TurnAnswer → Node → List Card → List ℕ → Type 0
 TurnPromise n cards outgoing buffer a n′ cards′ buffer′ =

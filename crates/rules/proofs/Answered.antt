@@ -8,7 +8,7 @@ use lib.ListN.{length}
 use lib.Dec.{T, ltb, leb}
 use mir.Facts.{leb-yes, ltb-yes, eqb-yes}
 use Rattle.rules.specs.Tests.{Need, firstUnmet}
-use Rattle.rules.specs.Numbers.{berthCount, fromBerth, mostData, leastBuffer}
+use Rattle.rules.specs.Numbers.{berthCount, fromBerth, mostData, leastBuffer, theLaptop}
 use Rattle.rules.specs.Nodes.{berthAt, Held}
 use Rattle.rules.specs.Ranges.{inOrder}
 use Rattle.rules.specs.Turns.{busy}
@@ -47,23 +47,24 @@ frame-answered h id d e =
     let below : id < fromBerth + berthCount = ltb-yes (and-right (leb fromBerth id) (ltb id (fromBerth + berthCount)) r3) in
     record { order = r1; store = r2; ten = eqb-yes r12; known = from; mine = omega arith; short = leb-yes (met _ _ _ e3 .0) }
 
-pub record SendAnswered (h : Held) (k : ℕ) (m : List ℕ) : Type 0 where
+pub record SendAnswered (h : Held) (k party : ℕ) (m : List ℕ) : Type 0 where
   pub order : T (inOrder (h .node))
   pub store : length (h .outgoing) ≡ berthCount * h .node .settings .area
   pub mine : k < berthCount
+  pub allowed : party ≤ theLaptop
   pub some : 1 ≤ length m
   pub fits : length m ≤ h .node .settings .area
   pub free : T (not (busy (berthAt (h .node) k .tx)))
 
-pub send-answered : (h : Held) (k : ℕ) (m : List ℕ) → refusal h (Call.send k m) ≡ 0 → SendAnswered h k m
+pub send-answered : (h : Held) (k party : ℕ) (m : List ℕ) → refusal h (Call.send k party m) ≡ 0 → SendAnswered h k party m
 unfolding refusal needs
-send-answered h k m e =
+send-answered h k party m e =
     let (r1, r2, e2) = first-two (h .node) (h .outgoing) _ e in
-    let (r3, e3) = met _ _ _ e2 in
-    let (r4, e4) = met _ _ _ e3 in
-    let (r5, e5) = met _ _ _ e4 in
-    let (r6, e6) = met _ _ _ e5 in
-    record { order = r1; store = r2; mine = ltb-yes r3; some = ltb-yes r4; fits = leb-yes r5; free = r6 }
+    let (r5, e5) = met _ _ _ e2 in
+    let (r18, e18) = met _ _ _ e5 in
+    let (r6, e6) = met _ _ _ e18 in
+    let (r7, e7) = met _ _ _ e6 in
+    record { order = r1; store = r2; mine = ltb-yes r5; allowed = leb-yes r18; some = ltb-yes r6; fits = leb-yes r7; free = met _ _ _ e7 .0 }
 
 pub record TurnAnswered (h : Held) (buffer : List ℕ) : Type 0 where
   pub order : T (inOrder (h .node))

@@ -16,14 +16,14 @@ wordRead l =
     let v = getD l 1 0 in
     pick (eqb n 1) (Delivered v)
     (pick (eqb n 2) (Begun v)
-    (pick (eqb n 3) (Failed v)
+    (pick (eqb n 3) (Failed v (record { 0 = getD l 2 0 }))
     (pick (eqb n 4) (Ignored v) (pick (eqb n 5) TooLong (pick (eqb n 6) Took (pick (eqb n 7) Going Waiting))))))
 
 word-back : (w : Word) → wordRead (wordPaper w) ≡ w
 unfolding wordRead wordPaper
 word-back (Delivered n) = refl
 word-back (Begun n) = refl
-word-back (Failed c) = refl
+word-back (Failed c party) = refl
 word-back (Ignored i) = refl
 word-back TooLong = refl
 word-back Took = refl
@@ -33,7 +33,8 @@ word-back Waiting = refl
 codesRead : List ℕ → List Codes
 codesRead [] = []
 codesRead (r ∷ []) = []
-codesRead (r ∷ s ∷ l) = record { receive = r; send = s } ∷ codesRead l
+codesRead (r ∷ s ∷ []) = []
+codesRead (r ∷ s ∷ p ∷ l) = record { receive = r; send = s; party = record { 0 = p } } ∷ codesRead l
 
 codes-back : (cs : List Codes) → codesRead (codesPaper cs) ≡ cs
 unfolding codesRead codesPaper
@@ -48,7 +49,7 @@ paperRead p =
     (pick (eqb (p .number) 2) (heard (v 0) (v 1) (wordRead (drop 2 (p .values))))
     (pick (eqb (p .number) 3) (codes (codesRead (p .values)))
     (pick (eqb (p .number) 4) (sent (v 0))
-    (pick (eqb (p .number) 5) (handed (v 0) (drop 3 (p .values)) (v 1) (v 2))
+    (pick (eqb (p .number) 5) (handed (v 0) (drop 4 (p .values)) (v 1) (v 2) (record { 0 = v 3 }))
     (pick (eqb (p .number) 6) (none (v 0)) (pick (eqb (p .number) 7) (shown (p .values)) (changed (v 0)))))))))
 
 paper-back : (a : Answer) → paperRead (paperOf a) ≡ a
@@ -58,7 +59,7 @@ paper-back ready = refl
 paper-back (heard k old w) = ap (heard k old) (word-back w)
 paper-back (codes cs) = ap codes (codes-back cs)
 paper-back (sent k) = refl
-paper-back (handed id frame code passed) = refl
+paper-back (handed id frame code passed party) = refl
 paper-back (none passed) = refl
 paper-back (shown part) = refl
 paper-back (changed k) = refl

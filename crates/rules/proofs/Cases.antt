@@ -1,7 +1,7 @@
 -- From a test to its fact and back; cases on a test with the fact in hand; a call whose needs are all met.
 use mathlib.Core.Path.{_≡_, refl}
 use mathlib.Core.Logic.{_⊎_, inl, inr}
-use Prim.Native.Nat.{ℕ, zero, suc, _≤_, _<_}
+use Prim.Native.Nat.{ℕ, zero, suc, _+_, _≤_, _<_}
 use native.Mathlib.Omega.{arith}
 use native.Mathlib.Decide.{decLe}
 use native.Mathlib.Nat.{lt-of-not-le}
@@ -10,6 +10,8 @@ use mathlib.Core.List.{List, [], _∷_, _++_}
 use lib.ListN.{length, getD}
 use lib.Dec.{T, eqb, ltb, leb, leb→le, ltb→lt, eqb→eq, le→leb, lt→ltb, nleb→lt, nltb→le}
 use mir.Facts.{eqb-yes, eqb-no, ltb-yes, ltb-no, leb-yes, leb-no, yes-eqb, no-eqb, yes-leb, no-leb, yes-ltb, no-ltb, yes-and}
+use Rattle.rules.specs.Numbers.{timeout}
+use Rattle.rules.specs.Ticks.{ran}
 use Rattle.rules.specs.Tests.{pick, all, each, Need, need, firstUnmet}
 
 -- ---- a test and its value
@@ -91,6 +93,11 @@ split a b f g = elim (decLe a b) [ yes h ↦ f h | no h ↦ g (lt-of-not-le h) ]
 pub pick-either {ℓ κ} : {X : Type ℓ} (P : X → Type κ) (b : Bool) (x y : X) → (T b → P x) → (T (not b) → P y) → P (pick b x y)
 pick-either P true x y f g = f tt
 pick-either P false x y f g = g tt
+
+-- a timer goes on below 1,000 or the side ends
+pub ran-either : {X : Type 0} (P : X → Type 0) (t : ℕ) (on : ℕ → X) (ended : X) → (t + 1 < timeout → P (on (t + 1))) → P ended → P (ran t on ended)
+unfolding ran
+ran-either P t on ended f g = pick-either P (ltb (t + 1) timeout) _ _ (λ u. f (ltb-yes u)) (λ u. g)
 
 -- what is made of a choice is chosen
 pub pick-ap : {X Y : Type 0} (f : X → Y) (b : Bool) (x y : X) → f (pick b x y) ≡ pick b (f x) (f y)

@@ -14,6 +14,7 @@ use Rattle.rules.specs.Answers.{Side, receive, send, reported}
 use Rattle.rules.specs.Cards.{underWay}
 use Rattle.rules.specs.Clocks.{Idle, Clock, still, runs, rxClock, txClock, clockOf, timeLeft, mostTime, endCode, tickCode, codeAt, codeWithin}
 use Rattle.rules.specs.declared.Settings.{Settings}
+use Rattle.rules.specs.declared.Party.{Party}
 use Rattle.rules.specs.declared.Rx.{Rx}
 use Rattle.rules.specs.declared.Tx.{Tx}
 use Rattle.rules.specs.declared.Berth.{Berth}
@@ -44,12 +45,12 @@ rx-ticked (Rx.Awaits p t) = pick-ap rxClock (ltb (t + 1) timeout) _ _
 tx-ticked : (tx : Tx) → txClock (txTicked tx) ≡ clockTicked (txClock tx)
 unfolding ran
 tx-ticked Tx.Idle = refl
-tx-ticked (Tx.SingleDue n t) = pick-ap txClock (ltb (t + 1) timeout) _ _
-tx-ticked (Tx.FirstDue n t) = pick-ap txClock (ltb (t + 1) timeout) _ _
-tx-ticked (Tx.AwaitsFlow o t) = pick-ap txClock (ltb (t + 1) timeout) _ _
-tx-ticked (Tx.Consecutive o t) = go (eqb-cases (o .left) 0)
+tx-ticked (Tx.SingleDue party n t) = pick-ap txClock (ltb (t + 1) timeout) _ _
+tx-ticked (Tx.FirstDue party n t) = pick-ap txClock (ltb (t + 1) timeout) _ _
+tx-ticked (Tx.AwaitsFlow party o t) = pick-ap txClock (ltb (t + 1) timeout) _ _
+tx-ticked (Tx.Consecutive party o t) = go (eqb-cases (o .left) 0)
   where
-    go : Tested (eqb (o .left) 0) (o .left ≡ 0) (o .left ≡ 0 → ⊥) → txClock (txTicked (Tx.Consecutive o t)) ≡ clockTicked (txClock (Tx.Consecutive o t))
+    go : Tested (eqb (o .left) 0) (o .left ≡ 0) (o .left ≡ 0 → ⊥) → txClock (txTicked (Tx.Consecutive party o t)) ≡ clockTicked (txClock (Tx.Consecutive party o t))
     go (holds e z) = rw (e, z) (pick-ap txClock (ltb (t + 1) timeout) _ _)
     go (fails e z) = rw e (ap (λ (g : ℕ). runs g t N-TIMEOUT-A) (omega arith))
 
@@ -71,10 +72,10 @@ code-ticked send b = tx (b .tx)
   where
     tx : (tx : Tx) → txCode tx ≡ codeNow (txClock tx)
     tx Tx.Idle = refl
-    tx (Tx.SingleDue n t) = refl
-    tx (Tx.FirstDue n t) = refl
-    tx (Tx.AwaitsFlow o t) = refl
-    tx (Tx.Consecutive o t) = refl
+    tx (Tx.SingleDue party n t) = refl
+    tx (Tx.FirstDue party n t) = refl
+    tx (Tx.AwaitsFlow party o t) = refl
+    tx (Tx.Consecutive party o t) = refl
 
 -- ---- the three things that a tick can do to a side in range: it goes on with one less left, it ends and says its code, or it is idle
 
@@ -197,10 +198,10 @@ in-time st b r send = go (b .tx) (r .send)
   where
     go : (tx : Tx) → TxRange st tx → InTime (txClock tx)
     go Tx.Idle q = tt
-    go (Tx.SingleDue n t) q = (omega arith, q .2)
-    go (Tx.FirstDue n t) q = (omega arith, q .2)
-    go (Tx.AwaitsFlow o t) q = (omega arith, q .3)
-    go (Tx.Consecutive o t) q = (q .0 .left-most, q .2)
+    go (Tx.SingleDue party n t) q = (omega arith, q .2)
+    go (Tx.FirstDue party n t) q = (omega arith, q .2)
+    go (Tx.AwaitsFlow party o t) q = (omega arith, q .3)
+    go (Tx.Consecutive party o t) q = (q .0 .left-most, q .2)
 
 -- it has at most 1,128 ticks left
 pub time-most : (c : Clock) → InTime c → timeLeft c ≤ mostTime
@@ -229,35 +230,35 @@ over-idle send b r e = go (b .tx) r e
   where
     go : (tx : Tx) → InTime (txClock tx) → timeLeft (txClock tx) ≡ 0 → tx ≡ Tx.Idle
     go Tx.Idle q z = refl
-    go (Tx.SingleDue n t) q z = absurd (omega (arith, q .1, z))
-    go (Tx.FirstDue n t) q z = absurd (omega (arith, q .1, z))
-    go (Tx.AwaitsFlow o t) q z = absurd (omega (arith, q .1, z))
-    go (Tx.Consecutive o t) q z = absurd (omega (arith, q .1, z))
+    go (Tx.SingleDue party n t) q z = absurd (omega (arith, q .1, z))
+    go (Tx.FirstDue party n t) q z = absurd (omega (arith, q .1, z))
+    go (Tx.AwaitsFlow party o t) q z = absurd (omega (arith, q .1, z))
+    go (Tx.Consecutive party o t) q z = absurd (omega (arith, q .1, z))
 
 -- A SIDE THAT IS NOT IDLE HAS A CODE TO REPORT, an idle one none
-pub one-report : (k : ℕ) (s : Side) (b : Berth) → (Idle s b → ⊥)
-    → reported k s (endCode (clockOf s b)) ≡ record { berth = k; side = s; code = endCode (clockOf s b) } ∷ []
+pub one-report : (k : ℕ) (s : Side) (b : Berth) (party : Party) → (Idle s b → ⊥)
+    → reported k s (endCode (clockOf s b)) party ≡ record { berth = k; side = s; code = endCode (clockOf s b); party = party } ∷ []
 unfolding reported
-one-report k receive b some = go (b .rx) some
+one-report k receive b party some = go (b .rx) some
   where
-    go : (rx : Rx) → (rx ≡ Rx.Idle → ⊥) → reported k receive (endCode (rxClock rx)) ≡ record { berth = k; side = receive; code = endCode (rxClock rx) } ∷ []
+    go : (rx : Rx) → (rx ≡ Rx.Idle → ⊥) → reported k receive (endCode (rxClock rx)) party ≡ record { berth = k; side = receive; code = endCode (rxClock rx); party = party } ∷ []
     go Rx.Idle ne = absurd (ne refl)
     go (Rx.OwesOverflow t) ne = refl
     go (Rx.OwesGo p t) ne = refl
     go (Rx.Awaits p t) ne = refl
-one-report k send b some = go (b .tx) some
+one-report k send b party some = go (b .tx) some
   where
-    go : (tx : Tx) → (tx ≡ Tx.Idle → ⊥) → reported k send (endCode (txClock tx)) ≡ record { berth = k; side = send; code = endCode (txClock tx) } ∷ []
+    go : (tx : Tx) → (tx ≡ Tx.Idle → ⊥) → reported k send (endCode (txClock tx)) party ≡ record { berth = k; side = send; code = endCode (txClock tx); party = party } ∷ []
     go Tx.Idle ne = absurd (ne refl)
-    go (Tx.SingleDue n t) ne = refl
-    go (Tx.FirstDue n t) ne = refl
-    go (Tx.AwaitsFlow o t) ne = refl
-    go (Tx.Consecutive o t) ne = refl
+    go (Tx.SingleDue own n t) ne = refl
+    go (Tx.FirstDue own n t) ne = refl
+    go (Tx.AwaitsFlow own o t) ne = refl
+    go (Tx.Consecutive own o t) ne = refl
 
-pub no-report : (k : ℕ) (s : Side) (b : Berth) → Idle s b → reported k s (endCode (clockOf s b)) ≡ []
+pub no-report : (k : ℕ) (s : Side) (b : Berth) (party : Party) → Idle s b → reported k s (endCode (clockOf s b)) party ≡ []
 unfolding reported
-no-report k receive b e = rw e
-no-report k send b e = rw e
+no-report k receive b party e = rw e
+no-report k send b party e = rw e
 
 -- ---- what a tick counts
 

@@ -84,16 +84,16 @@ consecutive-even bs (Rx.Awaits p t) last d =
 flow-even : (rx : Rx) (tx : Tx) (d : List ℕ) → Even false rx 0 (flowCame tx d .word) rx
 unfolding byStatus flowIgnored
 flow-even rx Tx.Idle d = omega arith
-flow-even rx (Tx.SingleDue n t) d = omega arith
-flow-even rx (Tx.FirstDue n t) d = omega arith
-flow-even rx (Tx.AwaitsFlow o t) d =
+flow-even rx (Tx.SingleDue party n t) d = omega arith
+flow-even rx (Tx.FirstDue party n t) d = omega arith
+flow-even rx (Tx.AwaitsFlow party o t) d =
     let E : Told → Type 0 = λ told. Even false rx 0 (told .word) rx in
     pick-either E (flowFits d) _ _
     (λ u. pick-either E (eqb (low d) goStatus) _ _ (λ v. omega arith)
     (λ v. pick-either E (eqb (low d) waitStatus) _ _ (λ w. omega arith)
     (λ w. pick-either E (eqb (low d) overflowStatus) _ _ (λ x. omega arith) (λ x. omega arith))))
     (λ u. omega arith)
-flow-even rx (Tx.Consecutive o t) d = omega arith
+flow-even rx (Tx.Consecutive party o t) d = omega arith
 
 frame-even : (s : Settings) (b : Berth) (d : List ℕ)
     → Even (isSingle d) (b .rx) (frameCame s b d .old) (frameCame s b d .word) (frameCame s b d .berth .rx)
@@ -144,6 +144,6 @@ pub event-even : (s : Settings) (p : Part) (e : Event)
 unfolding adds frameAdds tickAdds turnAdds stateAfter partAfter
 event-even s p (arrives d) = omega (arith, frame-even s (p .berth) d)
 event-even s p ticks = unfold ticked in (omega (arith, tick-even (p .berth .rx)))
-event-even s p (sends m) = unfold sentBerth in (omega arith)
+event-even s p (sends party m) = unfold sentBerth in (omega arith)
 event-even s p turns = rw (turn-even (p .berth) (p .outgoing)) (omega arith)
 event-even s p (changes parameter value) = unfold changed in (omega arith)

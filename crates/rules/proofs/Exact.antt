@@ -167,7 +167,7 @@ module _ (h : Held) where
     ),
   )
   decides Call.tick = ((refl, omega arith), in-order-decided .0, in-order-decided .1, ((refl, omega arith), ten-cards .0, ten-cards .1, tt))
-  decides (Call.send k m) = (
+  decides (Call.send k party m) = (
     (refl, omega arith),
     in-order-decided .0,
     in-order-decided .1,
@@ -182,12 +182,17 @@ module _ (h : Held) where
         (
           (refl, omega arith),
           (λ t f. omega tests),
-          (λ t. omega tests),
+          (λ t. leb-no t),
           (
             (refl, omega arith),
             (λ t f. omega tests),
-            (λ t. leb-no t),
-            ((refl, omega arith), (λ t f. rw f at t), not-not (busy (berthAt (h .node) k .tx)), tt),
+            (λ t. omega tests),
+            (
+              (refl, omega arith),
+              (λ t f. omega tests),
+              (λ t. leb-no t),
+              ((refl, omega arith), (λ t f. rw f at t), not-not (busy (berthAt (h .node) k .tx)), tt),
+            ),
           ),
         ),
       ),
@@ -270,7 +275,7 @@ not-there n (c ∷ cs) t x =
 first-condition : (h : Held) (c : Call) → Holds (conditions h c) outOfOrder → InOrder (h .node) → ⊥
 first-condition h (Call.frame id d) x o = ⊎-elim (λ q. q .1 o) (not-there outOfOrder (drop 1 (conditions h (Call.frame id d))) tt) x
 first-condition h Call.tick x o = ⊎-elim (λ q. q .1 o) (not-there outOfOrder (drop 1 (conditions h Call.tick)) tt) x
-first-condition h (Call.send k m) x o = ⊎-elim (λ q. q .1 o) (not-there outOfOrder (drop 1 (conditions h (Call.send k m))) tt) x
+first-condition h (Call.send k party m) x o = ⊎-elim (λ q. q .1 o) (not-there outOfOrder (drop 1 (conditions h (Call.send k party m))) tt) x
 first-condition h (Call.turn buffer) x o = ⊎-elim (λ q. q .1 o) (not-there outOfOrder (drop 1 (conditions h (Call.turn buffer))) tt) x
 first-condition h (Call.show k choice) x o = x
 first-condition h (Call.change k q v) x o = ⊎-elim (λ y. y .1 o) (not-there outOfOrder (drop 1 (conditions h (Call.change k q v))) tt) x
@@ -290,7 +295,7 @@ never-unused h c e = not-there unused (conditions h c) (go c) (refuses-holds (co
     go : (c : Call) → T (absent unused (conditions h c))
     go (Call.frame id d) = tt
     go Call.tick = tt
-    go (Call.send k m) = tt
+    go (Call.send k party m) = tt
     go (Call.turn buffer) = tt
     go (Call.show k choice) = tt
     go (Call.change k parameter value) = tt

@@ -21,6 +21,7 @@ use Rattle.rules.specs.Calls.{afterFrame, done, bufferOf, refusedOutcome
 use Rattle.rules.specs.declared.Settings.{Settings}
 use Rattle.rules.specs.declared.Taking.{Taking}
 use Rattle.rules.specs.declared.Sending.{Sending}
+use Rattle.rules.specs.declared.Party.{Party}
 use Rattle.rules.specs.declared.Rx.{Rx}
 use Rattle.rules.specs.declared.Tx.{Tx}
 use Rattle.rules.specs.declared.Berth.{Berth}
@@ -49,21 +50,21 @@ frame-either P s b d ignores single first consecutive flow =
 -- every branch of flow control at a send side: ignored, go, WAIT, and what ends the sending
 pub told-either : (P : Told → Type 0) (tx : Tx) (d : List ℕ)
     → ((why : ℕ) → P (flowIgnored why tx))
-    → ((o : Sending) → P (record { tx = Tx.Consecutive (granted o d) 0; word = Going }))
-    → ((o : Sending) → P (record { tx = Tx.AwaitsFlow o 0; word = Waiting }))
-    → ((code : ℕ) → P (record { tx = Tx.Idle; word = Failed code }))
+    → ((o : Sending) (party : Party) → P (record { tx = Tx.Consecutive party (granted o d) 0; word = Going }))
+    → ((o : Sending) (party : Party) → P (record { tx = Tx.AwaitsFlow party o 0; word = Waiting }))
+    → ((code : ℕ) (party : Party) → P (record { tx = Tx.Idle; word = Failed code party }))
     → P (flowCame tx d)
 unfolding byStatus
 told-either P Tx.Idle d ignores goes waits fails = ignores 4
-told-either P (Tx.SingleDue n t) d ignores goes waits fails = ignores 4
-told-either P (Tx.FirstDue n t) d ignores goes waits fails = ignores 4
-told-either P (Tx.AwaitsFlow o t) d ignores goes waits fails =
+told-either P (Tx.SingleDue party n t) d ignores goes waits fails = ignores 4
+told-either P (Tx.FirstDue party n t) d ignores goes waits fails = ignores 4
+told-either P (Tx.AwaitsFlow party o t) d ignores goes waits fails =
     pick-either P (flowFits d) _ _
-    (λ u. pick-either P (eqb (low d) goStatus) _ _ (λ v. goes o)
-    (λ v. pick-either P (eqb (low d) waitStatus) _ _ (λ w. waits o)
-    (λ w. pick-either P (eqb (low d) overflowStatus) _ _ (λ x. fails 9) (λ x. fails 6))))
+    (λ u. pick-either P (eqb (low d) goStatus) _ _ (λ v. goes o party)
+    (λ v. pick-either P (eqb (low d) waitStatus) _ _ (λ w. waits o party)
+    (λ w. pick-either P (eqb (low d) overflowStatus) _ _ (λ x. fails 9 party) (λ x. fails 6 party))))
     (λ u. ignores 3)
-told-either P (Tx.Consecutive o t) d ignores goes waits fails = ignores 4
+told-either P (Tx.Consecutive party o t) d ignores goes waits fails = ignores 4
 
 -- two words that are not the same
 clash : {X : Type 0} → _≡_ {A = ℕ} 0 1 → X
@@ -110,7 +111,7 @@ module _ (why : ℕ) where
   unfolding flowIgnored
   flow-kept tx d =
       told-either (λ (told : Told). told .word ≡ Ignored why → told .tx ≡ tx) tx d
-      (λ i e. refl) (λ o e. clash (cc)) (λ o e. clash (cc)) (λ code e. clash (cc))
+      (λ i e. refl) (λ o party e. clash (cc)) (λ o party e. clash (cc)) (λ code party e. clash (cc))
 
   -- AN IGNORED FRAME leaves the berth as it was, timers included, and stores nothing
   pub ignored-leaves : (s : Settings) (b : Berth) (d : List ℕ) → frameCame s b d .word ≡ Ignored why
@@ -196,33 +197,33 @@ consecutive-stores h id d p t e r c f l =
 -- ---- resetting the SN at a new block
 
 -- FLOW CONTROL LEAVES THE SN: on the side that takes it
-pub flow-leaves-sn : (o : Sending) (t : ℕ) (d : List ℕ) (o′ : Sending) (t′ : ℕ)
-    → flowCame (Tx.AwaitsFlow o t) d .tx ≡ Tx.Consecutive o′ t′ → o′ .sn ≡ o .sn
+pub flow-leaves-sn : (o : Sending) (t : ℕ) (party : Party) (d : List ℕ) (o′ : Sending) (t′ : ℕ) (party′ : Party)
+    → flowCame (Tx.AwaitsFlow party o t) d .tx ≡ Tx.Consecutive party′ o′ t′ → o′ .sn ≡ o .sn
 unfolding flowIgnored byStatus granted
-flow-leaves-sn o t d o′ t′ =
-    let K : Told → Type 0 = λ told. told .tx ≡ Tx.Consecutive o′ t′ → o′ .sn ≡ o .sn in
+flow-leaves-sn o t party d o′ t′ party′ =
+    let K : Told → Type 0 = λ told. told .tx ≡ Tx.Consecutive party′ o′ t′ → o′ .sn ≡ o .sn in
     pick-either K (flowFits d) _ _
     (λ u. pick-either K (eqb (low d) goStatus) _ _ (λ v e. same e)
     (λ v. pick-either K (eqb (low d) waitStatus) _ _ (λ w e. clash (cc))
     (λ w. pick-either K (eqb (low d) overflowStatus) _ _ (λ x e. clash (cc)) (λ x e. clash (cc)))))
     (λ u e. clash (cc))
   where
-    same : Tx.Consecutive (granted o d) 0 ≡ Tx.Consecutive o′ t′ → o′ .sn ≡ o .sn
+    same : Tx.Consecutive party (granted o d) 0 ≡ Tx.Consecutive party′ o′ t′ → o′ .sn ≡ o .sn
     same e = let g : granted o d ≡ o′ = cc in ap (λ (x : Sending). x .sn) (sym g)
 
 -- under WAIT too, where the whole sending stays
-pub wait-leaves-sn : (o : Sending) (t : ℕ) (d : List ℕ) (o′ : Sending) (t′ : ℕ)
-    → flowCame (Tx.AwaitsFlow o t) d .tx ≡ Tx.AwaitsFlow o′ t′ → o′ .sn ≡ o .sn
+pub wait-leaves-sn : (o : Sending) (t : ℕ) (party : Party) (d : List ℕ) (o′ : Sending) (t′ : ℕ) (party′ : Party)
+    → flowCame (Tx.AwaitsFlow party o t) d .tx ≡ Tx.AwaitsFlow party′ o′ t′ → o′ .sn ≡ o .sn
 unfolding flowIgnored byStatus
-wait-leaves-sn o t d o′ t′ =
-    let K : Told → Type 0 = λ told. told .tx ≡ Tx.AwaitsFlow o′ t′ → o′ .sn ≡ o .sn in
+wait-leaves-sn o t party d o′ t′ party′ =
+    let K : Told → Type 0 = λ told. told .tx ≡ Tx.AwaitsFlow party′ o′ t′ → o′ .sn ≡ o .sn in
     pick-either K (flowFits d) _ _
     (λ u. pick-either K (eqb (low d) goStatus) _ _ (λ v e. clash (cc))
     (λ v. pick-either K (eqb (low d) waitStatus) _ _ (λ w e. same 0 e)
     (λ w. pick-either K (eqb (low d) overflowStatus) _ _ (λ x e. clash (cc)) (λ x e. clash (cc)))))
     (λ u e. same t e)
   where
-    same : (u : ℕ) → Tx.AwaitsFlow o u ≡ Tx.AwaitsFlow o′ t′ → o′ .sn ≡ o .sn
+    same : (u : ℕ) → Tx.AwaitsFlow party o u ≡ Tx.AwaitsFlow party′ o′ t′ → o′ .sn ≡ o .sn
     same u e = let g : o ≡ o′ = cc in ap (λ (x : Sending). x .sn) (sym g)
 
 -- and on the side that gives it

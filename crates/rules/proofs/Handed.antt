@@ -20,6 +20,7 @@ use Rattle.rules.specs.Events.{Call}
 use Rattle.rules.specs.Refusals.{refusal}
 use Rattle.rules.specs.Calls.{reply, done, written, refusedOutcome, outcome}
 use Rattle.rules.specs.Handing.{Fit}
+use Rattle.rules.specs.declared.Party.{Party}
 use Rattle.rules.specs.declared.Settings.{Settings}
 use Rattle.rules.specs.declared.BerthSettings.{BerthSettings}
 use Rattle.rules.specs.declared.Rx.{Rx}
@@ -43,19 +44,19 @@ flow-kind s (Rx.Awaits p u) t = absurd t
 -- where none is due any number does
 abbrev pub dueKind : Tx → ℕ
 dueKind Tx.Idle = singleKind
-dueKind (Tx.SingleDue n u) = singleKind
-dueKind (Tx.FirstDue n u) = firstKind
-dueKind (Tx.AwaitsFlow o u) = consecutiveKind
-dueKind (Tx.Consecutive o u) = consecutiveKind
+dueKind (Tx.SingleDue party n u) = singleKind
+dueKind (Tx.FirstDue party n u) = firstKind
+dueKind (Tx.AwaitsFlow party o u) = consecutiveKind
+dueKind (Tx.Consecutive party o u) = consecutiveKind
 
 pub message-kind : (s : Settings) (tx : Tx) (area : List ℕ) → s .area ≤ shortMost → TxRange s tx → T (messageDue tx)
     → kind (messageFrame tx area) ≡ dueKind tx
 unfolding singleFrame firstFrame consecutiveFrame padded kind
 message-kind s Tx.Idle area a r t = absurd t
-message-kind s (Tx.SingleDue n u) area a r t = omega (arith, r .0, r .1, length-take n area)
-message-kind s (Tx.FirstDue n u) area a r t = omega (arith, r .1)
-message-kind s (Tx.AwaitsFlow o u) area a r t = absurd t
-message-kind s (Tx.Consecutive o u) area a r t = omega (arith, r .0 .sn-most)
+message-kind s (Tx.SingleDue party n u) area a r t = omega (arith, r .0, r .1, length-take n area)
+message-kind s (Tx.FirstDue party n u) area a r t = omega (arith, r .1)
+message-kind s (Tx.AwaitsFlow party o u) area a r t = absurd t
+message-kind s (Tx.Consecutive party o u) area a r t = omega (arith, r .0 .sn-most)
 
 -- ---- eight bytes, and never 31
 
@@ -78,17 +79,17 @@ module _ (s : Settings) (sr : AreaRange (s .area)) where
   message-fit : (tx : Tx) (area : List ℕ) → TxRange s tx → T (messageDue tx) → Fit (messageFrame tx area)
   unfolding singleFrame firstFrame consecutiveFrame share
   message-fit Tx.Idle area r t = absurd t
-  message-fit (Tx.SingleDue n u) area r t =
+  message-fit (Tx.SingleDue party n u) area r t =
       let l = length-take n area in
       let m = r .1 in
       headed-fit 0 (length (take n area)) (take n area) (omega arith) (λ e. omega arith)
-  message-fit (Tx.FirstDue n u) area r t =
+  message-fit (Tx.FirstDue party n u) area r t =
       let l = length-take firstBytes area in
       let m = r .1 in
       let a = sr .area-most in
       headed-fit 1 (n / 256) (n % 256 ∷ take firstBytes area) (omega arith) (λ e. omega arith)
-  message-fit (Tx.AwaitsFlow o u) area r t = absurd t
-  message-fit (Tx.Consecutive o u) area r t =
+  message-fit (Tx.AwaitsFlow party o u) area r t = absurd t
+  message-fit (Tx.Consecutive party o u) area r t =
       let l = length-take (min consecutiveMost (toGo o)) (drop (o .position) area) in
       let m = r .0 .sn-most in
       headed-fit 2 (o .sn .0) (take (min consecutiveMost (toGo o)) (drop (o .position) area)) (omega arith) (λ e. omega arith)
@@ -110,28 +111,28 @@ due-fit h o l =
     hand-over-fit (h .node .settings) (o .settings) (berthAt (h .node) k) _ (o .berth k (reached-small (h .node))) (reached-due (h .node) o l .0)
 
 -- EVERY FRAME HANDED OVER: eight bytes, identifier 660 hex + k for a berth k of the ten, never the first byte 31
-pub handed-fit : (h : Held) (buffer : List ℕ) (id : ℕ) (f : List ℕ) (code passed : ℕ)
-    → outcome h (Call.turn buffer) .answer ≡ handed id f code passed
+pub handed-fit : (h : Held) (buffer : List ℕ) (id : ℕ) (f : List ℕ) (code passed : ℕ) (party : Party)
+    → outcome h (Call.turn buffer) .answer ≡ handed id f code passed party
     → Fit f × (id ≡ toBerth + reached (h .node)) × (reached (h .node) < berthCount)
 unfolding outcome refusedOutcome reply
-handed-fit h buffer id f code passed = go (refusal h (Call.turn buffer)) refl
+handed-fit h buffer id f code passed party = go (refusal h (Call.turn buffer)) refl
   where
     answered : InOrder (h .node) → Tested (ltb (passedOver (h .node)) berthCount) (passedOver (h .node) < berthCount) (berthCount ≤ passedOver (h .node))
-        → reply h (Call.turn buffer) ≡ handed id f code passed
+        → reply h (Call.turn buffer) ≡ handed id f code passed party
         → Fit f × (id ≡ toBerth + reached (h .node)) × (reached (h .node) < berthCount)
     answered o (holds t l) e =
         let k = reached (h .node) in
-        let g : handed (toBerth + k) (handedAt h k .frame) (handedAt h k .code) (passedOver (h .node)) ≡ handed id f code passed = rw t at e in
+        let g : handed (toBerth + k) (handedAt h k .frame) (handedAt h k .code) (passedOver (h .node)) (handedAt h k .party) ≡ handed id f code passed party = rw t at e in
         let same : handedAt h k .frame ≡ f = cc in
         let known : toBerth + k ≡ id = cc in
         (rw same at (due-fit h o l), sym known, reached-small (h .node))
     answered o (fails t l) e =
-        let g : none berthCount ≡ handed id f code passed = rw t at e in
+        let g : none berthCount ≡ handed id f code passed party = rw t at e in
         let x : _≡_ {A = ℕ} 0 1 = cc in
         absurd (omega arith)
 
     go : (n : ℕ) → refusal h (Call.turn buffer) ≡ n
-        → unless n (refusedOutcome h buffer) (record { answer = reply h (Call.turn buffer); held = done h (Call.turn buffer); buffer = written h (Call.turn buffer) }) .answer ≡ handed id f code passed
+        → unless n (refusedOutcome h buffer) (record { answer = reply h (Call.turn buffer); held = done h (Call.turn buffer); buffer = written h (Call.turn buffer) }) .answer ≡ handed id f code passed party
         → Fit f × (id ≡ toBerth + reached (h .node)) × (reached (h .node) < berthCount)
     go zero z e = answered (in-order-range (h .node) (turn-answered h buffer z .order)) (ltb-cases (passedOver (h .node)) berthCount) e
     go (suc n) z e = let x : _≡_ {A = ℕ} 0 1 = cc in absurd (omega arith)

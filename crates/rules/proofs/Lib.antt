@@ -4,6 +4,7 @@ pub mod Areas
 pub mod Ranges
 pub mod Answered
 pub mod Gaps
+pub mod Parties
 pub mod Order
 pub mod Inside
 pub mod Exact

@@ -12,12 +12,13 @@ use lib.Seq.{getD-set-same, getD-set-other}
 use lib.Dec.{T, eqb, ltb, leb, lit<}
 use mir.Facts.{leb-yes, ltb-yes, ltb-no, eqb-yes, eqb-no}
 use Rattle.rules.specs.Tests.{pick, unless}
-use Rattle.rules.specs.Numbers.{berthCount, longestGap, singleMost, firstBytes, consecutiveMost, leastLong, shortMost, frameSize, singleKind, firstKind, consecutiveKind, flowKind, goStatus, waitStatus, overflowStatus, timeout, stminParameter}
+use Rattle.rules.specs.Numbers.{berthCount, longestGap, singleMost, firstBytes, consecutiveMost, leastLong, shortMost, frameSize, singleKind, firstKind, consecutiveKind, flowKind, goStatus, waitStatus, overflowStatus, stminParameter, theLaptop}
+use Rattle.rules.specs.Parties.{partyOf}
 use Rattle.rules.specs.Nodes.{freshWith, fresh, berthAt, Held, withBerth}
 use Rattle.rules.specs.Ranges.{AreaRange, OwnRange, SettingsRange, BlockRange, TakingRange, RxRange, SendingRange, TxRange, BerthRange, InOrder}
 use Rattle.rules.specs.Frames.{byteAt, kind, low, singleFits, shortLength, escapeLength, announced, firstFits, consecutiveFits, flowFits, nextSn, counted, fillsBlock, share}
 use Rattle.rules.specs.Arrivals.{Heard, ignored, singleCame, aboveArea, turnedAway, taking, begun, firstCame, missing, piece, grown, completed, afterTook, took, wrongSn, awaitedCame, consecutiveCame, Told, granted, byStatus, flowIgnored, flowCame, Came, heardBy, toldBy, byKind, frameCame}
-use Rattle.rules.specs.Ticks.{ran, rxTicked, closer, txTicked, ticked}
+use Rattle.rules.specs.Ticks.{rxTicked, closer, txTicked, ticked}
 use Rattle.rules.specs.Turns.{flowDue, afterFlow, toGo, opened, moved, afterConsecutive, afterMessage, HandedOver, handOver, beginsWith, sent}
 use Rattle.rules.specs.Changes.{valueAllowed, changedSettings, changed}
 use Rattle.rules.specs.Cards.{underWay}
@@ -29,14 +30,16 @@ use Rattle.rules.specs.declared.Settings.{Settings}
 use Rattle.rules.specs.declared.BerthSettings.{BerthSettings}
 use Rattle.rules.specs.declared.Taking.{Taking}
 use Rattle.rules.specs.declared.Sending.{Sending}
+use Rattle.rules.specs.declared.Party.{Party}
 use Rattle.rules.specs.declared.Rx.{Rx}
 use Rattle.rules.specs.declared.Tx.{Tx}
 use Rattle.rules.specs.declared.Berth.{Berth}
 use Rattle.rules.specs.declared.Node.{Node}
-use Rattle.rules.proofs.Cases.{Tested, holds, fails, eqb-cases, tests, and-left, and-right, pick-either, met}
+use Rattle.rules.proofs.Cases.{Tested, holds, fails, eqb-cases, tests, and-left, and-right, pick-either, ran-either, met}
 use Rattle.rules.proofs.Ranges.{block-max, max-block, stmin-range, settings-range}
 use Rattle.rules.proofs.Answered.{frame-answered, send-answered, change-answered}
 use Rattle.rules.proofs.Gaps.{gap-small}
+use Rattle.rules.proofs.Parties.{kept-own, kept-flow, kept-ticked, kept-message, kept-begins, kept-in-range, stays-in-range}
 
 -- ---- blocks
 
@@ -201,9 +204,9 @@ module _ (s : Settings) (sr : AreaRange (s .area)) where
   abbrev Fine : Told → Type 0
   Fine told = TxRange s (told .tx)
 
-  status-ok : (o : Sending) (t : ℕ) (d : List ℕ) → TxRange s (Tx.AwaitsFlow o t) → TxRange s (byStatus o d .tx)
+  status-ok : (o : Sending) (t : ℕ) (party : Party) (d : List ℕ) → TxRange s (Tx.AwaitsFlow party o t) → TxRange s (byStatus o party d .tx)
   unfolding byStatus granted
-  status-ok o t d r =
+  status-ok o t party d r =
       pick-either Fine (eqb (low d) goStatus) _ _ (λ u. (granted-ok o d (r .0), inl refl, omega arith))
       (λ u. pick-either Fine (eqb (low d) waitStatus) _ _ (λ v. (r .0, r .1, r .2, omega arith))
       (λ v. pick-either Fine (eqb (low d) overflowStatus) _ _ (λ w. tt) (λ w. tt)))
@@ -211,11 +214,11 @@ module _ (s : Settings) (sr : AreaRange (s .area)) where
   flow-ok : (tx : Tx) (d : List ℕ) → TxRange s tx → TxRange s (flowCame tx d .tx)
   unfolding flowIgnored
   flow-ok Tx.Idle d r = r
-  flow-ok (Tx.SingleDue n t) d r = r
-  flow-ok (Tx.FirstDue n t) d r = r
-  flow-ok (Tx.AwaitsFlow o t) d r =
-      pick-either Fine (flowFits d) _ _ (λ u. status-ok o t d r) (λ u. r)
-  flow-ok (Tx.Consecutive o t) d r = r
+  flow-ok (Tx.SingleDue party n t) d r = r
+  flow-ok (Tx.FirstDue party n t) d r = r
+  flow-ok (Tx.AwaitsFlow party o t) d r =
+      pick-either Fine (flowFits d) _ _ (λ u. status-ok o t party d r) (λ u. r)
+  flow-ok (Tx.Consecutive party o t) d r = r
 
   -- ---- a frame at the berth
 
@@ -225,12 +228,15 @@ module _ (s : Settings) (sr : AreaRange (s .area)) where
 
   heard-ok : (b : Berth) (h : Heard) → BerthRange s b → HeardOk s sr (b .settings .block) h → CameOk (heardBy b h)
   unfolding heardBy
-  heard-ok b h r k = record { berth = record { own = r .own; receive = k .side; send = r .send }; inside = k .inside }
+  heard-ok b h r k = record { berth = record { own = r .own; receive = k .side; send = r .send; party = r .party }; inside = k .inside }
 
   told-ok : (b : Berth) (d : List ℕ) → BerthRange s b → CameOk (toldBy b (flowCame (b .tx) d))
   unfolding toldBy
   told-ok b d r =
-      record { berth = record { own = r .own; receive = r .receive; send = flow-ok (b .tx) d (r .send) }; inside = omega (arith, sr .area-least) }
+      record {
+        berth = record { own = r .own; receive = r .receive; send = flow-ok (b .tx) d (r .send); party = stays-in-range (b .tx) (flowCame (b .tx) d .tx) (kept-flow (partyOf (b .tx)) (b .tx) d (kept-own (b .tx))) (r .party) };
+        inside = omega (arith, sr .area-least);
+      }
 
   pub came-ok : (b : Berth) (d : List ℕ) → BerthRange s b → CameOk (frameCame s b d)
   unfolding frameCame byKind
@@ -244,11 +250,6 @@ module _ (s : Settings) (sr : AreaRange (s .area)) where
       (λ x. heard-ok b _ r (ignored-ok s sr bs 2 (b .rx) (b .last) (r .receive)))))))
 
   -- ---- a tick
-
-  -- a timer goes on below 1,000 or the side ends
-  ran-either : {X : Type 0} (P : X → Type 0) (t : ℕ) (on : ℕ → X) (ended : X) → (t + 1 < timeout → P (on (t + 1))) → P ended → P (ran t on ended)
-  unfolding ran
-  ran-either P t on ended f g = pick-either P (ltb (t + 1) timeout) _ _ (λ u. f (ltb-yes u)) (λ u. g)
 
   rx-ticked-ok : (bs : ℕ) (rx : Rx) (last : ℕ) → RxRange s bs last rx → RxRange s bs last (rxTicked rx)
   rx-ticked-ok bs Rx.Idle last r = r
@@ -271,17 +272,22 @@ module _ (s : Settings) (sr : AreaRange (s .area)) where
 
   tx-ticked-ok : (tx : Tx) → TxRange s tx → TxRange s (txTicked tx)
   tx-ticked-ok Tx.Idle r = r
-  tx-ticked-ok (Tx.SingleDue n t) r = ran-either (TxRange s) t _ _ (λ u. (r .0, r .1, u)) tt
-  tx-ticked-ok (Tx.FirstDue n t) r = ran-either (TxRange s) t _ _ (λ u. (r .0, r .1, u)) tt
-  tx-ticked-ok (Tx.AwaitsFlow o t) r = ran-either (TxRange s) t _ _ (λ u. (r .0, r .1, r .2, u)) tt
-  tx-ticked-ok (Tx.Consecutive o t) r =
+  tx-ticked-ok (Tx.SingleDue party n t) r = ran-either (TxRange s) t _ _ (λ u. (r .0, r .1, u)) tt
+  tx-ticked-ok (Tx.FirstDue party n t) r = ran-either (TxRange s) t _ _ (λ u. (r .0, r .1, u)) tt
+  tx-ticked-ok (Tx.AwaitsFlow party o t) r = ran-either (TxRange s) t _ _ (λ u. (r .0, r .1, r .2, u)) tt
+  tx-ticked-ok (Tx.Consecutive party o t) r =
       pick-either (TxRange s) (eqb (o .left) 0) _ _ (λ u. ran-either (TxRange s) t _ _ (λ v. (r .0, inl (eqb-yes u), v)) tt)
       (λ u. (closer-ok o (r .0), ⊎-elim (λ z. absurd (eqb-no u z)) (λ z. inr z) (r .1), r .2))
 
   pub ticked-ok : (b : Berth) → BerthRange s b → BerthRange s (ticked b)
   unfolding ticked
   ticked-ok b r =
-      record { own = r .own; receive = rx-ticked-ok (b .settings .block) (b .rx) (b .last) (r .receive); send = tx-ticked-ok (b .tx) (r .send) }
+      record {
+        own = r .own;
+        receive = rx-ticked-ok (b .settings .block) (b .rx) (b .last) (r .receive);
+        send = tx-ticked-ok (b .tx) (r .send);
+        party = stays-in-range (b .tx) (txTicked (b .tx)) (kept-ticked (partyOf (b .tx)) (b .tx) (kept-own (b .tx))) (r .party);
+      }
 
   -- ---- a hand-over
 
@@ -329,9 +335,9 @@ module _ (s : Settings) (sr : AreaRange (s .area)) where
         left-most = l;
       }
 
-  after-consecutive-ok : (o : Sending) → SendingRange s o → TxRange s (afterConsecutive o)
+  after-consecutive-ok : (o : Sending) (party : Party) → SendingRange s o → TxRange s (afterConsecutive o party)
   unfolding afterConsecutive moved
-  after-consecutive-ok o r =
+  after-consecutive-ok o party r =
       pick-either (TxRange s) (leb (toGo o) consecutiveMost) _ _ (λ u. tt)
       (λ u. pick-either (TxRange s) (fillsBlock (o .block) (o .sent)) _ _
       (λ v. (moved-ok o 0 0 r (omega tests) (none-range (o .block)) (omega arith), refl, refl, omega arith))
@@ -344,28 +350,34 @@ module _ (s : Settings) (sr : AreaRange (s .area)) where
 
   after-message-ok : (tx : Tx) → TxRange s tx → TxRange s (afterMessage tx)
   after-message-ok Tx.Idle r = r
-  after-message-ok (Tx.SingleDue n t) r = tt
-  after-message-ok (Tx.FirstDue n t) r = (opened-ok n (r .0) (r .1), refl, refl, omega arith)
-  after-message-ok (Tx.AwaitsFlow o t) r = r
-  after-message-ok (Tx.Consecutive o t) r = after-consecutive-ok o (r .0)
+  after-message-ok (Tx.SingleDue party n t) r = tt
+  after-message-ok (Tx.FirstDue party n t) r = (opened-ok n (r .0) (r .1), refl, refl, omega arith)
+  after-message-ok (Tx.AwaitsFlow party o t) r = r
+  after-message-ok (Tx.Consecutive party o t) r = after-consecutive-ok o party (r .0)
 
   pub hand-over-ok : (b : Berth) (area : List ℕ) → BerthRange s b → BerthRange s (handOver b area .berth)
   unfolding handOver
   hand-over-ok b area r =
       pick-either (λ (g : HandedOver). BerthRange s (g .berth)) (flowDue (b .rx)) _ _
-      (λ u. record { own = r .own; receive = after-flow-ok (b .settings .block) (b .rx) (b .last) (r .receive); send = r .send })
-      (λ u. record { own = r .own; receive = r .receive; send = after-message-ok (b .tx) (r .send) })
+      (λ u. record { own = r .own; receive = after-flow-ok (b .settings .block) (b .rx) (b .last) (r .receive); send = r .send; party = r .party })
+      (λ u. record {
+        own = r .own;
+        receive = r .receive;
+        send = after-message-ok (b .tx) (r .send);
+        party = stays-in-range (b .tx) (afterMessage (b .tx)) (kept-message (partyOf (b .tx)) (b .tx) (kept-own (b .tx))) (r .party);
+      })
 
   -- ---- a send
 
-  begins-ok : (n : ℕ) → 1 ≤ n → n ≤ s .area → TxRange s (beginsWith n)
+  begins-ok : (n : ℕ) (party : Party) → 1 ≤ n → n ≤ s .area → TxRange s (beginsWith n party)
   unfolding beginsWith
-  begins-ok n a b =
+  begins-ok n party a b =
       pick-either (TxRange s) (leb n singleMost) _ _ (λ u. (a, leb-yes u, omega arith)) (λ u. (omega tests, b, omega arith))
 
-  pub sent-ok : (b : Berth) (n : ℕ) → 1 ≤ n → n ≤ s .area → BerthRange s b → BerthRange s (sent b n)
+  pub sent-ok : (b : Berth) (n : ℕ) (party : Party) → 1 ≤ n → n ≤ s .area → party .0 ≤ theLaptop → BerthRange s b → BerthRange s (sent b n party)
   unfolding sent
-  sent-ok b n a c r = record { own = r .own; receive = r .receive; send = begins-ok n a c }
+  sent-ok b n party a c l r =
+      record { own = r .own; receive = r .receive; send = begins-ok n party a c; party = kept-in-range party (beginsWith n party) (kept-begins n party) l }
 
   -- ---- a change
 
@@ -395,6 +407,7 @@ module _ (s : Settings) (sr : AreaRange (s .area)) where
         own = changed-own (b .settings) parameter value t (r .own);
         receive = any-block (b .settings .block) _ (b .rx) (b .last) e (r .receive);
         send = r .send;
+        party = r .party;
       }
 
 -- ---- the node
@@ -439,10 +452,10 @@ done-ok h (Call.frame id d) e o =
     with-ok (h .node) (senderOf id) (h .node .served) _ (o .served)
     (came-ok (h .node .settings) (o .settings) _ d (o .berth (senderOf id) (a .mine)) .berth) o
 done-ok h Call.tick e o = tick-ok (h .node) o
-done-ok h (Call.send k m) e o =
-    let a = send-answered h k m e in
+done-ok h (Call.send k party m) e o =
+    let a = send-answered h k party m e in
     with-ok (h .node) k (h .node .served) _ (o .served)
-    (sent-ok (h .node .settings) (o .settings) _ (length m) (a .some) (a .fits) (o .berth k (a .mine))) o
+    (sent-ok (h .node .settings) (o .settings) _ (length m) (record { 0 = party }) (a .some) (a .fits) (a .allowed) (o .berth k (a .mine))) o
 done-ok h (Call.turn buffer) e o =
     pick-either (λ (g : Held). InOrder (g .node)) (ltb (passedOver (h .node)) berthCount) _ _
     (λ t. with-ok (h .node) (reached (h .node)) (reached (h .node)) _ (reached-small (h .node))
@@ -471,7 +484,7 @@ run-in-order h [] o = o
 run-in-order h (c ∷ cs) o = run-in-order (outcome h c .held) cs (order-kept h c o)
 
 fresh-ok : (s : Settings) (own : BerthSettings) → OwnRange (own .block) (own .stmin) → BerthRange s (freshWith own)
-fresh-ok s own r = record { own = r; receive = omega arith; send = tt }
+fresh-ok s own r = record { own = r; receive = omega arith; send = tt; party = omega arith }
 
 set-up-node-ok : (s : Settings) (own : BerthSettings) → SettingsRange (s .area) (own .block) (own .stmin) → InOrder (setUpNode s own)
 unfolding setUpNode berthAt

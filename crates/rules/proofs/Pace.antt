@@ -13,6 +13,7 @@ use Rattle.rules.specs.Frames.{byteAt, kind, singleFits, announced, firs
 use Rattle.rules.specs.Arrivals.{Heard, ignored, singleCame, aboveArea, turnedAway, begun, firstCame, completed, took, wrongSn, consecutiveCame, Told, granted, flowIgnored, Came, heardBy, toldBy, frameCame, isGoing}
 use Rattle.rules.specs.Ticks.{ran, txTicked}
 use Rattle.rules.specs.Turns.{flowDue, messageDue, due, toGo, moved, afterConsecutive, messageFrame, afterMessage, HandedOver, handOver, beginsWith}
+use Rattle.rules.specs.declared.Party.{Party}
 use Rattle.rules.specs.declared.Settings.{Settings}
 use Rattle.rules.specs.declared.Rx.{Rx}
 use Rattle.rules.specs.declared.Tx.{Tx}
@@ -24,10 +25,10 @@ use Rattle.rules.proofs.Handed.{dueKind, flow-kind, message-kind}
 -- a side that hands over consecutive frames keeps the gap g, and what is left of it, with n ticks that came, is at least the m wanted
 abbrev pub Paced : (g m n : ℕ) → Tx → Type 0
 Paced g m n Tx.Idle = Unit {0}
-Paced g m n (Tx.SingleDue l t) = Unit {0}
-Paced g m n (Tx.FirstDue l t) = Unit {0}
-Paced g m n (Tx.AwaitsFlow o t) = Unit {0}
-Paced g m n (Tx.Consecutive o t) = (o .gap ≡ g) × (m ≤ o .left + n)
+Paced g m n (Tx.SingleDue party l t) = Unit {0}
+Paced g m n (Tx.FirstDue party l t) = Unit {0}
+Paced g m n (Tx.AwaitsFlow party o t) = Unit {0}
+Paced g m n (Tx.Consecutive party o t) = (o .gap ≡ g) × (m ≤ o .left + n)
 
 -- ---- only flow control is answered Going
 
@@ -63,7 +64,7 @@ going-paced s b d =
     (λ why t. absurd (ignored-not why (b .rx) (b .last) t)) (λ t. absurd (single-not (b .rx) (b .last) d t))
     (λ t. absurd (first-not s (b .rx) (b .last) d t)) (λ t. absurd (consecutive-not (b .settings .block) (b .rx) (b .last) d t))
     (told-either (λ (told : Told). T (isGoing (told .word)) → Paced (gapOf (byteAt d 2)) 0 0 (told .tx)) (b .tx) d
-    (λ why t. absurd t) (λ o t. (refl, omega arith)) (λ o t. absurd t) (λ code t. absurd t))
+    (λ why t. absurd t) (λ o party t. (refl, omega arith)) (λ o party t. absurd t) (λ code party t. absurd t))
 
 module _ (g m n : ℕ) where
   -- any other frame leaves it
@@ -74,26 +75,26 @@ module _ (g m n : ℕ) where
       frame-either (λ (c : Came). T (not (isGoing (c .word))) → Paced g m n (b .tx) → Paced g m n (c .berth .tx)) s b d
       (λ why t p. p) (λ t p. p) (λ t p. p) (λ t p. p)
       (told-either (λ (told : Told). T (not (isGoing (told .word))) → Paced g m n (b .tx) → Paced g m n (told .tx)) (b .tx) d
-      (λ why t p. p) (λ o t p. absurd t) (λ o t p. tt) (λ code t p. tt))
+      (λ why t p. p) (λ o party t p. absurd t) (λ o party t p. tt) (λ code party t p. tt))
 
   -- ---- a tick takes at most one off what is left
 
   pub tick-paced : (tx : Tx) → Paced g m n tx → Paced g m (n + 1) (txTicked tx)
   unfolding ran
   tick-paced Tx.Idle p = tt
-  tick-paced (Tx.SingleDue l t) p = pick-either (Paced g m (n + 1)) (ltb (t + 1) timeout) _ _ (λ u. tt) (λ u. tt)
-  tick-paced (Tx.FirstDue l t) p = pick-either (Paced g m (n + 1)) (ltb (t + 1) timeout) _ _ (λ u. tt) (λ u. tt)
-  tick-paced (Tx.AwaitsFlow o t) p = pick-either (Paced g m (n + 1)) (ltb (t + 1) timeout) _ _ (λ u. tt) (λ u. tt)
-  tick-paced (Tx.Consecutive o t) (gap, left) =
+  tick-paced (Tx.SingleDue party l t) p = pick-either (Paced g m (n + 1)) (ltb (t + 1) timeout) _ _ (λ u. tt) (λ u. tt)
+  tick-paced (Tx.FirstDue party l t) p = pick-either (Paced g m (n + 1)) (ltb (t + 1) timeout) _ _ (λ u. tt) (λ u. tt)
+  tick-paced (Tx.AwaitsFlow party o t) p = pick-either (Paced g m (n + 1)) (ltb (t + 1) timeout) _ _ (λ u. tt) (λ u. tt)
+  tick-paced (Tx.Consecutive party o t) (gap, left) =
       pick-either (Paced g m (n + 1)) (eqb (o .left) 0) _ _
-      (λ u. pick-either (Paced g m (n + 1)) (ltb (t + 1) timeout) (Tx.Consecutive o (t + 1)) Tx.Idle (λ v. (gap, omega (arith, left))) (λ v. tt))
+      (λ u. pick-either (Paced g m (n + 1)) (ltb (t + 1) timeout) (Tx.Consecutive party o (t + 1)) Tx.Idle (λ v. (gap, omega (arith, left))) (λ v. tt))
       (λ u. let some : o .left ≡ 0 → ⊥ = eqb-no u in (gap, omega (arith, left, some)))
 
   -- ---- a message that begins has no gap yet
 
-  pub begins-paced : (l : ℕ) → Paced g m n (beginsWith l)
+  pub begins-paced : (l : ℕ) (party : Party) → Paced g m n (beginsWith l party)
   unfolding beginsWith
-  begins-paced l = pick-either (Paced g m n) (leb l singleMost) _ _ (λ u. tt) (λ u. tt)
+  begins-paced l party = pick-either (Paced g m n) (leb l singleMost) _ _ (λ u. tt) (λ u. tt)
 
   -- ---- a hand-over
 
@@ -101,10 +102,10 @@ module _ (g m n : ℕ) where
   message-paced : (l : ℕ) (tx : Tx) → Paced g m n tx → Paced g g l (afterMessage tx)
   unfolding afterConsecutive moved
   message-paced l Tx.Idle p = tt
-  message-paced l (Tx.SingleDue k t) p = tt
-  message-paced l (Tx.FirstDue k t) p = tt
-  message-paced l (Tx.AwaitsFlow o t) p = tt
-  message-paced l (Tx.Consecutive o t) (gap, left) =
+  message-paced l (Tx.SingleDue party k t) p = tt
+  message-paced l (Tx.FirstDue party k t) p = tt
+  message-paced l (Tx.AwaitsFlow party o t) p = tt
+  message-paced l (Tx.Consecutive party o t) (gap, left) =
       pick-either (Paced g g l) (leb (toGo o) consecutiveMost) _ _ (λ u. tt)
       (λ u. pick-either (Paced g g l) (fillsBlock (o .block) (o .sent)) _ _ (λ v. tt) (λ v. (gap, omega (arith, gap))))
 
@@ -117,10 +118,10 @@ module _ (g m n : ℕ) where
     where
       at-most : (tx : Tx) → Paced g g n tx → Paced g m n tx
       at-most Tx.Idle q = tt
-      at-most (Tx.SingleDue l t) q = tt
-      at-most (Tx.FirstDue l t) q = tt
-      at-most (Tx.AwaitsFlow o t) q = tt
-      at-most (Tx.Consecutive o t) (gap, left) = (gap, omega (arith, small, left))
+      at-most (Tx.SingleDue party l t) q = tt
+      at-most (Tx.FirstDue party l t) q = tt
+      at-most (Tx.AwaitsFlow party o t) q = tt
+      at-most (Tx.Consecutive party o t) (gap, left) = (gap, omega (arith, small, left))
 
   -- A CONSECUTIVE FRAME IS HANDED OVER where nothing is left of the gap, and then the whole gap is before the next one
   pub consecutive-paced : (s : Settings) (b : Berth) (area : List ℕ) → s .area ≤ shortMost → BerthRange s b → T (due b)
@@ -130,10 +131,10 @@ module _ (g m n : ℕ) where
     where
       left-none : (tx : Tx) → dueKind tx ≡ consecutiveKind → T (messageDue tx) → Paced g m n tx → m ≤ n
       left-none Tx.Idle e u p = absurd u
-      left-none (Tx.SingleDue l v) e u p = absurd (omega (arith, e))
-      left-none (Tx.FirstDue l v) e u p = absurd (omega (arith, e))
-      left-none (Tx.AwaitsFlow o v) e u p = absurd u
-      left-none (Tx.Consecutive o v) e u (gap, left) = let none : o .left ≡ 0 = eqb-yes u in omega (arith, none, left)
+      left-none (Tx.SingleDue party l v) e u p = absurd (omega (arith, e))
+      left-none (Tx.FirstDue party l v) e u p = absurd (omega (arith, e))
+      left-none (Tx.AwaitsFlow party o v) e u p = absurd u
+      left-none (Tx.Consecutive party o v) e u (gap, left) = let none : o .left ≡ 0 = eqb-yes u in omega (arith, none, left)
 
       go : Tested (flowDue (b .rx)) (T (flowDue (b .rx))) (T (not (flowDue (b .rx))))
           → kind (handOver b area .frame) ≡ consecutiveKind → Paced g m n (b .tx) → (m ≤ n) × Paced g g 0 (handOver b area .berth .tx)

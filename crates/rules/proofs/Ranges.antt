@@ -169,12 +169,12 @@ module _ (s : Settings) where
 
   pub tx-range : (tx : Tx) → T (txInRange s tx) → TxRange s tx
   tx-range Tx.Idle t = tt
-  tx-range (Tx.SingleDue n u) t = let f = all-yes _ t in (leb-yes (f .0), leb-yes (f .1 .0), ltb-yes (f .1 .1 .0))
-  tx-range (Tx.FirstDue n u) t = let f = all-yes _ t in (leb-yes (f .0), leb-yes (f .1 .0), ltb-yes (f .1 .1 .0))
-  tx-range (Tx.AwaitsFlow o u) t =
+  tx-range (Tx.SingleDue party n u) t = let f = all-yes _ t in (leb-yes (f .0), leb-yes (f .1 .0), ltb-yes (f .1 .1 .0))
+  tx-range (Tx.FirstDue party n u) t = let f = all-yes _ t in (leb-yes (f .0), leb-yes (f .1 .0), ltb-yes (f .1 .1 .0))
+  tx-range (Tx.AwaitsFlow party o u) t =
       let f = all-yes _ t in
       (sending-range o (f .0), eqb-yes (f .1 .0), eqb-yes (f .1 .1 .0), ltb-yes (f .1 .1 .1 .0))
-  tx-range (Tx.Consecutive o u) t =
+  tx-range (Tx.Consecutive party o u) t =
       let f = all-yes _ t in (
         sending-range o (f .0),
         ⊎-elim (λ l. inl (eqb-yes l)) (λ r. inr (eqb-yes r)) (or-cases (eqb (o .left) 0) _ (f .1 .0)),
@@ -183,10 +183,10 @@ module _ (s : Settings) where
 
   pub tx-in : (tx : Tx) → TxRange s tx → T (txInRange s tx)
   tx-in Tx.Idle r = tt
-  tx-in (Tx.SingleDue n u) r = yes-all _ (yes-leb (r .0), (yes-leb (r .1), (yes-ltb (r .2), tt)))
-  tx-in (Tx.FirstDue n u) r = yes-all _ (yes-leb (r .0), (yes-leb (r .1), (yes-ltb (r .2), tt)))
-  tx-in (Tx.AwaitsFlow o u) r = yes-all _ (sending-in o (r .0), (yes-eqb (r .1), (yes-eqb (r .2), (yes-ltb (r .3), tt))))
-  tx-in (Tx.Consecutive o u) r =
+  tx-in (Tx.SingleDue party n u) r = yes-all _ (yes-leb (r .0), (yes-leb (r .1), (yes-ltb (r .2), tt)))
+  tx-in (Tx.FirstDue party n u) r = yes-all _ (yes-leb (r .0), (yes-leb (r .1), (yes-ltb (r .2), tt)))
+  tx-in (Tx.AwaitsFlow party o u) r = yes-all _ (sending-in o (r .0), (yes-eqb (r .1), (yes-eqb (r .2), (yes-ltb (r .3), tt))))
+  tx-in (Tx.Consecutive party o u) r =
       let gap : T (eqb (o .left) 0 || eqb u 0) = ⊎-elim (λ l. or-left (eqb (o .left) 0) (eqb u 0) (yes-eqb l)) (λ h. or-right (eqb (o .left) 0) (eqb u 0) (yes-eqb h)) (r .1) in
       yes-all _ (sending-in o (r .0), (gap, (yes-ltb (r .2), tt)))
 
@@ -194,12 +194,17 @@ module _ (s : Settings) where
   unfolding berthInOrder
   berth-range b t =
       let f = all-yes _ t in
-      record { own = own-range _ _ (f .0); receive = rx-range s (b .settings .block) (b .last) (b .rx) (f .1 .0); send = tx-range (b .tx) (f .1 .1 .0) }
+      record {
+        own = own-range _ _ (f .0);
+        receive = rx-range s (b .settings .block) (b .last) (b .rx) (f .1 .0);
+        send = tx-range (b .tx) (f .1 .1 .0);
+        party = leb-yes (f .1 .1 .1 .0);
+      }
 
   pub berth-in : (b : Berth) → BerthRange s b → T (berthInOrder s b)
   unfolding berthInOrder
   berth-in b r =
-      yes-all _ (own-allowed _ _ (r .own), (rx-in s (b .settings .block) (b .last) (b .rx) (r .receive), (tx-in (b .tx) (r .send), tt)))
+      yes-all _ (own-allowed _ _ (r .own), (rx-in s (b .settings .block) (b .last) (b .rx) (r .receive), (tx-in (b .tx) (r .send), (yes-leb (r .party), tt))))
 
 -- ---- the node
 

@@ -5,13 +5,14 @@ use lib.ListN.{length}
 use lib.Seq.{sets}
 use Rattle.rules.specs.Nodes.{berthAt, Held}
 use Rattle.rules.specs.Arrivals.{frameCame}
-use Rattle.rules.specs.Ticks.{ticked, rxCode, txCode}
+use Rattle.rules.specs.Ticks.{ticked, rxCode, txCode, txParty}
 use Rattle.rules.specs.Turns.{handOver, sent}
 use Rattle.rules.specs.Changes.{changed}
 use Rattle.rules.specs.Stores.{areaOf}
 use Rattle.rules.specs.Events.{Event, arrives, ticks, sends, turns, changes}
 use Rattle.rules.specs.Cards.{cardAt, added, adds}
 use Rattle.rules.specs.declared.Settings.{Settings}
+use Rattle.rules.specs.declared.Party.{Party}
 use Rattle.rules.specs.declared.Berth.{Berth}
 use Rattle.rules.specs.declared.Card.{Card}
 use Rattle.rules.specs.declared.Word.{Word}
@@ -32,13 +33,13 @@ partOf k h =
       card = cardAt (h .cards) k;
     }
 
--- what a berth says at an event: old code and word; the codes of its two sides; that it takes the message; frame and code; that it takes
--- the setting
+-- what a berth says at an event: old code and word; the codes of its two sides, and the party; that it takes the message; frame, code and
+-- party; that it takes the setting
 pub data Says : Type 0 where
   hears : ℕ → Word → Says
-  expires : ℕ → ℕ → Says
+  expires : ℕ → ℕ → Party → Says
   accepts : Says
-  hands : List ℕ → ℕ → Says
+  hands : List ℕ → ℕ → Party → Says
   adopts : Says
 
 -- a part with its state anew, with one of its areas anew, and with its card anew
@@ -60,7 +61,7 @@ stateAfter s p (arrives d) =
     withIncomingArea (withState p (frameCame s (p .berth) d .berth))
     (sets (p .incoming) (frameCame s (p .berth) d .place) (frameCame s (p .berth) d .bytes))
 stateAfter s p ticks = withState p (ticked (p .berth))
-stateAfter s p (sends m) = withOutgoingArea (withState p (sent (p .berth) (length m))) (sets (p .outgoing) 0 m)
+stateAfter s p (sends party m) = withOutgoingArea (withState p (sent (p .berth) (length m) party)) (sets (p .outgoing) 0 m)
 stateAfter s p turns = withState p (handOver (p .berth) (p .outgoing) .berth)
 stateAfter s p (changes parameter value) = withState p (changed (p .berth) parameter value)
 
@@ -70,9 +71,10 @@ partAfter s p e = withCard (stateAfter s p e) (added (p .card) (adds s (p .berth
 
 unfoldable pub says : Settings → Part → Event → Says
 says s p (arrives d) = hears (frameCame s (p .berth) d .old) (frameCame s (p .berth) d .word)
-says s p ticks = expires (rxCode (p .berth .rx)) (txCode (p .berth .tx))
-says s p (sends m) = accepts
-says s p turns = hands (handOver (p .berth) (p .outgoing) .frame) (handOver (p .berth) (p .outgoing) .code)
+says s p ticks = expires (rxCode (p .berth .rx)) (txCode (p .berth .tx)) (txParty (p .berth .tx))
+says s p (sends party m) = accepts
+says s p turns =
+    hands (handOver (p .berth) (p .outgoing) .frame) (handOver (p .berth) (p .outgoing) .code) (handOver (p .berth) (p .outgoing) .party)
 says s p (changes parameter value) = adopts
 
 -- a run of events on the berth alone

@@ -4,7 +4,9 @@ use mathlib.Core.List.{List, [], _∷_, _++_}
 use lib.ListN.{take}
 use lib.Dec.{leb, eqb}
 use Rattle.rules.specs.Tests.{pick, unless}
+use Rattle.rules.specs.Parties.{scheduler}
 use Rattle.rules.specs.Numbers.{frameSize, toBerth, N-OK, N-WRONG-SN}
+use Rattle.rules.specs.declared.Party.{Party}
 use Rattle.rules.specs.declared.Word.{Word}
 use Rattle.rules.specs.declared.Word.the-variants.{Delivered, Begun, Failed, Ignored, TooLong, Took, Going, Waiting}
 use Rattle.rules.specs.declared.Codes.{Codes}
@@ -15,20 +17,21 @@ use Rattle.rules.specs.declared.SendAnswer.{SendAnswer}
 use Rattle.rules.specs.declared.TurnAnswer.{TurnAnswer}
 use Rattle.rules.specs.declared.ChangeAnswer.{ChangeAnswer}
 
--- refused with a number; set up; heard at a berth with old code and word; ten pairs of codes; sent to a berth; handed over with
--- identifier, frame, code and passed over; none with passed over; a part shown; a berth's setting changed (paper 02, W3)
+-- refused with a number; set up; heard at a berth with old code and word; ten times the codes of both sides and the party; sent to a berth; handed over with
+-- identifier, frame, code, passed over and party; none with passed over; a part shown; a berth's setting changed (paper 02, W3)
 pub data Answer : Type 0 where
   refused : ℕ → Answer
   ready : Answer
   heard : ℕ → ℕ → Word → Answer
   codes : List Codes → Answer
   sent : ℕ → Answer
-  handed : ℕ → List ℕ → ℕ → ℕ → Answer
+  handed : ℕ → List ℕ → ℕ → ℕ → Party → Answer
   none : ℕ → Answer
   shown : List ℕ → Answer
   changed : ℕ → Answer
 
--- ---- reports: berth, side, code. Delivered reports 1, Failed its code, an old reception 7; TooLong reports nothing
+-- ---- reports: berth, side, code, and the party that sends, 0 for the receive side (paper 02, W6). Delivered reports 1, Failed its code, an
+-- old reception 7; TooLong reports nothing
 
 pub data Side : Type 0 where
   receive send : Side
@@ -37,20 +40,21 @@ pub record Report : Type 0 where
   pub berth : ℕ
   pub side : Side
   pub code : ℕ
+  pub party : Party
 
 -- a code of 0 is no report
-unfoldable pub reported : ℕ → Side → ℕ → List Report
-reported k side zero = []
-reported k side (suc c) = record { berth = k; side = side; code = suc c } ∷ []
+unfoldable pub reported : ℕ → Side → ℕ → Party → List Report
+reported k side zero party = []
+reported k side (suc c) party = record { berth = k; side = side; code = suc c; party = party } ∷ []
 
 -- Failed 5 is the receive side's, 6 and 9 are the send side's
 unfoldable pub failedSide : ℕ → Side
 failedSide c = pick (eqb c N-WRONG-SN) receive send
 
 unfoldable pub wordReports : ℕ → Word → List Report
-wordReports k (Delivered n) = reported k receive N-OK
+wordReports k (Delivered n) = reported k receive N-OK scheduler
 wordReports k (Begun n) = []
-wordReports k (Failed c) = reported k (failedSide c) c
+wordReports k (Failed c party) = reported k (failedSide c) c party
 wordReports k (Ignored i) = []
 wordReports k TooLong = []
 wordReports k Took = []
@@ -60,7 +64,7 @@ wordReports k Waiting = []
 -- a tick's reports go by berth, receive before send
 unfoldable pub codesReports : ℕ → List Codes → List Report
 codesReports k [] = []
-codesReports k (c ∷ cs) = reported k receive (c .receive) ++ (reported k send (c .send) ++ codesReports (suc k) cs)
+codesReports k (c ∷ cs) = reported k receive (c .receive) scheduler ++ (reported k send (c .send) (c .party) ++ codesReports (suc k) cs)
 
 -- whose an identifier is that the node sends on: berth k's if it is 660 hex + k, nobody's if it is below 660 hex
 abbrev pub forTaker {ℓ} : {X : Type ℓ} → ℕ → (ℕ → X) → X → X
@@ -69,10 +73,10 @@ forTaker id its nobodys = pick (leb toBerth id) (its (id - toBerth)) nobodys
 unfoldable pub reports : Answer → List Report
 reports (refused n) = []
 reports ready = []
-reports (heard k old w) = reported k receive old ++ wordReports k w
+reports (heard k old w) = reported k receive old scheduler ++ wordReports k w
 reports (codes cs) = codesReports 0 cs
 reports (sent k) = []
-reports (handed id frame code passed) = forTaker id (λ k. reported k send code) []
+reports (handed id frame code passed party) = forTaker id (λ k. reported k send code party) []
 reports (none passed) = []
 reports (shown part) = []
 reports (changed k) = []
@@ -97,7 +101,7 @@ sendSays (SendAnswer.Sent k) = sent k
 unfoldable pub turnSays : TurnAnswer → List ℕ → Answer
 turnSays (TurnAnswer.Refused n) buffer = refused n
 turnSays (TurnAnswer.None passed) buffer = none passed
-turnSays (TurnAnswer.HandedOver id code passed) buffer = handed id (take frameSize buffer) code passed
+turnSays (TurnAnswer.HandedOver id code passed party) buffer = handed id (take frameSize buffer) code passed party
 
 unfoldable pub changeSays : ChangeAnswer → Answer
 changeSays (ChangeAnswer.Refused n) = refused n
@@ -112,7 +116,7 @@ pub record Paper : Type 0 where
 unfoldable pub wordPaper : Word → List ℕ
 wordPaper (Delivered n) = 1 ∷ n ∷ []
 wordPaper (Begun n) = 2 ∷ n ∷ []
-wordPaper (Failed c) = 3 ∷ c ∷ []
+wordPaper (Failed c party) = 3 ∷ c ∷ party .0 ∷ []
 wordPaper (Ignored i) = 4 ∷ i ∷ []
 wordPaper TooLong = 5 ∷ []
 wordPaper Took = 6 ∷ []
@@ -121,7 +125,7 @@ wordPaper Waiting = 8 ∷ []
 
 unfoldable pub codesPaper : List Codes → List ℕ
 codesPaper [] = []
-codesPaper (c ∷ cs) = c .receive ∷ c .send ∷ codesPaper cs
+codesPaper (c ∷ cs) = c .receive ∷ c .send ∷ c .party .0 ∷ codesPaper cs
 
 unfoldable pub paperOf : Answer → Paper
 paperOf (refused n) = record { number = 0; values = n ∷ [] }
@@ -129,7 +133,7 @@ paperOf ready = record { number = 1; values = [] }
 paperOf (heard k old w) = record { number = 2; values = k ∷ old ∷ wordPaper w }
 paperOf (codes cs) = record { number = 3; values = codesPaper cs }
 paperOf (sent k) = record { number = 4; values = k ∷ [] }
-paperOf (handed id frame code passed) = record { number = 5; values = id ∷ code ∷ passed ∷ frame }
+paperOf (handed id frame code passed party) = record { number = 5; values = id ∷ code ∷ passed ∷ party .0 ∷ frame }
 paperOf (none passed) = record { number = 6; values = passed ∷ [] }
 paperOf (shown part) = record { number = 7; values = part }
 paperOf (changed k) = record { number = 8; values = k ∷ [] }

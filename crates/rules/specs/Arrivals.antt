@@ -7,11 +7,13 @@ use lib.ListN.{length, take, drop}
 use lib.Dec.{ltb, leb, eqb}
 use Rattle.rules.specs.Tests.{pick}
 use Rattle.rules.specs.Numbers.{singleKind, firstKind, consecutiveKind, flowKind, goStatus, waitStatus, overflowStatus, firstBytes, consecutiveMost, noData, otherKind, wrongLength, notAwaited, N-WRONG-SN, N-INVALID-FS, N-UNEXP-PDU, N-BUFFER-OVFLW}
+use Rattle.rules.specs.Parties.{scheduler}
 use Rattle.rules.specs.Nodes.{withRx, withTx}
 use Rattle.rules.specs.Frames.{byteAt, kind, low, singleFits, announced, firstFits, consecutiveFits, flowFits, firstSn, nextSn, counted, fillsBlock, gapOf, share}
 use Rattle.rules.specs.declared.Settings.{Settings}
 use Rattle.rules.specs.declared.Taking.{Taking}
 use Rattle.rules.specs.declared.Sending.{Sending}
+use Rattle.rules.specs.declared.Party.{Party}
 use Rattle.rules.specs.declared.Rx.{Rx}
 use Rattle.rules.specs.declared.Tx.{Tx}
 use Rattle.rules.specs.declared.Berth.{Berth}
@@ -97,9 +99,9 @@ afterTook bs p =
 unfoldable pub took : ℕ → Taking → ℕ → List ℕ → Heard
 took bs p last d = record { rx = afterTook bs p; last = last; old = 0; word = Took; place = p .got; bytes = piece p d }
 
--- wrong SN: Failed 5, idle
+-- wrong SN: Failed 5, which is no send side's and so has party 0, idle
 unfoldable pub wrongSn : ℕ → Heard
-wrongSn last = record { rx = Rx.Idle; last = last; old = 0; word = Failed N-WRONG-SN; place = 0; bytes = [] }
+wrongSn last = record { rx = Rx.Idle; last = last; old = 0; word = Failed N-WRONG-SN scheduler; place = 0; bytes = [] }
 
 unfoldable pub awaitedCame : ℕ → Taking → ℕ → ℕ → List ℕ → Heard
 awaitedCame bs p t last d =
@@ -135,19 +137,20 @@ granted o d =
       left = 0;
     }
 
--- 0: Going, values taken, consecutive with gap left 0, timer 0; 1: Waiting, timer 0; 2: Failed 9; 3 to 15: Failed 6. After Failed, idle
-unfoldable pub byStatus : Sending → List ℕ → Told
-byStatus o d =
-    pick (eqb (low d) goStatus) (record { tx = Tx.Consecutive (granted o d) 0; word = Going })
-    (pick (eqb (low d) waitStatus) (record { tx = Tx.AwaitsFlow o 0; word = Waiting })
-    (pick (eqb (low d) overflowStatus) (record { tx = Tx.Idle; word = Failed N-BUFFER-OVFLW })
-    (record { tx = Tx.Idle; word = Failed N-INVALID-FS })))
+-- 0: Going, values taken, consecutive with gap left 0, timer 0; 1: Waiting, timer 0; 2: Failed 9; 3 to 15: Failed 6, both with the
+-- party. After Failed, idle
+unfoldable pub byStatus : Sending → Party → List ℕ → Told
+byStatus o party d =
+    pick (eqb (low d) goStatus) (record { tx = Tx.Consecutive party (granted o d) 0; word = Going })
+    (pick (eqb (low d) waitStatus) (record { tx = Tx.AwaitsFlow party o 0; word = Waiting })
+    (pick (eqb (low d) overflowStatus) (record { tx = Tx.Idle; word = Failed N-BUFFER-OVFLW party })
+    (record { tx = Tx.Idle; word = Failed N-INVALID-FS party })))
 
 -- the word is Going
 abbrev pub isGoing : Word → Bool
 isGoing (Delivered n) = false
 isGoing (Begun n) = false
-isGoing (Failed c) = false
+isGoing (Failed c party) = false
 isGoing (Ignored why) = false
 isGoing TooLong = false
 isGoing Took = false
@@ -159,10 +162,10 @@ flowIgnored why tx = record { tx = tx; word = Ignored why }
 
 abbrev pub flowCame : Tx → List ℕ → Told
 flowCame Tx.Idle d = flowIgnored notAwaited Tx.Idle
-flowCame (Tx.SingleDue n t) d = flowIgnored notAwaited (Tx.SingleDue n t)
-flowCame (Tx.FirstDue n t) d = flowIgnored notAwaited (Tx.FirstDue n t)
-flowCame (Tx.AwaitsFlow o t) d = pick (flowFits d) (byStatus o d) (flowIgnored wrongLength (Tx.AwaitsFlow o t))
-flowCame (Tx.Consecutive o t) d = flowIgnored notAwaited (Tx.Consecutive o t)
+flowCame (Tx.SingleDue party n t) d = flowIgnored notAwaited (Tx.SingleDue party n t)
+flowCame (Tx.FirstDue party n t) d = flowIgnored notAwaited (Tx.FirstDue party n t)
+flowCame (Tx.AwaitsFlow party o t) d = pick (flowFits d) (byStatus o party d) (flowIgnored wrongLength (Tx.AwaitsFlow party o t))
+flowCame (Tx.Consecutive party o t) d = flowIgnored notAwaited (Tx.Consecutive party o t)
 
 -- ---- a frame at one berth: I1 and I2 come first, then the tests of the kind
 

@@ -58,8 +58,8 @@ afterTurn h k o = withCards (withNode h (servedNode (h .node) k (o .berth))) (ad
 unfoldable pub done : Held → Call → Held
 done h (frame id d) = afterFrame h (senderOf id) d (cameAt h (senderOf id) d)
 done h tick = withCards (withNode h (tickedNode (h .node))) (tickedCards (h .node .berths) (h .cards))
-done h (send k m) =
-    withOutgoing (withNode h (withBerth (h .node) k (sentBerth (berthAt (h .node) k) (length m))))
+done h (send k party m) =
+    withOutgoing (withNode h (withBerth (h .node) k (sentBerth (berthAt (h .node) k) (length m) (record { 0 = party }))))
     (stored (h .node .settings .area) k 0 m (h .outgoing))
 done h (turn buffer) =
     pick (ltb (passedOver (h .node)) berthCount)
@@ -73,10 +73,10 @@ done h (change k parameter value) = withNode h (withBerth (h .node) k (changedBe
 unfoldable pub reply : Held → Call → Answer
 reply h (frame id d) = heard (senderOf id) (cameAt h (senderOf id) d .old) (cameAt h (senderOf id) d .word)
 reply h tick = codes (map codesOf (h .node .berths))
-reply h (send k m) = sent k
+reply h (send k party m) = sent k
 reply h (turn buffer) =
     pick (ltb (passedOver (h .node)) berthCount)
-    (handed (toBerth + reached (h .node)) (handedAt h (reached (h .node)) .frame) (handedAt h (reached (h .node)) .code) (passedOver (h .node)))
+    (handed (toBerth + reached (h .node)) (handedAt h (reached (h .node)) .frame) (handedAt h (reached (h .node)) .code) (passedOver (h .node)) (handedAt h (reached (h .node)) .party))
     (none berthCount)
 reply h (show k choice) = shown (showing h k choice)
 reply h (change k parameter value) = changed k
@@ -86,7 +86,7 @@ reply h (change k parameter value) = changed k
 abbrev pub bufferOf : Call → List ℕ
 bufferOf (frame id d) = []
 bufferOf tick = []
-bufferOf (send k m) = []
+bufferOf (send k party m) = []
 bufferOf (turn buffer) = buffer
 bufferOf (show k choice) = []
 bufferOf (change k parameter value) = []
@@ -94,7 +94,7 @@ bufferOf (change k parameter value) = []
 unfoldable pub written : Held → Call → List ℕ
 written h (frame id d) = []
 written h tick = []
-written h (send k m) = []
+written h (send k party m) = []
 written h (turn buffer) =
     pick (ltb (passedOver (h .node)) berthCount) (handedAt h (reached (h .node)) .frame ++ drop frameSize buffer) buffer
 written h (show k choice) = []

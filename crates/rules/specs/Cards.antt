@@ -86,7 +86,7 @@ addedAt cards k a = set cards k (added (cardAt cards k) a)
 abbrev pub isDelivered : Word → Bool
 isDelivered (Delivered n) = true
 isDelivered (Begun n) = false
-isDelivered (Failed c) = false
+isDelivered (Failed c party) = false
 isDelivered (Ignored i) = false
 isDelivered TooLong = false
 isDelivered Took = false
@@ -96,7 +96,7 @@ isDelivered Waiting = false
 abbrev pub isBegun : Word → Bool
 isBegun (Delivered n) = false
 isBegun (Begun n) = true
-isBegun (Failed c) = false
+isBegun (Failed c party) = false
 isBegun (Ignored i) = false
 isBegun TooLong = false
 isBegun Took = false
@@ -106,7 +106,7 @@ isBegun Waiting = false
 abbrev pub isTooLong : Word → Bool
 isTooLong (Delivered n) = false
 isTooLong (Begun n) = false
-isTooLong (Failed c) = false
+isTooLong (Failed c party) = false
 isTooLong (Ignored i) = false
 isTooLong TooLong = true
 isTooLong Took = false
@@ -116,7 +116,7 @@ isTooLong Waiting = false
 abbrev pub isFailed : ℕ → Word → Bool
 isFailed code (Delivered n) = false
 isFailed code (Begun n) = false
-isFailed code (Failed c) = eqb c code
+isFailed code (Failed c party) = eqb c code
 isFailed code (Ignored i) = false
 isFailed code TooLong = false
 isFailed code Took = false
@@ -210,6 +210,6 @@ nothing =
 unfoldable pub adds : Settings → Berth → List ℕ → Event → Adds
 adds s b outgoing (arrives d) = frameAdds (isSingle d) (frameCame s b d .old) (frameCame s b d .word)
 adds s b outgoing ticks = tickAdds (underWay (b .rx)) (rxCode (b .rx)) (txCode (b .tx))
-adds s b outgoing (sends m) = nothing
+adds s b outgoing (sends party m) = nothing
 adds s b outgoing turns = turnAdds (handOver b outgoing .code)
 adds s b outgoing (changes parameter value) = nothing

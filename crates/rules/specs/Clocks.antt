@@ -5,7 +5,9 @@ use lib.Dec.{eqb, leb}
 use Rattle.rules.specs.Tests.{pick}
 use Rattle.rules.specs.Numbers.{timeout, longestGap, N-TIMEOUT-A, N-TIMEOUT-Bs, N-TIMEOUT-Cr}
 use Rattle.rules.specs.Ticks.{rxCode, txCode}
+use Rattle.rules.specs.Parties.{scheduler, partyOf}
 use Rattle.rules.specs.Answers.{Side, receive, send}
+use Rattle.rules.specs.declared.Party.{Party}
 use Rattle.rules.specs.declared.Rx.{Rx}
 use Rattle.rules.specs.declared.Tx.{Tx}
 use Rattle.rules.specs.declared.Berth.{Berth}
@@ -29,10 +31,10 @@ rxClock (Rx.Awaits p t) = runs 0 t N-TIMEOUT-Cr
 
 abbrev pub txClock : Tx → Clock
 txClock Tx.Idle = still
-txClock (Tx.SingleDue n t) = runs 0 t N-TIMEOUT-A
-txClock (Tx.FirstDue n t) = runs 0 t N-TIMEOUT-A
-txClock (Tx.AwaitsFlow o t) = runs 0 t N-TIMEOUT-Bs
-txClock (Tx.Consecutive o t) = runs (o .left) t N-TIMEOUT-A
+txClock (Tx.SingleDue party n t) = runs 0 t N-TIMEOUT-A
+txClock (Tx.FirstDue party n t) = runs 0 t N-TIMEOUT-A
+txClock (Tx.AwaitsFlow party o t) = runs 0 t N-TIMEOUT-Bs
+txClock (Tx.Consecutive party o t) = runs (o .left) t N-TIMEOUT-A
 
 abbrev pub clockOf : Side → Berth → Clock
 clockOf receive b = rxClock (b .rx)
@@ -65,6 +67,11 @@ endCode (runs g t code) = code
 abbrev pub tickCode : Side → Berth → ℕ
 tickCode receive b = rxCode (b .rx)
 tickCode send b = txCode (b .tx)
+
+-- the party that it reports for: the receive side has none, and 0 stands for it (paper 02, W6)
+abbrev pub sideParty : Side → Berth → Party
+sideParty receive b = scheduler
+sideParty send b = partyOf (b .tx)
 
 -- by its clock, at the tick with number i from now on: its code if its time ends there, and 0 at any other
 abbrev pub codeAt : ℕ → Clock → ℕ

@@ -3,6 +3,7 @@
 use Prim.Native.Nat.{ℕ, _+_}
 use mathlib.Core.List.{List, [], _∷_, _++_}
 use lib.ListN.{length, replicate}
+use Rattle.rules.specs.Parties.{scheduler}
 use Rattle.rules.specs.Nodes.{freshWith, fresh, withRx, withTx, Held, withCards}
 use Rattle.rules.specs.Events.{Call, frame, tick, send, turn, change}
 use Rattle.rules.specs.Cards.{zeroCard}
@@ -10,6 +11,7 @@ use Rattle.rules.specs.Refusals.{refusal, setUpRefusal}
 use Rattle.rules.specs.declared.Settings.{Settings}
 use Rattle.rules.specs.declared.Taking.{Taking}
 use Rattle.rules.specs.declared.Sending.{Sending}
+use Rattle.rules.specs.declared.Party.{Party}
 use Rattle.rules.specs.declared.Rx.{Rx}
 use Rattle.rules.specs.declared.Tx.{Tx}
 use Rattle.rules.specs.declared.Berth.{Berth}
@@ -65,7 +67,7 @@ broken i o = heldWith small 10 (replicate 10 fresh) i o
 
 -- berth 0 is sending, and has this receive side
 abbrev pub sendingAt0 : Held
-sendingAt0 = heldWith small 9 (withTx fresh (Tx.SingleDue 1 0) ∷ replicate 9 fresh) 80 80
+sendingAt0 = heldWith small 9 (withTx fresh (Tx.SingleDue scheduler 1 0) ∷ replicate 9 fresh) 80 80
 
 abbrev pub receivingAt0 : Rx → Held
 receivingAt0 rx = heldWith small 9 (withRx fresh rx 0 ∷ replicate 9 fresh) 80 80
@@ -91,6 +93,9 @@ abbrev pub sendingIs : ℕ → ℕ → ℕ → ℕ → ℕ → ℕ → ℕ → S
 sendingIs len position sn block sent gap left =
     record { length = len; position = position; sn = record { 0 = sn }; block = block; sent = sent; gap = gap; left = left }
 
+abbrev pub partyIs : ℕ → Party
+partyIs party = record { 0 = party }
+
 -- ---- the calls, on either side of each refusal
 
 abbrev pub calls : List Edge
@@ -107,9 +112,9 @@ calls =
     ∷ callEdge (stores 79 80) (frame 0x640 []) 2
     ∷ callEdge (stores 80 79) (frame 0x640 []) 0
     ∷ callEdge (stores 81 80) (frame 0x640 []) 2
-    ∷ callEdge (stores 80 79) (send 0 (1 ∷ [])) 2
-    ∷ callEdge (stores 79 80) (send 0 (1 ∷ [])) 0
-    ∷ callEdge (stores 80 81) (send 0 (1 ∷ [])) 2
+    ∷ callEdge (stores 80 79) (send 0 0 (1 ∷ [])) 2
+    ∷ callEdge (stores 79 80) (send 0 0 (1 ∷ [])) 0
+    ∷ callEdge (stores 80 81) (send 0 0 (1 ∷ [])) 2
     ∷ callEdge (stores 80 79) (turn (zeros 8)) 2
     ∷ callEdge (stores 79 80) (turn (zeros 8)) 0
     ∷ callEdge (stores 80 81) (turn (zeros 8)) 2
@@ -123,19 +128,24 @@ calls =
     ∷ callEdge (cardsAre 9 fine) (turn (zeros 8)) 12
     ∷ callEdge (cardsAre 10 fine) (turn (zeros 8)) 0
     ∷ callEdge (cardsAre 11 fine) (turn (zeros 8)) 12
-    ∷ callEdge (cardsAre 9 fine) (send 0 (1 ∷ [])) 0
+    ∷ callEdge (cardsAre 9 fine) (send 0 0 (1 ∷ [])) 0
     -- 5: berth 9 and 10
-    ∷ callEdge fine (send 9 (1 ∷ [])) 0
-    ∷ callEdge fine (send 10 (1 ∷ [])) 5
+    ∷ callEdge fine (send 9 0 (1 ∷ [])) 0
+    ∷ callEdge fine (send 10 0 (1 ∷ [])) 5
+    -- 18: parties 0, 1 and 2
+    ∷ callEdge fine (send 0 0 (1 ∷ [])) 0
+    ∷ callEdge fine (send 0 1 (1 ∷ [])) 0
+    ∷ callEdge fine (send 0 2 (1 ∷ [])) 18
     -- 6: empty and 1 byte
-    ∷ callEdge fine (send 0 []) 6
-    ∷ callEdge fine (send 0 (1 ∷ [])) 0
+    ∷ callEdge fine (send 0 0 []) 6
+    ∷ callEdge fine (send 0 0 (1 ∷ [])) 0
     -- 7: A and A + 1 bytes
-    ∷ callEdge fine (send 0 (zeros 8)) 0
-    ∷ callEdge fine (send 0 (zeros 9)) 7
-    -- 8: sending and not
-    ∷ callEdge sendingAt0 (send 0 (1 ∷ [])) 8
-    ∷ callEdge sendingAt0 (send 1 (1 ∷ [])) 0
+    ∷ callEdge fine (send 0 0 (zeros 8)) 0
+    ∷ callEdge fine (send 0 0 (zeros 9)) 7
+    -- 8: sending and not; whose message it is does not matter
+    ∷ callEdge sendingAt0 (send 0 0 (1 ∷ [])) 8
+    ∷ callEdge sendingAt0 (send 0 1 (1 ∷ [])) 8
+    ∷ callEdge sendingAt0 (send 1 0 (1 ∷ [])) 0
     -- 9: a buffer of 7 and 8 bytes
     ∷ callEdge fine (turn (zeros 7)) 9
     ∷ callEdge fine (turn (zeros 8)) 0
@@ -188,12 +198,16 @@ both =
     ∷ callEdge fine (frame 0x64A (zeros 9)) 3
     ∷ callEdge fine (frame 0x64A []) 3
     ∷ callEdge fine (frame 0x640 (0x70 ∷ zeros 8)) 4
-    ∷ callEdge (broken 80 79) (send 10 []) 1
-    ∷ callEdge (stores 80 79) (send 10 []) 2
-    ∷ callEdge fine (send 10 []) 5
+    ∷ callEdge (broken 80 79) (send 10 2 []) 1
+    ∷ callEdge (stores 80 79) (send 10 2 []) 2
+    ∷ callEdge fine (send 10 2 []) 5
+    -- 18 with 6, with 7 and with 8
+    ∷ callEdge fine (send 0 2 []) 18
+    ∷ callEdge fine (send 0 2 (zeros 9)) 18
+    ∷ callEdge sendingAt0 (send 0 2 (1 ∷ [])) 18
     -- 6 and 7 cannot both hold; 6 with 8, and 7 with 8
-    ∷ callEdge sendingAt0 (send 0 []) 6
-    ∷ callEdge sendingAt0 (send 0 (zeros 9)) 7
+    ∷ callEdge sendingAt0 (send 0 0 []) 6
+    ∷ callEdge sendingAt0 (send 0 0 (zeros 9)) 7
     ∷ callEdge (broken 80 79) (turn (zeros 7)) 1
     ∷ callEdge (stores 80 79) (turn (zeros 7)) 2
     ∷ callEdge (cardsAre 9 (stores 80 79)) (turn (zeros 8)) 2
@@ -279,51 +293,60 @@ txEdge side n = nodeEdge (areaIs 40) 9 (withTx fresh side) n
 abbrev pub sendRanges : List Edge
 sendRanges =
     -- single due 1 to 7, first due 8 to A
-    txEdge (Tx.SingleDue 0 0) 1
-    ∷ txEdge (Tx.SingleDue 1 0) 0
-    ∷ txEdge (Tx.SingleDue 7 0) 0
-    ∷ txEdge (Tx.SingleDue 8 0) 1
-    ∷ txEdge (Tx.FirstDue 7 0) 1
-    ∷ txEdge (Tx.FirstDue 8 0) 0
-    ∷ txEdge (Tx.FirstDue 40 0) 0
-    ∷ txEdge (Tx.FirstDue 41 0) 1
+    txEdge (Tx.SingleDue scheduler 0 0) 1
+    ∷ txEdge (Tx.SingleDue scheduler 1 0) 0
+    ∷ txEdge (Tx.SingleDue scheduler 7 0) 0
+    ∷ txEdge (Tx.SingleDue scheduler 8 0) 1
+    ∷ txEdge (Tx.FirstDue scheduler 7 0) 1
+    ∷ txEdge (Tx.FirstDue scheduler 8 0) 0
+    ∷ txEdge (Tx.FirstDue scheduler 40 0) 0
+    ∷ txEdge (Tx.FirstDue scheduler 41 0) 1
     -- timers
-    ∷ txEdge (Tx.SingleDue 1 999) 0
-    ∷ txEdge (Tx.SingleDue 1 1000) 1
-    ∷ txEdge (Tx.FirstDue 8 999) 0
-    ∷ txEdge (Tx.FirstDue 8 1000) 1
-    ∷ txEdge (Tx.AwaitsFlow (sendingIs 20 6 1 0 0 0 0) 999) 0
-    ∷ txEdge (Tx.AwaitsFlow (sendingIs 20 6 1 0 0 0 0) 1000) 1
-    ∷ txEdge (Tx.Consecutive (sendingIs 20 6 1 0 0 0 0) 999) 0
-    ∷ txEdge (Tx.Consecutive (sendingIs 20 6 1 0 0 0 0) 1000) 1
+    ∷ txEdge (Tx.SingleDue scheduler 1 999) 0
+    ∷ txEdge (Tx.SingleDue scheduler 1 1000) 1
+    ∷ txEdge (Tx.FirstDue scheduler 8 999) 0
+    ∷ txEdge (Tx.FirstDue scheduler 8 1000) 1
+    ∷ txEdge (Tx.AwaitsFlow scheduler (sendingIs 20 6 1 0 0 0 0) 999) 0
+    ∷ txEdge (Tx.AwaitsFlow scheduler (sendingIs 20 6 1 0 0 0 0) 1000) 1
+    ∷ txEdge (Tx.Consecutive scheduler (sendingIs 20 6 1 0 0 0 0) 999) 0
+    ∷ txEdge (Tx.Consecutive scheduler (sendingIs 20 6 1 0 0 0 0) 1000) 1
     -- length 8 to A, position 6 to length - 1
-    ∷ txEdge (Tx.Consecutive (sendingIs 7 6 1 0 0 0 0) 0) 1
-    ∷ txEdge (Tx.Consecutive (sendingIs 8 6 1 0 0 0 0) 0) 0
-    ∷ txEdge (Tx.Consecutive (sendingIs 40 6 1 0 0 0 0) 0) 0
-    ∷ txEdge (Tx.Consecutive (sendingIs 41 6 1 0 0 0 0) 0) 1
-    ∷ txEdge (Tx.Consecutive (sendingIs 20 5 1 0 0 0 0) 0) 1
-    ∷ txEdge (Tx.Consecutive (sendingIs 20 19 1 0 0 0 0) 0) 0
-    ∷ txEdge (Tx.Consecutive (sendingIs 20 20 1 0 0 0 0) 0) 1
+    ∷ txEdge (Tx.Consecutive scheduler (sendingIs 7 6 1 0 0 0 0) 0) 1
+    ∷ txEdge (Tx.Consecutive scheduler (sendingIs 8 6 1 0 0 0 0) 0) 0
+    ∷ txEdge (Tx.Consecutive scheduler (sendingIs 40 6 1 0 0 0 0) 0) 0
+    ∷ txEdge (Tx.Consecutive scheduler (sendingIs 41 6 1 0 0 0 0) 0) 1
+    ∷ txEdge (Tx.Consecutive scheduler (sendingIs 20 5 1 0 0 0 0) 0) 1
+    ∷ txEdge (Tx.Consecutive scheduler (sendingIs 20 19 1 0 0 0 0) 0) 0
+    ∷ txEdge (Tx.Consecutive scheduler (sendingIs 20 20 1 0 0 0 0) 0) 1
     -- SN 0 to 15
-    ∷ txEdge (Tx.AwaitsFlow (sendingIs 20 6 15 0 0 0 0) 0) 0
-    ∷ txEdge (Tx.AwaitsFlow (sendingIs 20 6 16 0 0 0 0) 0) 1
+    ∷ txEdge (Tx.AwaitsFlow scheduler (sendingIs 20 6 15 0 0 0 0) 0) 0
+    ∷ txEdge (Tx.AwaitsFlow scheduler (sendingIs 20 6 16 0 0 0 0) 0) 1
     -- frames sent below the peer's block size, or 0 if it is 0; 0 while awaiting
-    ∷ txEdge (Tx.Consecutive (sendingIs 20 6 1 3 2 0 0) 0) 0
-    ∷ txEdge (Tx.Consecutive (sendingIs 20 6 1 3 3 0 0) 0) 1
-    ∷ txEdge (Tx.Consecutive (sendingIs 20 6 1 0 1 0 0) 0) 1
-    ∷ txEdge (Tx.AwaitsFlow (sendingIs 20 6 1 3 0 0 0) 0) 0
-    ∷ txEdge (Tx.AwaitsFlow (sendingIs 20 6 1 3 1 0 0) 0) 1
+    ∷ txEdge (Tx.Consecutive scheduler (sendingIs 20 6 1 3 2 0 0) 0) 0
+    ∷ txEdge (Tx.Consecutive scheduler (sendingIs 20 6 1 3 3 0 0) 0) 1
+    ∷ txEdge (Tx.Consecutive scheduler (sendingIs 20 6 1 0 1 0 0) 0) 1
+    ∷ txEdge (Tx.AwaitsFlow scheduler (sendingIs 20 6 1 3 0 0 0) 0) 0
+    ∷ txEdge (Tx.AwaitsFlow scheduler (sendingIs 20 6 1 3 1 0 0) 0) 1
     -- the peer's gap and the gap left 0 to 128; gap left 0 while awaiting; the timer 0 while it is above 0
-    ∷ txEdge (Tx.Consecutive (sendingIs 20 6 1 0 0 128 0) 0) 0
-    ∷ txEdge (Tx.Consecutive (sendingIs 20 6 1 0 0 129 0) 0) 1
-    ∷ txEdge (Tx.Consecutive (sendingIs 20 6 1 0 0 0 128) 0) 0
-    ∷ txEdge (Tx.Consecutive (sendingIs 20 6 1 0 0 0 129) 0) 1
-    ∷ txEdge (Tx.AwaitsFlow (sendingIs 20 6 1 0 0 128 0) 0) 0
-    ∷ txEdge (Tx.AwaitsFlow (sendingIs 20 6 1 0 0 129 0) 0) 1
-    ∷ txEdge (Tx.AwaitsFlow (sendingIs 20 6 1 0 0 128 1) 0) 1
-    ∷ txEdge (Tx.Consecutive (sendingIs 20 6 1 0 0 0 1) 0) 0
-    ∷ txEdge (Tx.Consecutive (sendingIs 20 6 1 0 0 0 1) 1) 1
-    ∷ txEdge (Tx.Consecutive (sendingIs 20 6 1 0 0 0 0) 1) 0
+    ∷ txEdge (Tx.Consecutive scheduler (sendingIs 20 6 1 0 0 128 0) 0) 0
+    ∷ txEdge (Tx.Consecutive scheduler (sendingIs 20 6 1 0 0 129 0) 0) 1
+    ∷ txEdge (Tx.Consecutive scheduler (sendingIs 20 6 1 0 0 0 128) 0) 0
+    ∷ txEdge (Tx.Consecutive scheduler (sendingIs 20 6 1 0 0 0 129) 0) 1
+    ∷ txEdge (Tx.AwaitsFlow scheduler (sendingIs 20 6 1 0 0 128 0) 0) 0
+    ∷ txEdge (Tx.AwaitsFlow scheduler (sendingIs 20 6 1 0 0 129 0) 0) 1
+    ∷ txEdge (Tx.AwaitsFlow scheduler (sendingIs 20 6 1 0 0 128 1) 0) 1
+    ∷ txEdge (Tx.Consecutive scheduler (sendingIs 20 6 1 0 0 0 1) 0) 0
+    ∷ txEdge (Tx.Consecutive scheduler (sendingIs 20 6 1 0 0 0 1) 1) 1
+    ∷ txEdge (Tx.Consecutive scheduler (sendingIs 20 6 1 0 0 0 0) 1) 0
+    -- the party 0 or 1, in each state
+    ∷ txEdge (Tx.SingleDue (partyIs 1) 1 0) 0
+    ∷ txEdge (Tx.SingleDue (partyIs 2) 1 0) 1
+    ∷ txEdge (Tx.FirstDue (partyIs 1) 8 0) 0
+    ∷ txEdge (Tx.FirstDue (partyIs 2) 8 0) 1
+    ∷ txEdge (Tx.AwaitsFlow (partyIs 1) (sendingIs 20 6 1 0 0 0 0) 0) 0
+    ∷ txEdge (Tx.AwaitsFlow (partyIs 2) (sendingIs 20 6 1 0 0 0 0) 0) 1
+    ∷ txEdge (Tx.Consecutive (partyIs 1) (sendingIs 20 6 1 0 0 0 0) 0) 0
+    ∷ txEdge (Tx.Consecutive (partyIs 2) (sendingIs 20 6 1 0 0 0 0) 0) 1
     ∷ []
 
 -- all rows

@@ -2,14 +2,15 @@
 use Prim.Native.Nat.{ℕ, _-_}
 use mathlib.Core.List.{List}
 use Rattle.rules.specs.Numbers.{fromBerth}
+use Rattle.rules.specs.declared.Party.{Party}
 use Rattle.rules.specs.declared.Choice.{Choice}
 
--- the six calls: a frame came in on an identifier; a tick; send a message to a berth; call for a frame with a buffer; show a
+-- the six calls: a frame came in on an identifier; a tick; send a party's message to a berth (paper 02, W6); call for a frame with a buffer; show a
 -- berth's message, the last arrived or the one now being sent; change a berth's parameter to a value (paper 02, W3)
 pub data Call : Type 0 where
   frame : ℕ → List ℕ → Call
   tick : Call
-  send : ℕ → List ℕ → Call
+  send : (berth party : ℕ) → List ℕ → Call
   turn : List ℕ → Call
   show : ℕ → Choice → Call
   change : (berth parameter value : ℕ) → Call
@@ -22,6 +23,6 @@ senderOf id = id - fromBerth
 pub data Event : Type 0 where
   arrives : List ℕ → Event
   ticks : Event
-  sends : List ℕ → Event
+  sends : Party → List ℕ → Event
   turns : Event
   changes : (parameter value : ℕ) → Event

@@ -24,9 +24,9 @@ pub record Fit (f : List ℕ) : Type 0 where
 -- the data frames that a berth hands over at an event: a frame that is no flow control. Where nothing is due no byte is handed over
 abbrev pub dataFrames : Says → ℕ
 dataFrames (hears old w) = 0
-dataFrames (expires r s) = 0
+dataFrames (expires r s party) = 0
 dataFrames accepts = 0
-dataFrames (hands f c) = pick (eqb (length f) 0 || eqb (kind f) flowKind) 0 1
+dataFrames (hands f c party) = pick (eqb (length f) 0 || eqb (kind f) flowKind) 0 1
 dataFrames adopts = 0
 
 unfoldable pub dataTotal : List Says → ℕ
@@ -37,7 +37,7 @@ dataTotal (x ∷ xs) = dataFrames x + dataTotal xs
 abbrev pub Carried : Settings → Part → Event → Type 0
 Carried s p (arrives d) = T (busy (p .berth .tx)) → T (busy (frameCame s (p .berth) d .berth .tx))
 Carried s p ticks = T (busy (p .berth .tx)) → T (busy (txTicked (p .berth .tx)))
-Carried s p (sends m) = ⊥
+Carried s p (sends party m) = ⊥
 Carried s p turns = Unit {0}
 Carried s p (changes parameter value) = MayChange (p .berth) parameter value
 

@@ -1,6 +1,7 @@
 -- Papers 01 and 02 as definitions, in their order.
 pub mod Tests
 pub mod Numbers
+pub mod Parties
 pub mod Nodes
 pub mod Ranges
 pub mod Frames

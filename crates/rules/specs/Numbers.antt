@@ -141,7 +141,7 @@ N-UNEXP-PDU = 7
 abbrev pub N-BUFFER-OVFLW : ℕ
 N-BUFFER-OVFLW = 9
 
--- ---- refusals 1 to 15: the most data bytes of a frame that comes in, the fewest bytes of a turn's buffer, and the numbers
+-- ---- refusals 1 to 18: the most data bytes of a frame that comes in, the fewest bytes of a turn's buffer, and the numbers
 
 abbrev pub mostData : ℕ
 mostData = 8
@@ -196,6 +196,10 @@ valueOutside = 14
 abbrev pub alreadyReceiving : ℕ
 alreadyReceiving = 15
 
+-- paper 02, W6
+abbrev pub noSuchParty : ℕ
+noSuchParty = 18
+
 -- ---- the parameters that a change names (paper 02, W3), in the order of the standard's 8.3.5
 
 abbrev pub stminParameter : ℕ
@@ -203,6 +207,14 @@ stminParameter = 0
 
 abbrev pub blockParameter : ℕ
 blockParameter = 1
+
+-- ---- the parties that send (paper 02, W6): 0 scheduler, 1 laptop
+
+abbrev pub theScheduler : ℕ
+theScheduler = 0
+
+abbrev pub theLaptop : ℕ
+theLaptop = 1
 
 -- ---- the cards: a count at its end freezes its card
 

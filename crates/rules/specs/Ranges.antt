@@ -8,7 +8,8 @@ use mathlib.Core.List.{[], _∷_}
 use lib.ListN.{length}
 use lib.Dec.{ltb, leb, eqb}
 use Rattle.rules.specs.Tests.{pick, all, each}
-use Rattle.rules.specs.Numbers.{berthCount, leastArea, largestArea, largestBlock, mostMillis, leastFraction, mostFraction, timeout, snCount, longestGap, singleMost, firstBytes, leastLong}
+use Rattle.rules.specs.Numbers.{berthCount, leastArea, largestArea, largestBlock, mostMillis, leastFraction, mostFraction, timeout, snCount, longestGap, singleMost, firstBytes, leastLong, theLaptop}
+use Rattle.rules.specs.Parties.{partyAllowed, partyOf}
 use Rattle.rules.specs.Nodes.{berthAt}
 use Rattle.rules.specs.declared.Settings.{Settings}
 use Rattle.rules.specs.declared.Taking.{Taking}
@@ -118,31 +119,39 @@ pub record SendingRange (s : Settings) (o : Sending) : Type 0 where
 -- is above 0 the timer is 0; all but idle have a timer 0 to 999
 abbrev pub txInRange : Settings → Tx → Bool
 txInRange s Tx.Idle = true
-txInRange s (Tx.SingleDue n t) = all (leb 1 n ∷ leb n singleMost ∷ ltb t timeout ∷ [])
-txInRange s (Tx.FirstDue n t) = all (leb leastLong n ∷ leb n (s .area) ∷ ltb t timeout ∷ [])
-txInRange s (Tx.AwaitsFlow o t) = all (sendingInRange s o ∷ eqb (o .sent) 0 ∷ eqb (o .left) 0 ∷ ltb t timeout ∷ [])
-txInRange s (Tx.Consecutive o t) = all (sendingInRange s o ∷ (eqb (o .left) 0 || eqb t 0) ∷ ltb t timeout ∷ [])
+txInRange s (Tx.SingleDue party n t) = all (leb 1 n ∷ leb n singleMost ∷ ltb t timeout ∷ [])
+txInRange s (Tx.FirstDue party n t) = all (leb leastLong n ∷ leb n (s .area) ∷ ltb t timeout ∷ [])
+txInRange s (Tx.AwaitsFlow party o t) = all (sendingInRange s o ∷ eqb (o .sent) 0 ∷ eqb (o .left) 0 ∷ ltb t timeout ∷ [])
+txInRange s (Tx.Consecutive party o t) = all (sendingInRange s o ∷ (eqb (o .left) 0 || eqb t 0) ∷ ltb t timeout ∷ [])
 
 abbrev pub TxRange : Settings → Tx → Type 0
 TxRange s Tx.Idle = Unit {0}
-TxRange s (Tx.SingleDue n t) = (1 ≤ n) × (n ≤ singleMost) × (t < timeout)
-TxRange s (Tx.FirstDue n t) = (leastLong ≤ n) × (n ≤ s .area) × (t < timeout)
-TxRange s (Tx.AwaitsFlow o t) = SendingRange s o × (o .sent ≡ 0) × (o .left ≡ 0) × (t < timeout)
-TxRange s (Tx.Consecutive o t) = SendingRange s o × ((o .left ≡ 0) ⊎ (t ≡ 0)) × (t < timeout)
+TxRange s (Tx.SingleDue party n t) = (1 ≤ n) × (n ≤ singleMost) × (t < timeout)
+TxRange s (Tx.FirstDue party n t) = (leastLong ≤ n) × (n ≤ s .area) × (t < timeout)
+TxRange s (Tx.AwaitsFlow party o t) = SendingRange s o × (o .sent ≡ 0) × (o .left ≡ 0) × (t < timeout)
+TxRange s (Tx.Consecutive party o t) = SendingRange s o × ((o .left ≡ 0) ⊎ (t ≡ 0)) × (t < timeout)
+
+-- the party that it keeps is 0 or 1 (paper 02, W6)
+abbrev pub partyInRange : Tx → Bool
+partyInRange tx = partyAllowed (partyOf tx .0)
+
+abbrev pub PartyRange : Tx → Type 0
+PartyRange tx = partyOf tx .0 ≤ theLaptop
 
 -- ---- one berth, and the node
 
--- its own settings are in range, and so is each side, the receive side by its own BS
+-- its own settings are in range, and so is each side, the receive side by its own BS, and the party that it sends for
 unfoldable pub berthInOrder : Settings → Berth → Bool
 berthInOrder s b =
     all
     (ownAllowed (b .settings .block) (b .settings .stmin) ∷ rxInRange s (b .settings .block) (b .last) (b .rx)
-    ∷ txInRange s (b .tx) ∷ [])
+    ∷ txInRange s (b .tx) ∷ partyInRange (b .tx) ∷ [])
 
 pub record BerthRange (s : Settings) (b : Berth) : Type 0 where
   pub own : OwnRange (b .settings .block) (b .settings .stmin)
   pub receive : RxRange s (b .settings .block) (b .last) (b .rx)
   pub send : TxRange s (b .tx)
+  pub party : PartyRange (b .tx)
 
 -- A is in range, the berth served last is 0 to 9, and each of the ten berths is in order
 unfoldable pub inOrder : Node → Bool

@@ -1,4 +1,4 @@
--- Paper 01, "Refusal numbers", as paper 02 changes it (12 to 15 are new, 11 is struck): for each call its needs in the order in which they are
+-- Paper 01, "Refusal numbers", as paper 02 changes it (12 to 15 and 18 are new, 11 is struck): for each call its needs in the order in which they are
 -- tested, as tests and as plain conditions. That a refusal is n if and only if condition n is the first of the call's list that holds is
 -- proved (proofs/Exact).
 use Prim.Native.Nat.{ℕ, _+_, _*_, _≤_, _<_}
@@ -9,7 +9,8 @@ use mathlib.Core.List.{List, [], _∷_, _++_}
 use lib.ListN.{length}
 use lib.Dec.{ltb, leb}
 use Rattle.rules.specs.Tests.{Need, need, firstUnmet}
-use Rattle.rules.specs.Numbers.{berthCount, fromBerth, mostData, leastBuffer, outOfOrder, wrongStore, wrongIdentifier, tooManyBytes, noSuchBerth, emptyMessage, messageTooLong, alreadySending, shortBuffer, badSetting, wrongCards, unknownParameter, valueOutside, alreadyReceiving}
+use Rattle.rules.specs.Numbers.{berthCount, fromBerth, mostData, leastBuffer, outOfOrder, wrongStore, wrongIdentifier, tooManyBytes, noSuchBerth, emptyMessage, messageTooLong, alreadySending, shortBuffer, badSetting, wrongCards, unknownParameter, valueOutside, alreadyReceiving, noSuchParty}
+use Rattle.rules.specs.Parties.{partyAllowed}
 use Rattle.rules.specs.Nodes.{berthAt, Held}
 use Rattle.rules.specs.Ranges.{settingsAllowed, SettingsRange, inOrder, InOrder}
 use Rattle.rules.specs.Turns.{busy}
@@ -32,9 +33,10 @@ needs h (frame id d) =
     ∷ need tooManyBytes (leb (length d) mostData)
     ∷ [])
 needs h tick = need outOfOrder (inOrder (h .node)) ∷ need wrongCards (rightCards (h .cards)) ∷ []
-needs h (send k m) =
+needs h (send k party m) =
     orderAndStore (h .node) (h .outgoing)
     ++ (need noSuchBerth (ltb k berthCount)
+    ∷ need noSuchParty (partyAllowed party)
     ∷ need emptyMessage (ltb 0 (length m))
     ∷ need messageTooLong (leb (length m) (h .node .settings .area))
     ∷ need alreadySending (not (busy (berthAt (h .node) k .tx)))
@@ -75,10 +77,11 @@ conditions h (frame id d) =
     ∷ condition 4 (8 < length d)
     ∷ []
 conditions h tick = condition 1 (InOrder (h .node) → ⊥) ∷ condition 12 (length (h .cards) ≡ 10 → ⊥) ∷ []
-conditions h (send k m) =
+conditions h (send k party m) =
     condition 1 (InOrder (h .node) → ⊥)
     ∷ condition 2 (length (h .outgoing) ≡ 10 * h .node .settings .area → ⊥)
     ∷ condition 5 (9 < k)
+    ∷ condition 18 (1 < party)
     ∷ condition 6 (length m ≡ 0)
     ∷ condition 7 (h .node .settings .area < length m)
     ∷ condition 8 (busy (berthAt (h .node) k .tx) ≡ true)

@@ -3,6 +3,8 @@ use mathlib.Core.Path.{_≡_}
 use Prim.Native.Nat.{ℕ, zero, suc, _+_, _%_}
 use mathlib.Core.List.{List, [], _∷_}
 use lib.ListN.{length, replicate}
+use Rattle.rules.specs.Numbers.{theScheduler}
+use Rattle.rules.specs.Parties.{scheduler}
 use Rattle.rules.specs.Nodes.{freshWith, Held, withRx, withTx}
 use Rattle.rules.specs.Frames.{framesNeeded}
 use Rattle.rules.specs.Turns.{sent as sentBerth}
@@ -39,9 +41,9 @@ lastFrame (x ∷ []) = frameIn x
   where
     frameIn : Says → List ℕ
     frameIn (Says.hears old w) = []
-    frameIn (Says.expires r s) = []
+    frameIn (Says.expires r s party) = []
     frameIn Says.accepts = []
-    frameIn (hands f c) = f
+    frameIn (hands f c party) = f
     frameIn Says.adopts = []
 
 -- what a row claims, and that all rows hold
@@ -108,16 +110,16 @@ timed t =
     receiving (Rx.OwesOverflow t)
     ∷ receiving (Rx.OwesGo halfway t)
     ∷ receiving (Rx.Awaits halfway t)
-    ∷ sending (Tx.SingleDue 7 t)
-    ∷ sending (Tx.FirstDue 8 t)
-    ∷ sending (Tx.AwaitsFlow underway t)
-    ∷ sending (Tx.Consecutive underway t)
+    ∷ sending (Tx.SingleDue scheduler 7 t)
+    ∷ sending (Tx.FirstDue scheduler 8 t)
+    ∷ sending (Tx.AwaitsFlow scheduler underway t)
+    ∷ sending (Tx.Consecutive scheduler underway t)
     ∷ replicate 3 idle
     )
 
--- the codes of a berth's two sides
+-- the codes of a berth's two sides; it is the scheduler that sends
 abbrev pub pair : ℕ → ℕ → Codes
-pair r s = record { receive = r; send = s }
+pair r s = record { receive = r; send = s; party = scheduler }
 
 -- the codes of the seven states, 2 2 4 and 2 2 3 2
 abbrev pub expired : List Codes
@@ -125,18 +127,18 @@ expired = pair 2 0 ∷ pair 2 0 ∷ pair 4 0 ∷ pair 0 2 ∷ pair 0 2 ∷ pair 
 
 -- the berth that is about to send the longest message
 abbrev pub longest : Part
-longest = record { berth = sentBerth idle 4095; incoming = []; outgoing = rising 4095 0; card = zeroCard }
+longest = record { berth = sentBerth idle 4095 scheduler; incoming = []; outgoing = rising 4095 0; card = zeroCard }
 
 -- the starred cases, in the paper's order
 abbrev pub table : List Row
 table =
     -- 8 bytes 00 to 07
     nodeRun start
-    (send 3 (0 ∷ 1 ∷ 2 ∷ 3 ∷ 4 ∷ 5 ∷ 6 ∷ 7 ∷ []) ∷ turn buffer ∷ frame 0x643 (0x30 ∷ 0 ∷ 0 ∷ []) ∷ turn buffer ∷ [])
+    (send 3 theScheduler (0 ∷ 1 ∷ 2 ∷ 3 ∷ 4 ∷ 5 ∷ 6 ∷ 7 ∷ []) ∷ turn buffer ∷ frame 0x643 (0x30 ∷ 0 ∷ 0 ∷ []) ∷ turn buffer ∷ [])
     (sent 3
-    ∷ handed 0x663 (0x10 ∷ 0x08 ∷ 0x00 ∷ 0x01 ∷ 0x02 ∷ 0x03 ∷ 0x04 ∷ 0x05 ∷ []) 0 3
+    ∷ handed 0x663 (0x10 ∷ 0x08 ∷ 0x00 ∷ 0x01 ∷ 0x02 ∷ 0x03 ∷ 0x04 ∷ 0x05 ∷ []) 0 3 scheduler
     ∷ heard 3 0 Going
-    ∷ handed 0x663 (0x21 ∷ 0x06 ∷ 0x07 ∷ 0xCC ∷ 0xCC ∷ 0xCC ∷ 0xCC ∷ 0xCC ∷ []) 1 9
+    ∷ handed 0x663 (0x21 ∷ 0x06 ∷ 0x07 ∷ 0xCC ∷ 0xCC ∷ 0xCC ∷ 0xCC ∷ 0xCC ∷ []) 1 9 scheduler
     ∷ [])
     -- the frames needed, and the last frame of the longest message
     ∷ needs-frames 7 1
@@ -147,10 +149,10 @@ table =
     ∷ berthRun (record { area = 4095 }) longest (turns ∷ arrives (0x30 ∷ 0 ∷ 0 ∷ []) ∷ replicate 585 turns) 586 (0x29 ∷ 0xFE ∷ 0xCC ∷ 0xCC ∷ 0xCC ∷ 0xCC ∷ 0xCC ∷ 0xCC ∷ [])
     -- first frame of 20
     ∷ nodeRun start (frame 0x640 (0x10 ∷ 20 ∷ 0 ∷ 1 ∷ 2 ∷ 3 ∷ 4 ∷ 5 ∷ []) ∷ turn buffer ∷ [])
-    (heard 0 0 (Begun 20) ∷ handed 0x660 (0x30 ∷ 0x02 ∷ 0x05 ∷ 0xCC ∷ 0xCC ∷ 0xCC ∷ 0xCC ∷ 0xCC ∷ []) 0 0 ∷ [])
+    (heard 0 0 (Begun 20) ∷ handed 0x660 (0x30 ∷ 0x02 ∷ 0x05 ∷ 0xCC ∷ 0xCC ∷ 0xCC ∷ 0xCC ∷ 0xCC ∷ []) 0 0 scheduler ∷ [])
     -- of 41
     ∷ nodeRun start (frame 0x640 (0x10 ∷ 41 ∷ 0 ∷ 1 ∷ 2 ∷ 3 ∷ 4 ∷ 5 ∷ []) ∷ turn buffer ∷ [])
-    (heard 0 0 TooLong ∷ handed 0x660 (0x32 ∷ 0x00 ∷ 0x00 ∷ 0xCC ∷ 0xCC ∷ 0xCC ∷ 0xCC ∷ 0xCC ∷ []) 0 0 ∷ [])
+    (heard 0 0 TooLong ∷ handed 0x660 (0x32 ∷ 0x00 ∷ 0x00 ∷ 0xCC ∷ 0xCC ∷ 0xCC ∷ 0xCC ∷ 0xCC ∷ []) 0 0 scheduler ∷ [])
     -- of 7
     ∷ nodeRun start (frame 0x640 (0x10 ∷ 7 ∷ 0 ∷ 1 ∷ 2 ∷ 3 ∷ 4 ∷ 5 ∷ []) ∷ []) (heard 0 0 (Ignored 3) ∷ [])
     -- single 00 with 8 data bytes
@@ -163,9 +165,9 @@ table =
     ∷ frame 0x640 (0x23 ∷ 13 ∷ 14 ∷ 15 ∷ 16 ∷ 17 ∷ 18 ∷ 19 ∷ [])
     ∷ [])
     (heard 0 0 (Begun 20)
-    ∷ handed 0x660 (0x30 ∷ 0x02 ∷ 0x05 ∷ 0xCC ∷ 0xCC ∷ 0xCC ∷ 0xCC ∷ 0xCC ∷ []) 0 0
+    ∷ handed 0x660 (0x30 ∷ 0x02 ∷ 0x05 ∷ 0xCC ∷ 0xCC ∷ 0xCC ∷ 0xCC ∷ 0xCC ∷ []) 0 0 scheduler
     ∷ heard 0 0 Took
-    ∷ heard 0 0 (Failed 5)
+    ∷ heard 0 0 (Failed 5 scheduler)
     ∷ [])
     -- timer 998, tick: 999, no code; timer 999, tick: the code
     ∷ nodeRun (timed 998) (tick ∷ tick ∷ []) (codes (replicate 10 (pair 0 0)) ∷ codes expired ∷ [])

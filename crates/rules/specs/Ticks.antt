@@ -3,8 +3,10 @@ use Prim.Native.Nat.{ℕ, _+_, _-_}
 use lib.Dec.{ltb, eqb}
 use Rattle.rules.specs.Tests.{pick}
 use Rattle.rules.specs.Numbers.{timeout, N-TIMEOUT-A, N-TIMEOUT-Bs, N-TIMEOUT-Cr}
+use Rattle.rules.specs.Parties.{partyOf, reporting}
 use Rattle.rules.specs.Nodes.{withRx, withTx}
 use Rattle.rules.specs.declared.Sending.{Sending}
+use Rattle.rules.specs.declared.Party.{Party}
 use Rattle.rules.specs.declared.Rx.{Rx}
 use Rattle.rules.specs.declared.Tx.{Tx}
 use Rattle.rules.specs.declared.Berth.{Berth}
@@ -45,23 +47,27 @@ closer o =
 
 abbrev pub txTicked : Tx → Tx
 txTicked Tx.Idle = Tx.Idle
-txTicked (Tx.SingleDue n t) = ran t (λ u. Tx.SingleDue n u) Tx.Idle
-txTicked (Tx.FirstDue n t) = ran t (λ u. Tx.FirstDue n u) Tx.Idle
-txTicked (Tx.AwaitsFlow o t) = ran t (λ u. Tx.AwaitsFlow o u) Tx.Idle
-txTicked (Tx.Consecutive o t) =
-    pick (eqb (o .left) 0) (ran t (λ u. Tx.Consecutive o u) Tx.Idle) (Tx.Consecutive (closer o) t)
+txTicked (Tx.SingleDue party n t) = ran t (λ u. Tx.SingleDue party n u) Tx.Idle
+txTicked (Tx.FirstDue party n t) = ran t (λ u. Tx.FirstDue party n u) Tx.Idle
+txTicked (Tx.AwaitsFlow party o t) = ran t (λ u. Tx.AwaitsFlow party o u) Tx.Idle
+txTicked (Tx.Consecutive party o t) =
+    pick (eqb (o .left) 0) (ran t (λ u. Tx.Consecutive party o u) Tx.Idle) (Tx.Consecutive party (closer o) t)
 
 abbrev pub txCode : Tx → ℕ
 txCode Tx.Idle = 0
-txCode (Tx.SingleDue n t) = ran t (λ u. 0) N-TIMEOUT-A
-txCode (Tx.FirstDue n t) = ran t (λ u. 0) N-TIMEOUT-A
-txCode (Tx.AwaitsFlow o t) = ran t (λ u. 0) N-TIMEOUT-Bs
-txCode (Tx.Consecutive o t) = pick (eqb (o .left) 0) (ran t (λ u. 0) N-TIMEOUT-A) 0
+txCode (Tx.SingleDue party n t) = ran t (λ u. 0) N-TIMEOUT-A
+txCode (Tx.FirstDue party n t) = ran t (λ u. 0) N-TIMEOUT-A
+txCode (Tx.AwaitsFlow party o t) = ran t (λ u. 0) N-TIMEOUT-Bs
+txCode (Tx.Consecutive party o t) = pick (eqb (o .left) 0) (ran t (λ u. 0) N-TIMEOUT-A) 0
 
--- ---- the berth, and its two codes
+-- the party in the answer to a tick (paper 02, W6)
+abbrev pub txParty : Tx → Party
+txParty tx = reporting (txCode tx) (partyOf tx)
+
+-- ---- the berth, and its two codes with the party
 
 unfoldable pub ticked : Berth → Berth
 ticked b = withTx (withRx b (rxTicked (b .rx)) (b .last)) (txTicked (b .tx))
 
 unfoldable pub codesOf : Berth → Codes
-codesOf b = record { receive = rxCode (b .rx); send = txCode (b .tx) }
+codesOf b = record { receive = rxCode (b .rx); send = txCode (b .tx); party = txParty (b .tx) }

@@ -64,17 +64,17 @@ module _ (h : Held) where
             beside = refl;
           }))
 
-  send-step : (k : ℕ) (m : List ℕ) → Step h (send k m) (outcome h (send k m))
+  send-step : (k : ℕ) (m : List ℕ) → Step h (send k party m) (outcome h (send k party m))
   unfolding refusal needs sendSays reply done written
-  send-step k m = go (refusal h (send k m)) refl
+  send-step k m = go (refusal h (send k party m)) refl
     where
-      go : (number : ℕ) → refusal h (send k m) ≡ number → Step h (send k m) (outcome h (send k m))
+      go : (number : ℕ) → refusal h (send k party m) ≡ number → Step h (send k party m) (outcome h (send k party m))
       go zero e =
-          as-outcome (sendStep k m (SendAnswer.Sent k) (done h (send k m) .node) (done h (send k m) .outgoing)
-          (λ cards incoming. does (lent (h .node) cards incoming (h .outgoing)) (send k m) refl (sym e) refl))
+          as-outcome (sendStep k m (SendAnswer.Sent k) (done h (send k party m) .node) (done h (send k party m) .outgoing)
+          (λ cards incoming. does (lent (h .node) cards incoming (h .outgoing)) (send k party m) refl (sym e) refl))
       go (suc number) e =
           as-outcome (sendStep k m (SendAnswer.Refused (suc number)) (h .node) (h .outgoing)
-          (λ cards incoming. refuses (lent (h .node) cards incoming (h .outgoing)) (send k m) (suc number) (λ z. omega arith) refl refl (sym e)))
+          (λ cards incoming. refuses (lent (h .node) cards incoming (h .outgoing)) (send k party m) (suc number) (λ z. omega arith) refl refl (sym e)))
 
   turn-step : (buffer : List ℕ) → Step h (turn buffer) (outcome h (turn buffer))
   unfolding refusal needs turnSays reply done afterTurn written handedAt outcome
@@ -117,7 +117,7 @@ module _ (h : Held) where
   unfolding showing shownLength showable
   every-step (frame id d) = frame-step id d
   every-step tick = tick-step
-  every-step (send k m) = send-step k m
+  every-step (send k party m) = send-step k m
   every-step (turn buffer) = turn-step buffer
   every-step (show k choice) =
       as-outcome (showStep k choice (showing h k choice) (0, 0) (0, 0) (startsAt h k choice (0, 0) (0, 0))

@@ -181,7 +181,7 @@ pub idle-here : (o : Outcome) → AfterSetUp unset eight zeroSettings (setUpNode
 unfolding
     madeOf own ownDone leftBy refusal needs firstUnmet rightStore rightCards inOrder all each berthInOrder setUpNode berthAt
     outcome done withBerth sentBerth beginsWith partOf
-idle-here o r = idle-again-timers (one-more afterSend (made tick o) 0 ticks r (lit< tt) refl) (λ e. let f : Tx.SingleDue 1 0 ≡ Tx.Idle = e .1 in let z : _≡_ {A = ℕ} 0 1 = cc in omega arith)
+idle-here o r = idle-again-timers (one-more afterSend (made tick o) 0 ticks r (lit< tt) refl) (λ e. let f : Tx.SingleDue scheduler 1 0 ≡ Tx.Idle = e .1 in let z : _≡_ {A = ℕ} 0 1 = cc in omega arith)
 
 -- and a send leaves the outgoing area as it was
 pub idle-message-here : (o : Outcome) → AfterSetUp unset eight zeroSettings (setUpNode eight zeroSettings) (made (send 0 (1 ∷ [])) o ∷ [])

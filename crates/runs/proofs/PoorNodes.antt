@@ -146,7 +146,7 @@ module _ (k : ℕ) (g : Held) where
       go (holds t e) q = let z : arrives x ∷ [] ≡ arrives d ∷ [] = rw t at q in (id, e, cc)
       go (fails t e) q = let z : [] ≡ arrives d ∷ [] = rw t at q in clash (cc)
   own-frame tick d q = clash (cc)
-  own-frame (send j m) d q = absurd (not-other (sends m) (arrives d) (λ e. clash (cc)) (eqb j k) q)
+  own-frame (send j party m) d q = absurd (not-other (sends party m) (arrives d) (λ e. clash (cc)) (eqb j k) q)
   own-frame (turn buffer) d q = absurd (not-other turns (arrives d) (λ e. clash (cc)) (ltb (passedOver (g .node)) berthCount && eqb (reached (g .node)) k) q)
   own-frame (show j choice) d q = clash (cc)
   own-frame (change j parameter value) d q = absurd (not-other (changes parameter value) (arrives d) (λ e. clash (cc)) (eqb j k) q)
@@ -156,9 +156,9 @@ module _ (k : ℕ) (g : Held) where
   unfolding ownDone
   own-send (frame id x) v q = absurd (not-other (arrives x) (sends v) (λ e. clash (cc)) (eqb (senderOf id) k) q)
   own-send tick v q = clash (cc)
-  own-send (send j m) v q = go (eqb-cases j k) q
+  own-send (send j party m) v q = go (eqb-cases j k) q
     where
-      go : Tested (eqb j k) (j ≡ k) (j ≡ k → ⊥) → pick (eqb j k) (sends m ∷ []) [] ≡ sends v ∷ [] → send j m ≡ send k v
+      go : Tested (eqb j k) (j ≡ k) (j ≡ k → ⊥) → pick (eqb j k) (sends party m ∷ []) [] ≡ sends v ∷ [] → send j party m ≡ send k v
       go (holds t e) q = let z : sends m ∷ [] ≡ sends v ∷ [] = rw t at q in cc
       go (fails t e) q = let z : [] ≡ sends v ∷ [] = rw t at q in clash (cc)
   own-send (turn buffer) v q = absurd (not-other turns (sends v) (λ e. clash (cc)) (ltb (passedOver (g .node)) berthCount && eqb (reached (g .node)) k) q)

@@ -34,7 +34,7 @@ pub data Step (h : Held) : Call → Outcome → Type 0 where
   tickStep : (a : TickAnswer) (n : Node) (cards : List Card) → TickPromise (h .node) (h .cards) a n cards
       → Step h tick (left (tickSays a) (withCards (withNode h n) cards) [])
   sendStep : (k : ℕ) (m : List ℕ) (a : SendAnswer) (n : Node) (outgoing : List ℕ) → SendPromise (h .node) (h .outgoing) k m a n outgoing
-      → Step h (send k m) (left (sendSays a) (withOutgoing (withNode h n) outgoing) [])
+      → Step h (send k party m) (left (sendSays a) (withOutgoing (withNode h n) outgoing) [])
   turnStep : (buffer : List ℕ) (a : TurnAnswer) (n : Node) (cards : List Card) (buffer′ : List ℕ)
       → TurnPromise (h .node) (h .cards) (h .outgoing) buffer a n cards buffer′
       → Step h (turn buffer) (left (turnSays a buffer′) (withCards (withNode h n) cards) buffer′)

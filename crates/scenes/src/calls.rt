@@ -2,6 +2,7 @@
 ghost use Prim.Native.Nat.{_<_};
 use crate::judged;
 use crate::output;
+use crate::parties;
 use rules::Card;
 use rules::Node;
 use rules::SetUpAnswer;
@@ -41,7 +42,7 @@ pub(crate) fn frame(
     let after = came.node;
     let counted = came.cards;
     Outcome {
-        text: text::answers::frame(number, answer),
+        text: parties::of_frame(text::answers::frame(number, answer), answer),
         node: after,
         cards: counted,
     }
@@ -53,7 +54,7 @@ pub(crate) fn tick(number: u64, node: Node, cards: [Card; 12], count: usize) -> 
     let after = came.node;
     let counted = came.cards;
     Outcome {
-        text: text::answers::tick(number, answer),
+        text: parties::of_tick(text::answers::tick(number, answer), answer),
         node: after,
         cards: counted,
     }
@@ -70,7 +71,8 @@ pub(crate) fn send(
     records::message::rise(&mut message, record[8]);
     let n = output::lent(&message, judged::two(record[2], record[3]) as usize);
     let k = judged::two(0, record[1]);
-    let came = carumpek::local::send(node, outgoing, k, &message[..n]);
+    let party = judged::two(0, record[9]);
+    let came = carumpek::local::send(node, outgoing, k, party, &message[..n]);
     let answer = came.answer;
     let after = came.node;
     Outcome {
@@ -93,7 +95,8 @@ fn turned(
     let answer = came.answer;
     let after = came.node;
     let counted = came.cards;
-    let text = output::open(text::answers::turn(number, answer, buffer));
+    let said = parties::of_turn(text::answers::turn(number, answer, buffer), answer);
+    let text = output::open(said);
     Outcome {
         text: output::with_bytes(text.put_all(b" buffer"), buffer),
         node: after,

@@ -48,7 +48,7 @@ fn frame_fits(record: &[u8; 16]) -> bool {
 fn send_fits(record: &[u8; 16]) -> bool {
     two(record[2], record[3]) <= 4096
         && records::record::unused(record, 4, 8)
-        && records::record::unused(record, 9, 16)
+        && records::record::unused(record, 10, 16)
 }
 
 pub(crate) fn is_good(record: &[u8; 16]) -> bool {
@@ -60,7 +60,7 @@ pub(crate) fn is_good(record: &[u8; 16]) -> bool {
         5 => fits(record, 255, 1, 3),
         6 => fits(record, 9, 1, 3),
         7 => fits(record, 9, 3, 13),
-        8 => fits(record, 9, 4, 14),
+        8 => fits(record, 9, 4, 15),
         9 => fits(record, 255, 255, 8),
         10 => fits(record, 9, 0, 2),
         11 => fits(record, 0, 0, 1),

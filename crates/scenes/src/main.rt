@@ -5,6 +5,7 @@ mod judged;
 mod loads;
 mod looks;
 mod output;
+mod parties;
 mod scene;
 mod sides;
 mod words;

@@ -1,6 +1,7 @@
 // A berth's sides as a record loads them, and how much of the stores and how many cards it lends.
 use crate::judged;
 use crate::scene::Lent;
+use rules::Party;
 use rules::Rx;
 use rules::Sending;
 use rules::Sn;
@@ -25,6 +26,7 @@ pub(crate) fn receive_side(record: &[u8; 16]) -> Rx {
 
 pub(crate) fn send_side(record: &[u8; 16]) -> Tx {
     let timer = judged::two(record[12], record[13]) as u16;
+    let party = Party(record[14]);
     let length = judged::two(record[3], record[4]);
     let sending = Sending {
         length: length,
@@ -37,10 +39,10 @@ pub(crate) fn send_side(record: &[u8; 16]) -> Tx {
     };
     match record[2] {
         0 => Tx::Idle,
-        1 => Tx::SingleDue(length, timer),
-        2 => Tx::FirstDue(length, timer),
-        3 => Tx::AwaitsFlow(sending, timer),
-        _ => Tx::Consecutive(sending, timer),
+        1 => Tx::SingleDue(party, length, timer),
+        2 => Tx::FirstDue(party, length, timer),
+        3 => Tx::AwaitsFlow(party, sending, timer),
+        _ => Tx::Consecutive(party, sending, timer),
     }
 }
 

@@ -1,5 +1,6 @@
 // The scenes' own texts: a berth's state, the node's own, and the frames needed.
 use rules::Berth;
+use rules::Party;
 use rules::Rx;
 use rules::Sending;
 use rules::Settings;
@@ -30,7 +31,12 @@ fn taking_numbers(text: Text, p: Taking, timer: u16) -> Text {
     numbers(text, &list)
 }
 
-fn sending_numbers(text: Text, o: Sending, timer: u16) -> Text {
+fn due_numbers(text: Text, length: u32, timer: u16, party: Party) -> Text {
+    let list = [length as u64, timer as u64, party.0 as u64];
+    numbers(text, &list)
+}
+
+fn sending_numbers(text: Text, o: Sending, timer: u16, party: Party) -> Text {
     let sn = o.sn.0;
     let list = [
         o.length as u64,
@@ -41,6 +47,7 @@ fn sending_numbers(text: Text, o: Sending, timer: u16) -> Text {
         o.gap as u64,
         o.left as u64,
         timer as u64,
+        party.0 as u64,
     ];
     numbers(text, &list)
 }
@@ -57,10 +64,15 @@ fn receive_side(text: Text, rx: Rx) -> Text {
 fn send_side(text: Text, tx: Tx) -> Text {
     match tx {
         Tx::Idle => text.put_all(b" tx 0"),
-        Tx::SingleDue(n, timer) => numbers(text.put_all(b" tx 1"), &[n as u64, timer as u64]),
-        Tx::FirstDue(n, timer) => numbers(text.put_all(b" tx 2"), &[n as u64, timer as u64]),
-        Tx::AwaitsFlow(o, timer) => sending_numbers(text.put_all(b" tx 3"), o, timer),
-        Tx::Consecutive(o, timer) => sending_numbers(text.put_all(b" tx 4"), o, timer),
+        Tx::SingleDue(party, n, timer) => due_numbers(text.put_all(b" tx 1"), n, timer, party),
+        Tx::FirstDue(party, n, timer) => due_numbers(text.put_all(b" tx 2"), n, timer, party),
+        Tx::AwaitsFlow(party, o, timer) => sending_numbers(text.put_all(b" tx 3"), o, timer, party),
+        Tx::Consecutive(party, o, timer) => sending_numbers(
+            text.put_all(b" tx 4"),
+            o,
+            timer,
+            party,
+        ),
     }
 }
 

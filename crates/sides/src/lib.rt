@@ -23,6 +23,7 @@ use rules::BerthSettings;
 use rules::ChangeAnswer;
 use rules::Choice;
 use rules::FrameAnswer;
+use rules::Party;
 use rules::Rx;
 use rules::SendAnswer;
 use rules::Settings;
@@ -122,14 +123,14 @@ pub struct SentAt {
     pub answer: SendAnswer,
 }
 
-pub fn sent(area: u32, at: usize, outgoing: &mut [u8], message: &[u8]) -> SentAt
-    requires { ⌜ ((n : Node) × Sends n area at (now outgoing) (now message)) ⌝ }
-    ensures { λ r. ⌜ ((n : Node) → Sends n area at (now (outgoing .entry)) (now (message .entry)) → SendPromise n (now (outgoing .entry)) at (now (message .entry)) (r .answer) (withBerth n at (withTx (berthAt n at) (r .tx))) (now (outgoing .exit))) ⌝ }
+pub fn sent(area: u32, at: usize, party: u32, outgoing: &mut [u8], message: &[u8]) -> SentAt
+    requires { ⌜ ((n : Node) × Sends n area at party (now outgoing) (now message)) ⌝ }
+    ensures { λ r. ⌜ ((n : Node) → Sends n area at party (now (outgoing .entry)) (now (message .entry)) → SendPromise n (now (outgoing .entry)) at party (now (message .entry)) (r .answer) (withBerth n at (withTx (berthAt n at) (r .tx))) (now (outgoing .exit))) ⌝ }
 {
     let lo = area_start(at, area);
     let hi = lo + area as usize;
     bytes::copy(message, &mut outgoing[lo..hi]);
-    let begun = berth::turns::begins_with(message.len() as u32);
+    let begun = berth::turns::begins_with(message.len() as u32, Party(party as u8));
     SentAt {
         tx: begun,
         answer: SendAnswer::Sent(at as u8),
@@ -137,14 +138,15 @@ pub fn sent(area: u32, at: usize, outgoing: &mut [u8], message: &[u8]) -> SentAt
 }
 
 // The answer of a turn that hands a frame over.
-fn handed_over(at: usize, code: u8, passed: u8) -> TurnAnswer
+fn handed_over(at: usize, code: u8, party: Party, passed: u8) -> TurnAnswer
     requires { ⌜ at < berthCount ⌝ }
-    ensures { λ r. ⌜ r ≡ TurnAnswer.HandedOver (toBerth + at) code passed ⌝ }
+    ensures { λ r. ⌜ r ≡ TurnAnswer.HandedOver (toBerth + at) code passed party ⌝ }
 {
     TurnAnswer::HandedOver {
         identifier: rules::TO_BERTH + at as u32,
         code: code,
         passed: passed,
+        party: party,
     }
 }
 
@@ -168,7 +170,7 @@ pub fn flow_handed(
     let after = berth::turns::after_flow(rx);
     FlowHanded {
         rx: after,
-        answer: handed_over(at, 0, passed),
+        answer: handed_over(at, 0, Party::scheduler(), passed),
     }
 }
 
@@ -195,11 +197,12 @@ pub fn message_handed(
     let hi = lo + settings.area as usize;
     berth::turns::message_frame(settings, tx, &outgoing[lo..hi], &mut buffer[..8]);
     let after = berth::turns::after_message(settings, tx);
-    let code = berth::turns::message_code(settings, tx);
+    let report = berth::turns::message_report(settings, tx);
+    let party = report.party;
     MessageHanded {
         tx: after,
-        answer: handed_over(at, code, passed),
-        code: code,
+        answer: handed_over(at, report.code, party, passed),
+        code: report.code,
     }
 }
 

@@ -29,7 +29,7 @@ word-length : (w : Word) → length (wordText w) ≤ 21
 unfolding wordText
 word-length (Delivered n) = omega (arith, decimal-length 10 n)
 word-length (Begun n) = omega (arith, decimal-length 10 n)
-word-length (Failed c) = omega (arith, decimal-length 3 c)
+word-length (Failed c party) = omega (arith, decimal-length 3 c)
 word-length (Ignored i) = omega (arith, decimal-length 3 i)
 word-length TooLong = omega arith
 word-length Took = omega arith
@@ -59,7 +59,7 @@ Short ready = Unit {0}
 Short (heard k old w) = Unit {0}
 Short (codes cs) = length cs ≤ 10
 Short (sent k) = Unit {0}
-Short (handed id frame code passed) = length frame ≤ 8
+Short (handed id frame code passed party) = length frame ≤ 8
 Short (none passed) = Unit {0}
 Short (shown part) = ⊥
 Short (changed k) = Unit {0}
@@ -72,7 +72,7 @@ words-length (heard k old w) s =
     simp length-append (omega (arith, decimal-length 3 k, decimal-length 3 old, word-length w))
 words-length (codes cs) s = omega (arith, codes-length 0 cs (omega arith))
 words-length (sent k) s = omega (arith, decimal-length 3 k)
-words-length (handed id frame code passed) s =
+words-length (handed id frame code passed party) s =
     simp (length-append, hex-length) (omega (arith, decimal-length 3 code, decimal-length 3 passed))
 words-length (none passed) s = omega arith
 words-length (shown part) s = absurd s

@@ -117,7 +117,7 @@ idText id = hexText (id / 256 % 256 ∷ id % 256 ∷ [])
 unfoldable pub wordText : Word → List ℕ
 wordText (Delivered n) = deliveredWord ++ decimal sizePlaces n
 wordText (Begun n) = begunWord ++ decimal sizePlaces n
-wordText (Failed c) = failedWord ++ decimal smallPlaces c
+wordText (Failed c party) = failedWord ++ decimal smallPlaces c
 wordText (Ignored i) = ignoredWord ++ decimal smallPlaces i
 wordText TooLong = tooLongWord
 wordText Took = tookWord
@@ -140,7 +140,7 @@ wordsOf ready = setupWord
 wordsOf (heard k old w) = berthWord ++ (decimal smallPlaces k ++ (oldWord ++ (decimal smallPlaces old ++ wordText w)))
 wordsOf (codes cs) = tickWord ++ codesText 0 cs
 wordsOf (sent k) = sentWord ++ decimal smallPlaces k
-wordsOf (handed id frame code passed) =
+wordsOf (handed id frame code passed party) =
     frameWord ++ (idText id ++ (space ∷ (hexText frame ++ (passedWord ++ (decimal smallPlaces passed ++ (codeWord ++ decimal smallPlaces code))))))
 wordsOf (none passed) = noneWord
 wordsOf (shown part) = pick (eqb (length part) 0) showWord (showWord ++ (space ∷ hexText part))

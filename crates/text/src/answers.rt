@@ -38,7 +38,7 @@ fn word(text: Text, word: Word) -> Text
     match word {
         Word::Delivered(n) => text.put_all(b" delivered ").size(n),
         Word::Begun(n) => text.put_all(b" begun ").size(n),
-        Word::Failed(c) => text.put_all(b" failed ").small(c),
+        Word::Failed(c, _) => text.put_all(b" failed ").small(c),
         Word::Ignored(i) => text.put_all(b" ignored ").small(i),
         Word::TooLong => text.put_all(b" toolong"),
         Word::Took => text.put_all(b" took"),
@@ -151,6 +151,7 @@ pub fn turn(number: u64, answer: TurnAnswer, buffer: &[u8]) -> Text
             identifier: id,
             code,
             passed,
+            party: _,
         } => {
             let text = identifier(numbered(number).put_all(b"frame "), id).put(b' ');
             handed(text, buffer)

@@ -63,7 +63,7 @@ use Rattle.berths.proofs.ticks.first_due.Code.Mir as body
 abbrev stayed : Stays (self.ended .signature .params) (self.ended .kept)
 stayed = (stay-ref (0 ∷ []) tt (plain (λ _. T.the-row)), (stay-none (λ _. usize) yes, (stay-none (λ _. u32) yes, (stay-none (λ _. u16) yes, tt))))
 
-module _ {M : Type 1} (𝓤 : URA M) (H : Heap 𝓤) (A : Atoms 𝓤) (W : Given 𝓤 H A) (at-mem : Memory → SProp 𝓤) (run : Routine → Fun 𝓤) (κ : Lft) (q : Share) (b o : ℕ) (γ : GName) (h : Node) (k : ℕ) (n· : ℕ) (t : ℕ) (k-is : Is usize k ((uint w64) .val k ∷ [])) (n·-is : Is u32 n· ((uint w32) .val n· ∷ [])) (t-is : Is u16 t ((uint w16) .val t ∷ [])) (within : (k < berthCount) × (berthAt h k .tx ≡ Tx.FirstDue n· t)) where
+module _ {M : Type 1} (𝓤 : URA M) (H : Heap 𝓤) (A : Atoms 𝓤) (W : Given 𝓤 H A) (at-mem : Memory → SProp 𝓤) (run : Routine → Fun 𝓤) (κ : Lft) (q : Share) (b o : ℕ) (γ : GName) (h : Node) (k : ℕ) (n· : ℕ) (t : ℕ) (k-is : Is usize k ((uint w64) .val k ∷ [])) (n·-is : Is u32 n· ((uint w32) .val n· ∷ [])) (t-is : Is u16 t ((uint w16) .val t ∷ [])) (within : (k < berthCount) × (berthAt h k .tx ≡ Tx.FirstDue party n· t)) where
   abbrev x : (RefT Node × (ℕ × (ℕ × (ℕ × Unit {0}))))
   x = (record { ptr = (b, o); name = γ; now = h }, (k, (n·, (t, tt))))
 
@@ -102,17 +102,17 @@ module _ {M : Type 1} (𝓤 : URA M) (H : Heap 𝓤) (A : Atoms 𝓤) (W : Given
         first ! $ branches ! (load ! (from ! (stop !)) (look ! 22 refl))
         (λ less.
         assigns ! (bin ! (load ! (from ! (stop !)) (look ! 24 refl)) (lit ! tt) (record { fits = next-fits t less })) (from ! (stop !)) (init ! 20 refl (tt, record { fits = next-fits t less })) $
-        assigns ! (agg ! (and-then ! (lit ! tt) (and-then ! (load ! (from ! (stop !)) (look ! 26 refl)) (and-then ! (load ! (from ! (stop !)) (look ! 20 refl)) (no-more !))))) (from ! (stop !)) (init ! 18 refl (FX .lawful 𝓤 H A W .typed (Tx.FirstDue n· (t + 1)) _ (EL.owes X.the-type X′.the-laws (Tx.FirstDue n· (t + 1)) (n·-is, ((refl, next-fits t less), tt))) .0)) $
+        assigns ! (agg ! (and-then ! (lit ! tt) (and-then ! (load ! (from ! (stop !)) (look ! 26 refl)) (and-then ! (load ! (from ! (stop !)) (look ! 20 refl)) (no-more !))))) (from ! (stop !)) (init ! 18 refl (FX .lawful 𝓤 H A W .typed (Tx.FirstDue party n· (t + 1)) _ (EL.owes X.the-type X′.the-laws (Tx.FirstDue party n· (t + 1)) (n·-is, ((refl, next-fits t less), tt))) .0)) $
         assigns ! (bin ! (load ! (from ! (stop !)) (look ! 28 refl)) (lit ! tt) (record { fits = bytes-fit k (within .0) })) (from ! (stop !)) (init ! 16 refl (tt, record { fits = bytes-fit k (within .0) })) $
         assigns ! (addr ! (from ! (hop ! (look ! 30 refl) (fld ! {τ = tyArray B′.mir 10} {d = 8} refl (stop !))))) (from ! (stop !)) (init ! 14 refl (tt, tt)) $
         assigns ! (bin ! (load ! (from ! (stop !)) (look ! 14 refl)) (load ! (from ! (stop !)) (look ! 16 refl)) tt) (from ! (stop !)) (init ! 12 refl (tt, tt)) $ rewrite ! 12 (λ (m : ℕ). ‵ (fat fullShare tyPtr l₁₀ 0 (vptr b m))) (sym (place-is 52 (o + 8) k)) refl $
-        assigns ! (of-opd ! (load ! (from ! (stop !)) (look ! 18 refl))) (from ! (hop ! (look ! 12 refl) (fld ! {τ = X′.mir} {d = 24} refl (stop !)))) (store-in ! 0 (sub ! 2 {τ = X′.mir} {d = 24} refl (item ! (us (h .berths)) k (FB .val fresh) (us-within h was k (within .0)) (us-length h was) (us-at (h .berths) k ∙ see-parts (getD (h .berths) k fresh)) (sub ! 2 {τ = tyArray B′.mir 10} {d = 8} refl (whole !)))) (FX .lawful 𝓤 H A W .typed (Tx.FirstDue n· (t + 1)) _ (EL.owes X.the-type X′.the-laws (Tx.FirstDue n· (t + 1)) (n·-is, ((refl, next-fits t less), tt))) .0)) $
-        rewrite ! 0 (λ (ws : List Val). ‵ (fat fullShare T′.mir b o (valWith h (h .served) ws))) (us-set (h .berths) k (put-tx·berth h k (Tx.FirstDue n· (t + 1)))) refl $
+        assigns ! (of-opd ! (load ! (from ! (stop !)) (look ! 18 refl))) (from ! (hop ! (look ! 12 refl) (fld ! {τ = X′.mir} {d = 24} refl (stop !)))) (store-in ! 0 (sub ! 2 {τ = X′.mir} {d = 24} refl (item ! (us (h .berths)) k (FB .val fresh) (us-within h was k (within .0)) (us-length h was) (us-at (h .berths) k ∙ see-parts (getD (h .berths) k fresh)) (sub ! 2 {τ = tyArray B′.mir 10} {d = 8} refl (whole !)))) (FX .lawful 𝓤 H A W .typed (Tx.FirstDue party n· (t + 1)) _ (EL.owes X.the-type X′.the-laws (Tx.FirstDue party n· (t + 1)) (n·-is, ((refl, next-fits t less), tt))) .0)) $
+        rewrite ! 0 (λ (ws : List Val). ‵ (fat fullShare T′.mir b o (valWith h (h .served) ws))) (us-set (h .berths) k (put-tx·berth h k (Tx.FirstDue party n· (t + 1)))) refl $
         assigns ! (of-opd ! (lit ! tt)) (from ! (stop !)) (init ! 32 refl ((uint w8) .lawful 𝓤 H A W .typed 0 _ (refl, lit< tt) .0)) $
-        use1 W (‵ (cellAt fullShare (T.the-row .mir) (FT .val (put-tx h k (Tx.FirstDue n· (t + 1))) ∷ []) b o)) (W .laws .at-raw fullShare T′.mir b o (FT .val (put-tx h k (Tx.FirstDue n· (t + 1))))) $ closed ! tt FT (put-tx h k (Tx.FirstDue n· (t + 1))) b o (put-tx-is h was k (within .0) (Tx.FirstDue n· (t + 1)) (EL.owes X.the-type X′.the-laws (Tx.FirstDue n· (t + 1)) (n·-is, ((refl, next-fits t less), tt)))) $
+        use1 W (‵ (cellAt fullShare (T.the-row .mir) (FT .val (put-tx h k (Tx.FirstDue party n· (t + 1))) ∷ []) b o)) (W .laws .at-raw fullShare T′.mir b o (FT .val (put-tx h k (Tx.FirstDue party n· (t + 1))))) $ closed ! tt FT (put-tx h k (Tx.FirstDue party n· (t + 1))) b o (put-tx-is h was k (within .0) (Tx.FirstDue party n· (t + 1)) (EL.owes X.the-type X′.the-laws (Tx.FirstDue party n· (t + 1)) (n·-is, ((refl, next-fits t less), tt)))) $
         returns-within ! Post refl (look ! 31 refl) $ forget ! 11 refl $ forget ! 13 refl $ forget ! 15 refl $ forget ! 17 refl $ forget ! 19 refl $ forget ! 21 refl $ forget ! 23 refl $ forget ! 25 refl $ forget ! 27 refl $ forget ! 29 refl $ forget ! 31 refl $
         move ! (31 ∷ 32 ∷ []) $ free1 ! $ move ! (29 ∷ 30 ∷ []) $ free1 ! $ move ! (27 ∷ 28 ∷ []) $ free1 ! $ move ! (25 ∷ 26 ∷ []) $ free1 ! $ move ! (23 ∷ 24 ∷ []) $ free1 ! $ move ! (21 ∷ 22 ∷ []) $ free1 ! $ move ! (19 ∷ 20 ∷ []) $ free1 ! $ move ! (17 ∷ 18 ∷ []) $ free1 ! $ move ! (15 ∷ 16 ∷ []) $ free1 ! $ move ! (13 ∷ 14 ∷ []) $ free1 ! $ move ! (11 ∷ 12 ∷ []) $ free1 ! $ move ! (9 ∷ 10 ∷ []) $ free1 ! $ move ! (7 ∷ 8 ∷ []) $ free1 ! $ move ! (5 ∷ 6 ∷ []) $ free1 ! $ move ! (3 ∷ 4 ∷ []) $ free1 ! $ free0 ! $
-        keep ! (0 ∷ 1 ∷ 2 ∷ []) $ by ! (exits 0 (put-tx h k (Tx.FirstDue n· (t + 1))) (sends h k (ap (λ (y : Berth). y .tx) (sym (at-is h k)) ∙ within .1) (runs-on t (λ u. 0) 2 less) (runs-on t (λ u. Tx.FirstDue n· u) Tx.Idle less)) (refl, lit< tt)))
+        keep ! (0 ∷ 1 ∷ 2 ∷ []) $ by ! (exits 0 (put-tx h k (Tx.FirstDue party n· (t + 1))) (sends h k (ap (λ (y : Berth). y .tx) (sym (at-is h k)) ∙ within .1) (runs-on t (λ u. 0) 2 less) (runs-on t (λ u. Tx.FirstDue party n· u) Tx.Idle less)) (refl, lit< tt)))
         (λ over.
         skips ! $
         exec ! C Λ (env-of body.locals (l₀ ∷ l₁ ∷ l₂ ∷ l₃ ∷ l₄ ∷ l₅ ∷ l₆ ∷ l₇ ∷ l₈ ∷ l₉ ∷ l₁₀ ∷ l₁₁ ∷ l₁₂ ∷ l₁₃ ∷ l₁₄ ∷ [])) (body.t-3) (atRet (env-of body.locals (l₀ ∷ l₁ ∷ l₂ ∷ l₃ ∷ l₄ ∷ l₅ ∷ l₆ ∷ l₇ ∷ l₈ ∷ l₉ ∷ l₁₀ ∷ l₁₁ ∷ l₁₂ ∷ l₁₃ ∷ l₁₄ ∷ [])) Post) $
@@ -126,12 +126,12 @@ module _ {M : Type 1} (𝓤 : URA M) (H : Heap 𝓤) (A : Atoms 𝓤) (W : Given
         use1 W (‵ (cellAt fullShare (T.the-row .mir) (FT .val (put-tx h k Tx.Idle) ∷ []) b o)) (W .laws .at-raw fullShare T′.mir b o (FT .val (put-tx h k Tx.Idle))) $ closed ! tt FT (put-tx h k Tx.Idle) b o (put-tx-is h was k (within .0) Tx.Idle (EL.owes X.the-type X′.the-laws Tx.Idle tt)) $
         returns ! (look ! 31 refl) $ forget ! 3 refl $ forget ! 5 refl $ forget ! 7 refl $ forget ! 9 refl $ forget ! 21 refl $ forget ! 23 refl $ forget ! 25 refl $ forget ! 27 refl $ forget ! 29 refl $ forget ! 31 refl $
         move ! (31 ∷ 32 ∷ []) $ free1 ! $ move ! (29 ∷ 30 ∷ []) $ free1 ! $ move ! (27 ∷ 28 ∷ []) $ free1 ! $ move ! (25 ∷ 26 ∷ []) $ free1 ! $ move ! (23 ∷ 24 ∷ []) $ free1 ! $ move ! (21 ∷ 22 ∷ []) $ free1 ! $ move ! (19 ∷ 20 ∷ []) $ free1 ! $ move ! (17 ∷ 18 ∷ []) $ free1 ! $ move ! (15 ∷ 16 ∷ []) $ free1 ! $ move ! (13 ∷ 14 ∷ []) $ free1 ! $ move ! (11 ∷ 12 ∷ []) $ free1 ! $ move ! (9 ∷ 10 ∷ []) $ free1 ! $ move ! (7 ∷ 8 ∷ []) $ free1 ! $ move ! (5 ∷ 6 ∷ []) $ free1 ! $ move ! (3 ∷ 4 ∷ []) $ free1 ! $ free0 ! $
-        keep ! (0 ∷ 1 ∷ 2 ∷ []) $ by ! (exits 2 (put-tx h k Tx.Idle) (sends h k (ap (λ (y : Berth). y .tx) (sym (at-is h k)) ∙ within .1) (runs-out t (λ u. 0) 2 over) (runs-out t (λ u. Tx.FirstDue n· u) Tx.Idle over)) (refl, lit< tt)))))))))))))))))))
+        keep ! (0 ∷ 1 ∷ 2 ∷ []) $ by ! (exits 2 (put-tx h k Tx.Idle) (sends h k (ap (λ (y : Berth). y .tx) (sym (at-is h k)) ∙ within .1) (runs-out t (λ u. 0) 2 over) (runs-out t (λ u. Tx.FirstDue party n· u) Tx.Idle over)) (refl, lit< tt)))))))))))))))))))
 
 module _ {M : Type 1} (𝓤 : URA M) (H : Heap 𝓤) (A : Atoms 𝓤) (W : Given 𝓤 H A) (at-mem : Memory → SProp 𝓤) (run : Routine → Fun 𝓤) where
   walks : (𝓣 : Tables 𝓤 H) → FmC 𝓤 H (W .laws) (𝓣 .C) → Walks 𝓤 H A self.ended stayed (WpFn 𝓤 H (𝓣 .C) (𝓣 .Λ) code.function) (self.clauses 𝓤 H A at-mem run)
   walks 𝓣 fm = walked 𝓤 H A self.ended stayed (self.clauses 𝓤 H A at-mem run) (WpFn 𝓤 H (𝓣 .C) (𝓣 .Λ) code.function) (λ κs. (ptr-vals, (λ y. (uint w64) .val y ∷ [], (λ y. (uint w32) .val y ∷ [], (λ y. (uint w16) .val y ∷ [], tt))))) (λ κs. (mut-tells (named 0) (κs .0) T.the-row, ((uint w64) .tells, ((uint w32) .tells, ((uint w16) .tells, tt)))))
-      (λ κs qs bounds a _ are. needs 𝓤 (((a .1 .0) < berthCount) × (berthAt (a .0 .now) (a .1 .0) .tx ≡ Tx.FirstDue (a .1 .1 .0) (a .1 .1 .1 .0))) _ (λ within. walk 𝓤 H A W at-mem run (κs .0) (qs .0) (a .0 .ptr .0) (a .0 .ptr .1) (a .0 .name) (a .0 .now) (a .1 .0) (a .1 .1 .0) (a .1 .1 .1 .0) (are .1 .0) (are .1 .1 .0) (are .1 .1 .1 .0) within 𝓣 fm))
+      (λ κs qs bounds a _ are. needs 𝓤 (((a .1 .0) < berthCount) × (berthAt (a .0 .now) (a .1 .0) .tx ≡ Tx.FirstDue party (a .1 .1 .0) (a .1 .1 .1 .0))) _ (λ within. walk 𝓤 H A W at-mem run (κs .0) (qs .0) (a .0 .ptr .0) (a .0 .ptr .1) (a .0 .name) (a .0 .now) (a .1 .0) (a .1 .1 .0) (a .1 .1 .1 .0) (are .1 .0) (are .1 .1 .0) (are .1 .1 .1 .0) within 𝓣 fm))
 
 meets : {M : Type 1} (𝓤 : URA M) (H : Heap 𝓤) (A : Atoms 𝓤) → Given 𝓤 H A → (at-mem : Memory → SProp 𝓤) (run : Routine → Fun 𝓤) (𝓣 : Tables 𝓤 H) → Meets 𝓤 H A self.signature (WpFn 𝓤 H (𝓣 .C) (𝓣 .Λ) code.function) (self.spec 𝓤 H A at-mem run)
 meets 𝓤 H A W at-mem run 𝓣 = walk-meets 𝓤 H A self.ended stayed W (goes-ref 𝓤 H A W 1 0 tt (plain (λ _. T.the-row)), (goes-none 𝓤 H A W 1 (λ _. usize) yes (λ κs x f. refl), (goes-none 𝓤 H A W 1 (λ _. u32) yes (λ κs x f. refl), (goes-none 𝓤 H A W 1 (λ _. u16) yes (λ κs x f. refl), tt)))) (self.clauses 𝓤 H A at-mem run) (WpFn 𝓤 H (𝓣 .C) (𝓣 .Λ) code.function) (WpFn-mono 𝓤 H (W .laws) 𝓣 code.function)

@@ -120,16 +120,16 @@ module _ {M : Type 1} (𝓤 : URA M) (H : Heap 𝓤) (A : Atoms 𝓤) (W : Given
       qed W (Left h′) ∵ suffices ! _ (ends-at 𝓤 H A self.ended stayed (self.clauses 𝓤 H A at-mem run) W (((κ, tt), (q, tt), tt, x, at), tt) ((uint w8) .val r) r (h′, (tt, tt)) (tt, (tt, tt))) $ says ! e $
       nothing ! $ move ! (3 ∷ 0 ∷ []) $ join ! $ frame ! $ feqI ! (List Val) (vptr b o ∷ []) (vptr b o ∷ []) refl $ fjoin3 ! $ nothing ! $ had ! (uint w64) k k-is $ fjoin ! $ move ! (1 ∷ 0 ∷ []) $ fjoin ! $ had ! (uint w8) r is $ move ! (1 ∷ 0 ∷ []) $ done !
 
-  goes-c1 : (α : ℕ) (δ : GName) (h : Node) (a₀ : ℕ) (a₁ : ℕ) (a₂ : ℕ) (a₀-is : Is usize a₀ ((uint w64) .val a₀ ∷ [])) (a₁-is : Is u32 a₁ ((uint w32) .val a₁ ∷ [])) (a₂-is : Is u16 a₂ ((uint w16) .val a₂ ∷ [])) → (a₀ < berthCount) × (berthAt h a₀ .tx ≡ Tx.SingleDue a₁ a₂) → ent 𝓤 (⋆ 𝓤 H A (‵ (flft (α ∷ []) fullShare) ∷ ‵ (MutRef (named 0) (α ∷ []) T.the-row .own (record { ptr = (b, o); name = δ; now = h }) (vptr b o ∷ [])) ∷ [])) (C1 𝓤 H A at-mem run .pre (((α ∷ [], tt), (fullShare, tt), tt, ((record { ptr = (b, o); name = δ; now = h }), (a₀, (a₁, (a₂, tt)))), (vptr b o ∷ [], ((uint w64) .val a₀ ∷ [], ((uint w32) .val a₁ ∷ [], ((uint w16) .val a₂ ∷ [], tt))))), tt))
+  goes-c1 : (α : ℕ) (δ : GName) (h : Node) (a₀ : ℕ) (a₁ : ℕ) (a₂ : ℕ) (a₀-is : Is usize a₀ ((uint w64) .val a₀ ∷ [])) (a₁-is : Is u32 a₁ ((uint w32) .val a₁ ∷ [])) (a₂-is : Is u16 a₂ ((uint w16) .val a₂ ∷ [])) → (a₀ < berthCount) × (berthAt h a₀ .tx ≡ Tx.SingleDue party a₁ a₂) → ent 𝓤 (⋆ 𝓤 H A (‵ (flft (α ∷ []) fullShare) ∷ ‵ (MutRef (named 0) (α ∷ []) T.the-row .own (record { ptr = (b, o); name = δ; now = h }) (vptr b o ∷ [])) ∷ [])) (C1 𝓤 H A at-mem run .pre (((α ∷ [], tt), (fullShare, tt), tt, ((record { ptr = (b, o); name = δ; now = h }), (a₀, (a₁, (a₂, tt)))), (vptr b o ∷ [], ((uint w64) .val a₀ ∷ [], ((uint w32) .val a₁ ∷ [], ((uint w16) .val a₂ ∷ [], tt))))), tt))
   goes-c1 α δ h a₀ a₁ a₂ a₀-is a₁-is a₂-is rq = qed W (‵ (flft (α ∷ []) fullShare) ∷ ‵ (MutRef (named 0) (α ∷ []) T.the-row .own (record { ptr = (b, o); name = δ; now = h }) (vptr b o ∷ [])) ∷ []) ∵ says ! rq $ nothing ! $ had ! (uint w16) a₂ a₂-is $ fjoin ! $ had ! (uint w32) a₁ a₁-is $ fjoin ! $ had ! (uint w64) a₀ a₀-is $ fjoin ! $ move ! (2 ∷ 0 ∷ []) $ fjoin ! $ nothing ! $ move ! (2 ∷ 0 ∷ []) $ join ! $ join ! $ done !
 
-  goes-c2 : (α : ℕ) (δ : GName) (h : Node) (a₀ : ℕ) (a₁ : ℕ) (a₂ : ℕ) (a₀-is : Is usize a₀ ((uint w64) .val a₀ ∷ [])) (a₁-is : Is u32 a₁ ((uint w32) .val a₁ ∷ [])) (a₂-is : Is u16 a₂ ((uint w16) .val a₂ ∷ [])) → (a₀ < berthCount) × (berthAt h a₀ .tx ≡ Tx.FirstDue a₁ a₂) → ent 𝓤 (⋆ 𝓤 H A (‵ (flft (α ∷ []) fullShare) ∷ ‵ (MutRef (named 0) (α ∷ []) T.the-row .own (record { ptr = (b, o); name = δ; now = h }) (vptr b o ∷ [])) ∷ [])) (C2 𝓤 H A at-mem run .pre (((α ∷ [], tt), (fullShare, tt), tt, ((record { ptr = (b, o); name = δ; now = h }), (a₀, (a₁, (a₂, tt)))), (vptr b o ∷ [], ((uint w64) .val a₀ ∷ [], ((uint w32) .val a₁ ∷ [], ((uint w16) .val a₂ ∷ [], tt))))), tt))
+  goes-c2 : (α : ℕ) (δ : GName) (h : Node) (a₀ : ℕ) (a₁ : ℕ) (a₂ : ℕ) (a₀-is : Is usize a₀ ((uint w64) .val a₀ ∷ [])) (a₁-is : Is u32 a₁ ((uint w32) .val a₁ ∷ [])) (a₂-is : Is u16 a₂ ((uint w16) .val a₂ ∷ [])) → (a₀ < berthCount) × (berthAt h a₀ .tx ≡ Tx.FirstDue party a₁ a₂) → ent 𝓤 (⋆ 𝓤 H A (‵ (flft (α ∷ []) fullShare) ∷ ‵ (MutRef (named 0) (α ∷ []) T.the-row .own (record { ptr = (b, o); name = δ; now = h }) (vptr b o ∷ [])) ∷ [])) (C2 𝓤 H A at-mem run .pre (((α ∷ [], tt), (fullShare, tt), tt, ((record { ptr = (b, o); name = δ; now = h }), (a₀, (a₁, (a₂, tt)))), (vptr b o ∷ [], ((uint w64) .val a₀ ∷ [], ((uint w32) .val a₁ ∷ [], ((uint w16) .val a₂ ∷ [], tt))))), tt))
   goes-c2 α δ h a₀ a₁ a₂ a₀-is a₁-is a₂-is rq = qed W (‵ (flft (α ∷ []) fullShare) ∷ ‵ (MutRef (named 0) (α ∷ []) T.the-row .own (record { ptr = (b, o); name = δ; now = h }) (vptr b o ∷ [])) ∷ []) ∵ says ! rq $ nothing ! $ had ! (uint w16) a₂ a₂-is $ fjoin ! $ had ! (uint w32) a₁ a₁-is $ fjoin ! $ had ! (uint w64) a₀ a₀-is $ fjoin ! $ move ! (2 ∷ 0 ∷ []) $ fjoin ! $ nothing ! $ move ! (2 ∷ 0 ∷ []) $ join ! $ join ! $ done !
 
-  goes-c3 : (α : ℕ) (δ : GName) (h : Node) (a₀ : ℕ) (a₁ : Sending) (a₂ : ℕ) (a₀-is : Is usize a₀ ((uint w64) .val a₀ ∷ [])) (a₁-is : Is (F·D .row) a₁ (F·D .val a₁ ∷ [])) (a₂-is : Is u16 a₂ ((uint w16) .val a₂ ∷ [])) → (a₀ < berthCount) × (berthAt h a₀ .tx ≡ Tx.AwaitsFlow a₁ a₂) → ent 𝓤 (⋆ 𝓤 H A (‵ (flft (α ∷ []) fullShare) ∷ ‵ (MutRef (named 0) (α ∷ []) T.the-row .own (record { ptr = (b, o); name = δ; now = h }) (vptr b o ∷ [])) ∷ [])) (C3 𝓤 H A at-mem run .pre (((α ∷ [], tt), (fullShare, tt), tt, ((record { ptr = (b, o); name = δ; now = h }), (a₀, (a₁, (a₂, tt)))), (vptr b o ∷ [], ((uint w64) .val a₀ ∷ [], (F·D .val a₁ ∷ [], ((uint w16) .val a₂ ∷ [], tt))))), tt))
+  goes-c3 : (α : ℕ) (δ : GName) (h : Node) (a₀ : ℕ) (a₁ : Sending) (a₂ : ℕ) (a₀-is : Is usize a₀ ((uint w64) .val a₀ ∷ [])) (a₁-is : Is (F·D .row) a₁ (F·D .val a₁ ∷ [])) (a₂-is : Is u16 a₂ ((uint w16) .val a₂ ∷ [])) → (a₀ < berthCount) × (berthAt h a₀ .tx ≡ Tx.AwaitsFlow party a₁ a₂) → ent 𝓤 (⋆ 𝓤 H A (‵ (flft (α ∷ []) fullShare) ∷ ‵ (MutRef (named 0) (α ∷ []) T.the-row .own (record { ptr = (b, o); name = δ; now = h }) (vptr b o ∷ [])) ∷ [])) (C3 𝓤 H A at-mem run .pre (((α ∷ [], tt), (fullShare, tt), tt, ((record { ptr = (b, o); name = δ; now = h }), (a₀, (a₁, (a₂, tt)))), (vptr b o ∷ [], ((uint w64) .val a₀ ∷ [], (F·D .val a₁ ∷ [], ((uint w16) .val a₂ ∷ [], tt))))), tt))
   goes-c3 α δ h a₀ a₁ a₂ a₀-is a₁-is a₂-is rq = qed W (‵ (flft (α ∷ []) fullShare) ∷ ‵ (MutRef (named 0) (α ∷ []) T.the-row .own (record { ptr = (b, o); name = δ; now = h }) (vptr b o ∷ [])) ∷ []) ∵ says ! rq $ nothing ! $ had ! (uint w16) a₂ a₂-is $ fjoin ! $ had ! F·D a₁ a₁-is $ fjoin ! $ had ! (uint w64) a₀ a₀-is $ fjoin ! $ move ! (2 ∷ 0 ∷ []) $ fjoin ! $ nothing ! $ move ! (2 ∷ 0 ∷ []) $ join ! $ join ! $ done !
 
-  goes-c4 : (α : ℕ) (δ : GName) (h : Node) (a₀ : ℕ) (a₁ : Sending) (a₂ : ℕ) (a₀-is : Is usize a₀ ((uint w64) .val a₀ ∷ [])) (a₁-is : Is (F·D .row) a₁ (F·D .val a₁ ∷ [])) (a₂-is : Is u16 a₂ ((uint w16) .val a₂ ∷ [])) → (a₀ < berthCount) × (berthAt h a₀ .tx ≡ Tx.Consecutive a₁ a₂) → ent 𝓤 (⋆ 𝓤 H A (‵ (flft (α ∷ []) fullShare) ∷ ‵ (MutRef (named 0) (α ∷ []) T.the-row .own (record { ptr = (b, o); name = δ; now = h }) (vptr b o ∷ [])) ∷ [])) (C4 𝓤 H A at-mem run .pre (((α ∷ [], tt), (fullShare, tt), tt, ((record { ptr = (b, o); name = δ; now = h }), (a₀, (a₁, (a₂, tt)))), (vptr b o ∷ [], ((uint w64) .val a₀ ∷ [], (F·D .val a₁ ∷ [], ((uint w16) .val a₂ ∷ [], tt))))), tt))
+  goes-c4 : (α : ℕ) (δ : GName) (h : Node) (a₀ : ℕ) (a₁ : Sending) (a₂ : ℕ) (a₀-is : Is usize a₀ ((uint w64) .val a₀ ∷ [])) (a₁-is : Is (F·D .row) a₁ (F·D .val a₁ ∷ [])) (a₂-is : Is u16 a₂ ((uint w16) .val a₂ ∷ [])) → (a₀ < berthCount) × (berthAt h a₀ .tx ≡ Tx.Consecutive party a₁ a₂) → ent 𝓤 (⋆ 𝓤 H A (‵ (flft (α ∷ []) fullShare) ∷ ‵ (MutRef (named 0) (α ∷ []) T.the-row .own (record { ptr = (b, o); name = δ; now = h }) (vptr b o ∷ [])) ∷ [])) (C4 𝓤 H A at-mem run .pre (((α ∷ [], tt), (fullShare, tt), tt, ((record { ptr = (b, o); name = δ; now = h }), (a₀, (a₁, (a₂, tt)))), (vptr b o ∷ [], ((uint w64) .val a₀ ∷ [], (F·D .val a₁ ∷ [], ((uint w16) .val a₂ ∷ [], tt))))), tt))
   goes-c4 α δ h a₀ a₁ a₂ a₀-is a₁-is a₂-is rq = qed W (‵ (flft (α ∷ []) fullShare) ∷ ‵ (MutRef (named 0) (α ∷ []) T.the-row .own (record { ptr = (b, o); name = δ; now = h }) (vptr b o ∷ [])) ∷ []) ∵ says ! rq $ nothing ! $ had ! (uint w16) a₂ a₂-is $ fjoin ! $ had ! F·D a₁ a₁-is $ fjoin ! $ had ! (uint w64) a₀ a₀-is $ fjoin ! $ move ! (2 ∷ 0 ∷ []) $ fjoin ! $ nothing ! $ move ! (2 ∷ 0 ∷ []) $ join ! $ join ! $ done !
 
   module _ (𝓣 : Tables 𝓤 H) (fm : FmC 𝓤 H (W .laws) (𝓣 .C)) (known-c1 : Triple 𝓤 (𝓣 .C #c1) (C1 𝓤 H A at-mem run)) (known-c2 : Triple 𝓤 (𝓣 .C #c2) (C2 𝓤 H A at-mem run)) (known-c3 : Triple 𝓤 (𝓣 .C #c3) (C3 𝓤 H A at-mem run)) (known-c4 : Triple 𝓤 (𝓣 .C #c4) (C4 𝓤 H A at-mem run)) where
@@ -158,11 +158,11 @@ module _ {M : Type 1} (𝓤 : URA M) (H : Heap 𝓤) (A : Atoms 𝓤) (W : Given
               keep ! (0 ∷ 1 ∷ 2 ∷ []) $ by ! (exits 0 h (sends-nothing h k ((as-tx-Idle ((getD (h .berths) k fresh) .tx) tag))) (refl, lit< tt))),
           (
             (λ tag.
-                assigns ! (of-opd ! (load ! (from ! (hop ! (look ! 12 refl) (fld ! {τ = X′.mir} {d = 24} refl (vrt ! refl (fld ! {τ = tyInt w32} {d = 4} refl (stop !)))))) (look-in ! 0 (in-variant ! 1 0 {τ = tyInt w32} {d = 4} refl refl (sub ! 2 {τ = X′.mir} {d = 24} refl (item ! (us (h .berths)) k (FB .val fresh) (us-within h was k within) (us-length h was) (us-at (h .berths) k ∙ tx-seen (getD (h .berths) k fresh) ((as-tx-SingleDue ((getD (h .berths) k fresh) .tx) tag) .1 .1)) (sub ! 2 {τ = tyArray B′.mir 10} {d = 8} refl (whole !)))))))) (from ! (stop !)) (init ! 32 refl ((uint w32) .lawful 𝓤 H A W .typed ((as-tx-SingleDue ((getD (h .berths) k fresh) .tx) tag) .0) _ ((EL.owed X.the-type X′.the-laws (Tx.SingleDue ((as-tx-SingleDue ((getD (h .berths) k fresh) .tx) tag) .0) ((as-tx-SingleDue ((getD (h .berths) k fresh) .tx) tag) .1 .0)) _ (tx-as (getD (h .berths) k fresh) (berth-is h was k within) ((as-tx-SingleDue ((getD (h .berths) k fresh) .tx) tag) .1 .1))) .0) .0)) $
-                assigns ! (of-opd ! (load ! (from ! (hop ! (look ! 12 refl) (fld ! {τ = X′.mir} {d = 24} refl (vrt ! refl (fld ! {τ = tyInt w16} {d = 8} refl (stop !)))))) (look-in ! 0 (in-variant ! 1 1 {τ = tyInt w16} {d = 8} refl refl (sub ! 2 {τ = X′.mir} {d = 24} refl (item ! (us (h .berths)) k (FB .val fresh) (us-within h was k within) (us-length h was) (us-at (h .berths) k ∙ tx-seen (getD (h .berths) k fresh) ((as-tx-SingleDue ((getD (h .berths) k fresh) .tx) tag) .1 .1)) (sub ! 2 {τ = tyArray B′.mir 10} {d = 8} refl (whole !)))))))) (from ! (stop !)) (init ! 30 refl ((uint w16) .lawful 𝓤 H A W .typed ((as-tx-SingleDue ((getD (h .berths) k fresh) .tx) tag) .1 .0) _ ((EL.owed X.the-type X′.the-laws (Tx.SingleDue ((as-tx-SingleDue ((getD (h .berths) k fresh) .tx) tag) .0) ((as-tx-SingleDue ((getD (h .berths) k fresh) .tx) tag) .1 .0)) _ (tx-as (getD (h .berths) k fresh) (berth-is h was k within) ((as-tx-SingleDue ((getD (h .berths) k fresh) .tx) tag) .1 .1))) .1 .0) .0)) $
+                assigns ! (of-opd ! (load ! (from ! (hop ! (look ! 12 refl) (fld ! {τ = X′.mir} {d = 24} refl (vrt ! refl (fld ! {τ = tyInt w32} {d = 4} refl (stop !)))))) (look-in ! 0 (in-variant ! 1 0 {τ = tyInt w32} {d = 4} refl refl (sub ! 2 {τ = X′.mir} {d = 24} refl (item ! (us (h .berths)) k (FB .val fresh) (us-within h was k within) (us-length h was) (us-at (h .berths) k ∙ tx-seen (getD (h .berths) k fresh) ((as-tx-SingleDue ((getD (h .berths) k fresh) .tx) tag) .1 .1)) (sub ! 2 {τ = tyArray B′.mir 10} {d = 8} refl (whole !)))))))) (from ! (stop !)) (init ! 32 refl ((uint w32) .lawful 𝓤 H A W .typed ((as-tx-SingleDue ((getD (h .berths) k fresh) .tx) tag) .0) _ ((EL.owed X.the-type X′.the-laws (Tx.SingleDue party ((as-tx-SingleDue ((getD (h .berths) k fresh) .tx) tag) .0) ((as-tx-SingleDue ((getD (h .berths) k fresh) .tx) tag) .1 .0)) _ (tx-as (getD (h .berths) k fresh) (berth-is h was k within) ((as-tx-SingleDue ((getD (h .berths) k fresh) .tx) tag) .1 .1))) .0) .0)) $
+                assigns ! (of-opd ! (load ! (from ! (hop ! (look ! 12 refl) (fld ! {τ = X′.mir} {d = 24} refl (vrt ! refl (fld ! {τ = tyInt w16} {d = 8} refl (stop !)))))) (look-in ! 0 (in-variant ! 1 1 {τ = tyInt w16} {d = 8} refl refl (sub ! 2 {τ = X′.mir} {d = 24} refl (item ! (us (h .berths)) k (FB .val fresh) (us-within h was k within) (us-length h was) (us-at (h .berths) k ∙ tx-seen (getD (h .berths) k fresh) ((as-tx-SingleDue ((getD (h .berths) k fresh) .tx) tag) .1 .1)) (sub ! 2 {τ = tyArray B′.mir 10} {d = 8} refl (whole !)))))))) (from ! (stop !)) (init ! 30 refl ((uint w16) .lawful 𝓤 H A W .typed ((as-tx-SingleDue ((getD (h .berths) k fresh) .tx) tag) .1 .0) _ ((EL.owed X.the-type X′.the-laws (Tx.SingleDue party ((as-tx-SingleDue ((getD (h .berths) k fresh) .tx) tag) .0) ((as-tx-SingleDue ((getD (h .berths) k fresh) .tx) tag) .1 .0)) _ (tx-as (getD (h .berths) k fresh) (berth-is h was k within) ((as-tx-SingleDue ((getD (h .berths) k fresh) .tx) tag) .1 .1))) .1 .0) .0)) $
                 assigns ! (addr ! (from ! (hop ! (look ! 36 refl) (stop !)))) (from ! (stop !)) (init ! 10 refl (tt, tt)) $
                 use1 W (‵ (cellAt fullShare (T.the-row .mir) (FT .val h ∷ []) b o)) (W .laws .at-raw fullShare T′.mir b o (FT .val h)) $ lent ! tt FT h b o was (λ α1 δ1.
-                uses W (‵ (flft (α1 ∷ []) fullShare) ∷ ‵ (MutRef (named 0) (α1 ∷ []) T.the-row .own (record { ptr = (b, o); name = δ1; now = h }) (vptr b o ∷ [])) ∷ []) (raw (C1 𝓤 H A at-mem run .pre (((α1 ∷ [], tt), (fullShare, tt), tt, ((record { ptr = (b, o); name = δ1; now = h }), (k, (((as-tx-SingleDue ((getD (h .berths) k fresh) .tx) tag) .0), (((as-tx-SingleDue ((getD (h .berths) k fresh) .tx) tag) .1 .0), tt)))), (vptr b o ∷ [], ((uint w64) .val k ∷ [], ((uint w32) .val ((as-tx-SingleDue ((getD (h .berths) k fresh) .tx) tag) .0) ∷ [], ((uint w16) .val ((as-tx-SingleDue ((getD (h .berths) k fresh) .tx) tag) .1 .0) ∷ [], tt))))), tt))) (goes-c1 α1 δ1 h k ((as-tx-SingleDue ((getD (h .berths) k fresh) .tx) tag) .0) ((as-tx-SingleDue ((getD (h .berths) k fresh) .tx) tag) .1 .0) k-is ((EL.owed X.the-type X′.the-laws (Tx.SingleDue ((as-tx-SingleDue ((getD (h .berths) k fresh) .tx) tag) .0) ((as-tx-SingleDue ((getD (h .berths) k fresh) .tx) tag) .1 .0)) _ (tx-as (getD (h .berths) k fresh) (berth-is h was k within) ((as-tx-SingleDue ((getD (h .berths) k fresh) .tx) tag) .1 .1))) .0) ((EL.owed X.the-type X′.the-laws (Tx.SingleDue ((as-tx-SingleDue ((getD (h .berths) k fresh) .tx) tag) .0) ((as-tx-SingleDue ((getD (h .berths) k fresh) .tx) tag) .1 .0)) _ (tx-as (getD (h .berths) k fresh) (berth-is h was k within) ((as-tx-SingleDue ((getD (h .berths) k fresh) .tx) tag) .1 .1))) .1 .0) (within, ap (λ (y : Berth). y .tx) (at-is h k) ∙ ((as-tx-SingleDue ((getD (h .berths) k fresh) .tx) tag) .1 .1))) $
+                uses W (‵ (flft (α1 ∷ []) fullShare) ∷ ‵ (MutRef (named 0) (α1 ∷ []) T.the-row .own (record { ptr = (b, o); name = δ1; now = h }) (vptr b o ∷ [])) ∷ []) (raw (C1 𝓤 H A at-mem run .pre (((α1 ∷ [], tt), (fullShare, tt), tt, ((record { ptr = (b, o); name = δ1; now = h }), (k, (((as-tx-SingleDue ((getD (h .berths) k fresh) .tx) tag) .0), (((as-tx-SingleDue ((getD (h .berths) k fresh) .tx) tag) .1 .0), tt)))), (vptr b o ∷ [], ((uint w64) .val k ∷ [], ((uint w32) .val ((as-tx-SingleDue ((getD (h .berths) k fresh) .tx) tag) .0) ∷ [], ((uint w16) .val ((as-tx-SingleDue ((getD (h .berths) k fresh) .tx) tag) .1 .0) ∷ [], tt))))), tt))) (goes-c1 α1 δ1 h k ((as-tx-SingleDue ((getD (h .berths) k fresh) .tx) tag) .0) ((as-tx-SingleDue ((getD (h .berths) k fresh) .tx) tag) .1 .0) k-is ((EL.owed X.the-type X′.the-laws (Tx.SingleDue party ((as-tx-SingleDue ((getD (h .berths) k fresh) .tx) tag) .0) ((as-tx-SingleDue ((getD (h .berths) k fresh) .tx) tag) .1 .0)) _ (tx-as (getD (h .berths) k fresh) (berth-is h was k within) ((as-tx-SingleDue ((getD (h .berths) k fresh) .tx) tag) .1 .1))) .0) ((EL.owed X.the-type X′.the-laws (Tx.SingleDue party ((as-tx-SingleDue ((getD (h .berths) k fresh) .tx) tag) .0) ((as-tx-SingleDue ((getD (h .berths) k fresh) .tx) tag) .1 .0)) _ (tx-as (getD (h .berths) k fresh) (berth-is h was k within) ((as-tx-SingleDue ((getD (h .berths) k fresh) .tx) tag) .1 .1))) .1 .0) (within, ap (λ (y : Berth). y .tx) (at-is h k) ∙ ((as-tx-SingleDue ((getD (h .berths) k fresh) .tx) tag) .1 .1))) $
                 calls-at ! fm (C1 𝓤 H A at-mem run) known-c1 (((α1 ∷ [], tt), (fullShare, tt), tt, ((record { ptr = (b, o); name = δ1; now = h }), (k, (((as-tx-SingleDue ((getD (h .berths) k fresh) .tx) tag) .0), (((as-tx-SingleDue ((getD (h .berths) k fresh) .tx) tag) .1 .0), tt)))), (vptr b o ∷ [], ((uint w64) .val k ∷ [], ((uint w32) .val ((as-tx-SingleDue ((getD (h .berths) k fresh) .tx) tag) .0) ∷ [], ((uint w16) .val ((as-tx-SingleDue ((getD (h .berths) k fresh) .tx) tag) .1 .0) ∷ [], tt))))), tt) (and-then ! (load ! (from ! (stop !)) (look ! 11 refl)) (and-then ! (load ! (from ! (stop !)) (look ! 35 refl)) (and-then ! (load ! (from ! (stop !)) (look ! 33 refl)) (and-then ! (load ! (from ! (stop !)) (look ! 31 refl)) (no-more !))))) (λ v1.
                 use1 W (later (some (λ (r· : ℕ). ((‵ (flft (α1 ∷ []) fullShare) ⊛ ‵ ftrue) ⊛ ‵ (u8 .own r· (v1 ∷ []))) ⊛ raw (ensured 𝓤 H A c1.ended (c1.clauses 𝓤 H A at-mem run) (α1 ∷ [], tt) ((record { ptr = (b, o); name = δ1; now = h }), (k, (((as-tx-SingleDue ((getD (h .berths) k fresh) .tx) tag) .0), (((as-tx-SingleDue ((getD (h .berths) k fresh) .tx) tag) .1 .0), tt)))) tt r·)))) (id⊢ 𝓤 _) $ await ! tt $ pick ! (λ r·.
                 split ! $ move ! (1 ∷ []) $ use1 W (some (λ (zs1 : Lasts c1.ended (α1 ∷ [], tt) ((record { ptr = (b, o); name = δ1; now = h }), (k, (((as-tx-SingleDue ((getD (h .berths) k fresh) .tx) tag) .0), (((as-tx-SingleDue ((getD (h .berths) k fresh) .tx) tag) .1 .0), tt))))). ‵ (lasts c1.ended (α1 ∷ [], tt) ((record { ptr = (b, o); name = δ1; now = h }), (k, (((as-tx-SingleDue ((getD (h .berths) k fresh) .tx) tag) .0), (((as-tx-SingleDue ((getD (h .berths) k fresh) .tx) tag) .1 .0), tt)))) zs1) ⊛ raw (fact 𝓤 (SendTicked h k r· (zs1 .0))))) (id⊢ 𝓤 _) $ pick ! (λ zs1.
@@ -178,11 +178,11 @@ module _ {M : Type 1} (𝓤 : URA M) (H : Heap 𝓤) (A : Atoms 𝓤) (W : Given
                 keep ! (0 ∷ 1 ∷ 2 ∷ []) $ by ! (exits r· (zs1 .0) (e·) r-is))))))))),
             (
               (λ tag.
-                  assigns ! (of-opd ! (load ! (from ! (hop ! (look ! 12 refl) (fld ! {τ = X′.mir} {d = 24} refl (vrt ! refl (fld ! {τ = tyInt w32} {d = 4} refl (stop !)))))) (look-in ! 0 (in-variant ! 2 0 {τ = tyInt w32} {d = 4} refl refl (sub ! 2 {τ = X′.mir} {d = 24} refl (item ! (us (h .berths)) k (FB .val fresh) (us-within h was k within) (us-length h was) (us-at (h .berths) k ∙ tx-seen (getD (h .berths) k fresh) ((as-tx-FirstDue ((getD (h .berths) k fresh) .tx) tag) .1 .1)) (sub ! 2 {τ = tyArray B′.mir 10} {d = 8} refl (whole !)))))))) (from ! (stop !)) (init ! 28 refl ((uint w32) .lawful 𝓤 H A W .typed ((as-tx-FirstDue ((getD (h .berths) k fresh) .tx) tag) .0) _ ((EL.owed X.the-type X′.the-laws (Tx.FirstDue ((as-tx-FirstDue ((getD (h .berths) k fresh) .tx) tag) .0) ((as-tx-FirstDue ((getD (h .berths) k fresh) .tx) tag) .1 .0)) _ (tx-as (getD (h .berths) k fresh) (berth-is h was k within) ((as-tx-FirstDue ((getD (h .berths) k fresh) .tx) tag) .1 .1))) .0) .0)) $
-                  assigns ! (of-opd ! (load ! (from ! (hop ! (look ! 12 refl) (fld ! {τ = X′.mir} {d = 24} refl (vrt ! refl (fld ! {τ = tyInt w16} {d = 8} refl (stop !)))))) (look-in ! 0 (in-variant ! 2 1 {τ = tyInt w16} {d = 8} refl refl (sub ! 2 {τ = X′.mir} {d = 24} refl (item ! (us (h .berths)) k (FB .val fresh) (us-within h was k within) (us-length h was) (us-at (h .berths) k ∙ tx-seen (getD (h .berths) k fresh) ((as-tx-FirstDue ((getD (h .berths) k fresh) .tx) tag) .1 .1)) (sub ! 2 {τ = tyArray B′.mir 10} {d = 8} refl (whole !)))))))) (from ! (stop !)) (init ! 26 refl ((uint w16) .lawful 𝓤 H A W .typed ((as-tx-FirstDue ((getD (h .berths) k fresh) .tx) tag) .1 .0) _ ((EL.owed X.the-type X′.the-laws (Tx.FirstDue ((as-tx-FirstDue ((getD (h .berths) k fresh) .tx) tag) .0) ((as-tx-FirstDue ((getD (h .berths) k fresh) .tx) tag) .1 .0)) _ (tx-as (getD (h .berths) k fresh) (berth-is h was k within) ((as-tx-FirstDue ((getD (h .berths) k fresh) .tx) tag) .1 .1))) .1 .0) .0)) $
+                  assigns ! (of-opd ! (load ! (from ! (hop ! (look ! 12 refl) (fld ! {τ = X′.mir} {d = 24} refl (vrt ! refl (fld ! {τ = tyInt w32} {d = 4} refl (stop !)))))) (look-in ! 0 (in-variant ! 2 0 {τ = tyInt w32} {d = 4} refl refl (sub ! 2 {τ = X′.mir} {d = 24} refl (item ! (us (h .berths)) k (FB .val fresh) (us-within h was k within) (us-length h was) (us-at (h .berths) k ∙ tx-seen (getD (h .berths) k fresh) ((as-tx-FirstDue ((getD (h .berths) k fresh) .tx) tag) .1 .1)) (sub ! 2 {τ = tyArray B′.mir 10} {d = 8} refl (whole !)))))))) (from ! (stop !)) (init ! 28 refl ((uint w32) .lawful 𝓤 H A W .typed ((as-tx-FirstDue ((getD (h .berths) k fresh) .tx) tag) .0) _ ((EL.owed X.the-type X′.the-laws (Tx.FirstDue party ((as-tx-FirstDue ((getD (h .berths) k fresh) .tx) tag) .0) ((as-tx-FirstDue ((getD (h .berths) k fresh) .tx) tag) .1 .0)) _ (tx-as (getD (h .berths) k fresh) (berth-is h was k within) ((as-tx-FirstDue ((getD (h .berths) k fresh) .tx) tag) .1 .1))) .0) .0)) $
+                  assigns ! (of-opd ! (load ! (from ! (hop ! (look ! 12 refl) (fld ! {τ = X′.mir} {d = 24} refl (vrt ! refl (fld ! {τ = tyInt w16} {d = 8} refl (stop !)))))) (look-in ! 0 (in-variant ! 2 1 {τ = tyInt w16} {d = 8} refl refl (sub ! 2 {τ = X′.mir} {d = 24} refl (item ! (us (h .berths)) k (FB .val fresh) (us-within h was k within) (us-length h was) (us-at (h .berths) k ∙ tx-seen (getD (h .berths) k fresh) ((as-tx-FirstDue ((getD (h .berths) k fresh) .tx) tag) .1 .1)) (sub ! 2 {τ = tyArray B′.mir 10} {d = 8} refl (whole !)))))))) (from ! (stop !)) (init ! 26 refl ((uint w16) .lawful 𝓤 H A W .typed ((as-tx-FirstDue ((getD (h .berths) k fresh) .tx) tag) .1 .0) _ ((EL.owed X.the-type X′.the-laws (Tx.FirstDue party ((as-tx-FirstDue ((getD (h .berths) k fresh) .tx) tag) .0) ((as-tx-FirstDue ((getD (h .berths) k fresh) .tx) tag) .1 .0)) _ (tx-as (getD (h .berths) k fresh) (berth-is h was k within) ((as-tx-FirstDue ((getD (h .berths) k fresh) .tx) tag) .1 .1))) .1 .0) .0)) $
                   assigns ! (addr ! (from ! (hop ! (look ! 36 refl) (stop !)))) (from ! (stop !)) (init ! 8 refl (tt, tt)) $
                   use1 W (‵ (cellAt fullShare (T.the-row .mir) (FT .val h ∷ []) b o)) (W .laws .at-raw fullShare T′.mir b o (FT .val h)) $ lent ! tt FT h b o was (λ α2 δ2.
-                  uses W (‵ (flft (α2 ∷ []) fullShare) ∷ ‵ (MutRef (named 0) (α2 ∷ []) T.the-row .own (record { ptr = (b, o); name = δ2; now = h }) (vptr b o ∷ [])) ∷ []) (raw (C2 𝓤 H A at-mem run .pre (((α2 ∷ [], tt), (fullShare, tt), tt, ((record { ptr = (b, o); name = δ2; now = h }), (k, (((as-tx-FirstDue ((getD (h .berths) k fresh) .tx) tag) .0), (((as-tx-FirstDue ((getD (h .berths) k fresh) .tx) tag) .1 .0), tt)))), (vptr b o ∷ [], ((uint w64) .val k ∷ [], ((uint w32) .val ((as-tx-FirstDue ((getD (h .berths) k fresh) .tx) tag) .0) ∷ [], ((uint w16) .val ((as-tx-FirstDue ((getD (h .berths) k fresh) .tx) tag) .1 .0) ∷ [], tt))))), tt))) (goes-c2 α2 δ2 h k ((as-tx-FirstDue ((getD (h .berths) k fresh) .tx) tag) .0) ((as-tx-FirstDue ((getD (h .berths) k fresh) .tx) tag) .1 .0) k-is ((EL.owed X.the-type X′.the-laws (Tx.FirstDue ((as-tx-FirstDue ((getD (h .berths) k fresh) .tx) tag) .0) ((as-tx-FirstDue ((getD (h .berths) k fresh) .tx) tag) .1 .0)) _ (tx-as (getD (h .berths) k fresh) (berth-is h was k within) ((as-tx-FirstDue ((getD (h .berths) k fresh) .tx) tag) .1 .1))) .0) ((EL.owed X.the-type X′.the-laws (Tx.FirstDue ((as-tx-FirstDue ((getD (h .berths) k fresh) .tx) tag) .0) ((as-tx-FirstDue ((getD (h .berths) k fresh) .tx) tag) .1 .0)) _ (tx-as (getD (h .berths) k fresh) (berth-is h was k within) ((as-tx-FirstDue ((getD (h .berths) k fresh) .tx) tag) .1 .1))) .1 .0) (within, ap (λ (y : Berth). y .tx) (at-is h k) ∙ ((as-tx-FirstDue ((getD (h .berths) k fresh) .tx) tag) .1 .1))) $
+                  uses W (‵ (flft (α2 ∷ []) fullShare) ∷ ‵ (MutRef (named 0) (α2 ∷ []) T.the-row .own (record { ptr = (b, o); name = δ2; now = h }) (vptr b o ∷ [])) ∷ []) (raw (C2 𝓤 H A at-mem run .pre (((α2 ∷ [], tt), (fullShare, tt), tt, ((record { ptr = (b, o); name = δ2; now = h }), (k, (((as-tx-FirstDue ((getD (h .berths) k fresh) .tx) tag) .0), (((as-tx-FirstDue ((getD (h .berths) k fresh) .tx) tag) .1 .0), tt)))), (vptr b o ∷ [], ((uint w64) .val k ∷ [], ((uint w32) .val ((as-tx-FirstDue ((getD (h .berths) k fresh) .tx) tag) .0) ∷ [], ((uint w16) .val ((as-tx-FirstDue ((getD (h .berths) k fresh) .tx) tag) .1 .0) ∷ [], tt))))), tt))) (goes-c2 α2 δ2 h k ((as-tx-FirstDue ((getD (h .berths) k fresh) .tx) tag) .0) ((as-tx-FirstDue ((getD (h .berths) k fresh) .tx) tag) .1 .0) k-is ((EL.owed X.the-type X′.the-laws (Tx.FirstDue party ((as-tx-FirstDue ((getD (h .berths) k fresh) .tx) tag) .0) ((as-tx-FirstDue ((getD (h .berths) k fresh) .tx) tag) .1 .0)) _ (tx-as (getD (h .berths) k fresh) (berth-is h was k within) ((as-tx-FirstDue ((getD (h .berths) k fresh) .tx) tag) .1 .1))) .0) ((EL.owed X.the-type X′.the-laws (Tx.FirstDue party ((as-tx-FirstDue ((getD (h .berths) k fresh) .tx) tag) .0) ((as-tx-FirstDue ((getD (h .berths) k fresh) .tx) tag) .1 .0)) _ (tx-as (getD (h .berths) k fresh) (berth-is h was k within) ((as-tx-FirstDue ((getD (h .berths) k fresh) .tx) tag) .1 .1))) .1 .0) (within, ap (λ (y : Berth). y .tx) (at-is h k) ∙ ((as-tx-FirstDue ((getD (h .berths) k fresh) .tx) tag) .1 .1))) $
                   calls-at ! fm (C2 𝓤 H A at-mem run) known-c2 (((α2 ∷ [], tt), (fullShare, tt), tt, ((record { ptr = (b, o); name = δ2; now = h }), (k, (((as-tx-FirstDue ((getD (h .berths) k fresh) .tx) tag) .0), (((as-tx-FirstDue ((getD (h .berths) k fresh) .tx) tag) .1 .0), tt)))), (vptr b o ∷ [], ((uint w64) .val k ∷ [], ((uint w32) .val ((as-tx-FirstDue ((getD (h .berths) k fresh) .tx) tag) .0) ∷ [], ((uint w16) .val ((as-tx-FirstDue ((getD (h .berths) k fresh) .tx) tag) .1 .0) ∷ [], tt))))), tt) (and-then ! (load ! (from ! (stop !)) (look ! 9 refl)) (and-then ! (load ! (from ! (stop !)) (look ! 35 refl)) (and-then ! (load ! (from ! (stop !)) (look ! 29 refl)) (and-then ! (load ! (from ! (stop !)) (look ! 27 refl)) (no-more !))))) (λ v2.
                   use1 W (later (some (λ (r· : ℕ). ((‵ (flft (α2 ∷ []) fullShare) ⊛ ‵ ftrue) ⊛ ‵ (u8 .own r· (v2 ∷ []))) ⊛ raw (ensured 𝓤 H A c2.ended (c2.clauses 𝓤 H A at-mem run) (α2 ∷ [], tt) ((record { ptr = (b, o); name = δ2; now = h }), (k, (((as-tx-FirstDue ((getD (h .berths) k fresh) .tx) tag) .0), (((as-tx-FirstDue ((getD (h .berths) k fresh) .tx) tag) .1 .0), tt)))) tt r·)))) (id⊢ 𝓤 _) $ await ! tt $ pick ! (λ r·.
                   split ! $ move ! (1 ∷ []) $ use1 W (some (λ (zs2 : Lasts c2.ended (α2 ∷ [], tt) ((record { ptr = (b, o); name = δ2; now = h }), (k, (((as-tx-FirstDue ((getD (h .berths) k fresh) .tx) tag) .0), (((as-tx-FirstDue ((getD (h .berths) k fresh) .tx) tag) .1 .0), tt))))). ‵ (lasts c2.ended (α2 ∷ [], tt) ((record { ptr = (b, o); name = δ2; now = h }), (k, (((as-tx-FirstDue ((getD (h .berths) k fresh) .tx) tag) .0), (((as-tx-FirstDue ((getD (h .berths) k fresh) .tx) tag) .1 .0), tt)))) zs2) ⊛ raw (fact 𝓤 (SendTicked h k r· (zs2 .0))))) (id⊢ 𝓤 _) $ pick ! (λ zs2.
@@ -198,11 +198,11 @@ module _ {M : Type 1} (𝓤 : URA M) (H : Heap 𝓤) (A : Atoms 𝓤) (W : Given
                   keep ! (0 ∷ 1 ∷ 2 ∷ []) $ by ! (exits r· (zs2 .0) (e·) r-is))))))))),
               (
                 (λ tag.
-                    assigns ! (of-opd ! (load ! (from ! (hop ! (look ! 12 refl) (fld ! {τ = X′.mir} {d = 24} refl (vrt ! refl (fld ! {τ = D′.mir} {d = 4} refl (stop !)))))) (look-in ! 0 (in-variant ! 3 0 {τ = D′.mir} {d = 4} refl refl (sub ! 2 {τ = X′.mir} {d = 24} refl (item ! (us (h .berths)) k (FB .val fresh) (us-within h was k within) (us-length h was) (us-at (h .berths) k ∙ tx-seen (getD (h .berths) k fresh) ((as-tx-AwaitsFlow ((getD (h .berths) k fresh) .tx) tag) .1 .1)) (sub ! 2 {τ = tyArray B′.mir 10} {d = 8} refl (whole !)))))))) (from ! (stop !)) (init ! 24 refl (F·D .lawful 𝓤 H A W .typed ((as-tx-AwaitsFlow ((getD (h .berths) k fresh) .tx) tag) .0) _ ((EL.owed X.the-type X′.the-laws (Tx.AwaitsFlow ((as-tx-AwaitsFlow ((getD (h .berths) k fresh) .tx) tag) .0) ((as-tx-AwaitsFlow ((getD (h .berths) k fresh) .tx) tag) .1 .0)) _ (tx-as (getD (h .berths) k fresh) (berth-is h was k within) ((as-tx-AwaitsFlow ((getD (h .berths) k fresh) .tx) tag) .1 .1))) .0) .0)) $
-                    assigns ! (of-opd ! (load ! (from ! (hop ! (look ! 12 refl) (fld ! {τ = X′.mir} {d = 24} refl (vrt ! refl (fld ! {τ = tyInt w16} {d = 20} refl (stop !)))))) (look-in ! 0 (in-variant ! 3 1 {τ = tyInt w16} {d = 20} refl refl (sub ! 2 {τ = X′.mir} {d = 24} refl (item ! (us (h .berths)) k (FB .val fresh) (us-within h was k within) (us-length h was) (us-at (h .berths) k ∙ tx-seen (getD (h .berths) k fresh) ((as-tx-AwaitsFlow ((getD (h .berths) k fresh) .tx) tag) .1 .1)) (sub ! 2 {τ = tyArray B′.mir 10} {d = 8} refl (whole !)))))))) (from ! (stop !)) (init ! 22 refl ((uint w16) .lawful 𝓤 H A W .typed ((as-tx-AwaitsFlow ((getD (h .berths) k fresh) .tx) tag) .1 .0) _ ((EL.owed X.the-type X′.the-laws (Tx.AwaitsFlow ((as-tx-AwaitsFlow ((getD (h .berths) k fresh) .tx) tag) .0) ((as-tx-AwaitsFlow ((getD (h .berths) k fresh) .tx) tag) .1 .0)) _ (tx-as (getD (h .berths) k fresh) (berth-is h was k within) ((as-tx-AwaitsFlow ((getD (h .berths) k fresh) .tx) tag) .1 .1))) .1 .0) .0)) $
+                    assigns ! (of-opd ! (load ! (from ! (hop ! (look ! 12 refl) (fld ! {τ = X′.mir} {d = 24} refl (vrt ! refl (fld ! {τ = D′.mir} {d = 4} refl (stop !)))))) (look-in ! 0 (in-variant ! 3 0 {τ = D′.mir} {d = 4} refl refl (sub ! 2 {τ = X′.mir} {d = 24} refl (item ! (us (h .berths)) k (FB .val fresh) (us-within h was k within) (us-length h was) (us-at (h .berths) k ∙ tx-seen (getD (h .berths) k fresh) ((as-tx-AwaitsFlow ((getD (h .berths) k fresh) .tx) tag) .1 .1)) (sub ! 2 {τ = tyArray B′.mir 10} {d = 8} refl (whole !)))))))) (from ! (stop !)) (init ! 24 refl (F·D .lawful 𝓤 H A W .typed ((as-tx-AwaitsFlow ((getD (h .berths) k fresh) .tx) tag) .0) _ ((EL.owed X.the-type X′.the-laws (Tx.AwaitsFlow party ((as-tx-AwaitsFlow ((getD (h .berths) k fresh) .tx) tag) .0) ((as-tx-AwaitsFlow ((getD (h .berths) k fresh) .tx) tag) .1 .0)) _ (tx-as (getD (h .berths) k fresh) (berth-is h was k within) ((as-tx-AwaitsFlow ((getD (h .berths) k fresh) .tx) tag) .1 .1))) .0) .0)) $
+                    assigns ! (of-opd ! (load ! (from ! (hop ! (look ! 12 refl) (fld ! {τ = X′.mir} {d = 24} refl (vrt ! refl (fld ! {τ = tyInt w16} {d = 20} refl (stop !)))))) (look-in ! 0 (in-variant ! 3 1 {τ = tyInt w16} {d = 20} refl refl (sub ! 2 {τ = X′.mir} {d = 24} refl (item ! (us (h .berths)) k (FB .val fresh) (us-within h was k within) (us-length h was) (us-at (h .berths) k ∙ tx-seen (getD (h .berths) k fresh) ((as-tx-AwaitsFlow ((getD (h .berths) k fresh) .tx) tag) .1 .1)) (sub ! 2 {τ = tyArray B′.mir 10} {d = 8} refl (whole !)))))))) (from ! (stop !)) (init ! 22 refl ((uint w16) .lawful 𝓤 H A W .typed ((as-tx-AwaitsFlow ((getD (h .berths) k fresh) .tx) tag) .1 .0) _ ((EL.owed X.the-type X′.the-laws (Tx.AwaitsFlow party ((as-tx-AwaitsFlow ((getD (h .berths) k fresh) .tx) tag) .0) ((as-tx-AwaitsFlow ((getD (h .berths) k fresh) .tx) tag) .1 .0)) _ (tx-as (getD (h .berths) k fresh) (berth-is h was k within) ((as-tx-AwaitsFlow ((getD (h .berths) k fresh) .tx) tag) .1 .1))) .1 .0) .0)) $
                     assigns ! (addr ! (from ! (hop ! (look ! 36 refl) (stop !)))) (from ! (stop !)) (init ! 6 refl (tt, tt)) $
                     use1 W (‵ (cellAt fullShare (T.the-row .mir) (FT .val h ∷ []) b o)) (W .laws .at-raw fullShare T′.mir b o (FT .val h)) $ lent ! tt FT h b o was (λ α3 δ3.
-                    uses W (‵ (flft (α3 ∷ []) fullShare) ∷ ‵ (MutRef (named 0) (α3 ∷ []) T.the-row .own (record { ptr = (b, o); name = δ3; now = h }) (vptr b o ∷ [])) ∷ []) (raw (C3 𝓤 H A at-mem run .pre (((α3 ∷ [], tt), (fullShare, tt), tt, ((record { ptr = (b, o); name = δ3; now = h }), (k, (((as-tx-AwaitsFlow ((getD (h .berths) k fresh) .tx) tag) .0), (((as-tx-AwaitsFlow ((getD (h .berths) k fresh) .tx) tag) .1 .0), tt)))), (vptr b o ∷ [], ((uint w64) .val k ∷ [], (F·D .val ((as-tx-AwaitsFlow ((getD (h .berths) k fresh) .tx) tag) .0) ∷ [], ((uint w16) .val ((as-tx-AwaitsFlow ((getD (h .berths) k fresh) .tx) tag) .1 .0) ∷ [], tt))))), tt))) (goes-c3 α3 δ3 h k ((as-tx-AwaitsFlow ((getD (h .berths) k fresh) .tx) tag) .0) ((as-tx-AwaitsFlow ((getD (h .berths) k fresh) .tx) tag) .1 .0) k-is ((EL.owed X.the-type X′.the-laws (Tx.AwaitsFlow ((as-tx-AwaitsFlow ((getD (h .berths) k fresh) .tx) tag) .0) ((as-tx-AwaitsFlow ((getD (h .berths) k fresh) .tx) tag) .1 .0)) _ (tx-as (getD (h .berths) k fresh) (berth-is h was k within) ((as-tx-AwaitsFlow ((getD (h .berths) k fresh) .tx) tag) .1 .1))) .0) ((EL.owed X.the-type X′.the-laws (Tx.AwaitsFlow ((as-tx-AwaitsFlow ((getD (h .berths) k fresh) .tx) tag) .0) ((as-tx-AwaitsFlow ((getD (h .berths) k fresh) .tx) tag) .1 .0)) _ (tx-as (getD (h .berths) k fresh) (berth-is h was k within) ((as-tx-AwaitsFlow ((getD (h .berths) k fresh) .tx) tag) .1 .1))) .1 .0) (within, ap (λ (y : Berth). y .tx) (at-is h k) ∙ ((as-tx-AwaitsFlow ((getD (h .berths) k fresh) .tx) tag) .1 .1))) $
+                    uses W (‵ (flft (α3 ∷ []) fullShare) ∷ ‵ (MutRef (named 0) (α3 ∷ []) T.the-row .own (record { ptr = (b, o); name = δ3; now = h }) (vptr b o ∷ [])) ∷ []) (raw (C3 𝓤 H A at-mem run .pre (((α3 ∷ [], tt), (fullShare, tt), tt, ((record { ptr = (b, o); name = δ3; now = h }), (k, (((as-tx-AwaitsFlow ((getD (h .berths) k fresh) .tx) tag) .0), (((as-tx-AwaitsFlow ((getD (h .berths) k fresh) .tx) tag) .1 .0), tt)))), (vptr b o ∷ [], ((uint w64) .val k ∷ [], (F·D .val ((as-tx-AwaitsFlow ((getD (h .berths) k fresh) .tx) tag) .0) ∷ [], ((uint w16) .val ((as-tx-AwaitsFlow ((getD (h .berths) k fresh) .tx) tag) .1 .0) ∷ [], tt))))), tt))) (goes-c3 α3 δ3 h k ((as-tx-AwaitsFlow ((getD (h .berths) k fresh) .tx) tag) .0) ((as-tx-AwaitsFlow ((getD (h .berths) k fresh) .tx) tag) .1 .0) k-is ((EL.owed X.the-type X′.the-laws (Tx.AwaitsFlow party ((as-tx-AwaitsFlow ((getD (h .berths) k fresh) .tx) tag) .0) ((as-tx-AwaitsFlow ((getD (h .berths) k fresh) .tx) tag) .1 .0)) _ (tx-as (getD (h .berths) k fresh) (berth-is h was k within) ((as-tx-AwaitsFlow ((getD (h .berths) k fresh) .tx) tag) .1 .1))) .0) ((EL.owed X.the-type X′.the-laws (Tx.AwaitsFlow party ((as-tx-AwaitsFlow ((getD (h .berths) k fresh) .tx) tag) .0) ((as-tx-AwaitsFlow ((getD (h .berths) k fresh) .tx) tag) .1 .0)) _ (tx-as (getD (h .berths) k fresh) (berth-is h was k within) ((as-tx-AwaitsFlow ((getD (h .berths) k fresh) .tx) tag) .1 .1))) .1 .0) (within, ap (λ (y : Berth). y .tx) (at-is h k) ∙ ((as-tx-AwaitsFlow ((getD (h .berths) k fresh) .tx) tag) .1 .1))) $
                     calls-at ! fm (C3 𝓤 H A at-mem run) known-c3 (((α3 ∷ [], tt), (fullShare, tt), tt, ((record { ptr = (b, o); name = δ3; now = h }), (k, (((as-tx-AwaitsFlow ((getD (h .berths) k fresh) .tx) tag) .0), (((as-tx-AwaitsFlow ((getD (h .berths) k fresh) .tx) tag) .1 .0), tt)))), (vptr b o ∷ [], ((uint w64) .val k ∷ [], (F·D .val ((as-tx-AwaitsFlow ((getD (h .berths) k fresh) .tx) tag) .0) ∷ [], ((uint w16) .val ((as-tx-AwaitsFlow ((getD (h .berths) k fresh) .tx) tag) .1 .0) ∷ [], tt))))), tt) (and-then ! (load ! (from ! (stop !)) (look ! 7 refl)) (and-then ! (load ! (from ! (stop !)) (look ! 35 refl)) (and-then ! (load ! (from ! (stop !)) (look ! 25 refl)) (and-then ! (load ! (from ! (stop !)) (look ! 23 refl)) (no-more !))))) (λ v3.
                     use1 W (later (some (λ (r· : ℕ). ((‵ (flft (α3 ∷ []) fullShare) ⊛ ‵ ftrue) ⊛ ‵ (u8 .own r· (v3 ∷ []))) ⊛ raw (ensured 𝓤 H A c3.ended (c3.clauses 𝓤 H A at-mem run) (α3 ∷ [], tt) ((record { ptr = (b, o); name = δ3; now = h }), (k, (((as-tx-AwaitsFlow ((getD (h .berths) k fresh) .tx) tag) .0), (((as-tx-AwaitsFlow ((getD (h .berths) k fresh) .tx) tag) .1 .0), tt)))) tt r·)))) (id⊢ 𝓤 _) $ await ! tt $ pick ! (λ r·.
                     split ! $ move ! (1 ∷ []) $ use1 W (some (λ (zs3 : Lasts c3.ended (α3 ∷ [], tt) ((record { ptr = (b, o); name = δ3; now = h }), (k, (((as-tx-AwaitsFlow ((getD (h .berths) k fresh) .tx) tag) .0), (((as-tx-AwaitsFlow ((getD (h .berths) k fresh) .tx) tag) .1 .0), tt))))). ‵ (lasts c3.ended (α3 ∷ [], tt) ((record { ptr = (b, o); name = δ3; now = h }), (k, (((as-tx-AwaitsFlow ((getD (h .berths) k fresh) .tx) tag) .0), (((as-tx-AwaitsFlow ((getD (h .berths) k fresh) .tx) tag) .1 .0), tt)))) zs3) ⊛ raw (fact 𝓤 (SendTicked h k r· (zs3 .0))))) (id⊢ 𝓤 _) $ pick ! (λ zs3.
@@ -218,11 +218,11 @@ module _ {M : Type 1} (𝓤 : URA M) (H : Heap 𝓤) (A : Atoms 𝓤) (W : Given
                     keep ! (0 ∷ 1 ∷ 2 ∷ []) $ by ! (exits r· (zs3 .0) (e·) r-is))))))))),
                 (
                   (λ tag.
-                      assigns ! (of-opd ! (load ! (from ! (hop ! (look ! 12 refl) (fld ! {τ = X′.mir} {d = 24} refl (vrt ! refl (fld ! {τ = D′.mir} {d = 4} refl (stop !)))))) (look-in ! 0 (in-variant ! 4 0 {τ = D′.mir} {d = 4} refl refl (sub ! 2 {τ = X′.mir} {d = 24} refl (item ! (us (h .berths)) k (FB .val fresh) (us-within h was k within) (us-length h was) (us-at (h .berths) k ∙ tx-seen (getD (h .berths) k fresh) ((as-tx-Consecutive ((getD (h .berths) k fresh) .tx) tag) .1 .1)) (sub ! 2 {τ = tyArray B′.mir 10} {d = 8} refl (whole !)))))))) (from ! (stop !)) (init ! 20 refl (F·D .lawful 𝓤 H A W .typed ((as-tx-Consecutive ((getD (h .berths) k fresh) .tx) tag) .0) _ ((EL.owed X.the-type X′.the-laws (Tx.Consecutive ((as-tx-Consecutive ((getD (h .berths) k fresh) .tx) tag) .0) ((as-tx-Consecutive ((getD (h .berths) k fresh) .tx) tag) .1 .0)) _ (tx-as (getD (h .berths) k fresh) (berth-is h was k within) ((as-tx-Consecutive ((getD (h .berths) k fresh) .tx) tag) .1 .1))) .0) .0)) $
-                      assigns ! (of-opd ! (load ! (from ! (hop ! (look ! 12 refl) (fld ! {τ = X′.mir} {d = 24} refl (vrt ! refl (fld ! {τ = tyInt w16} {d = 20} refl (stop !)))))) (look-in ! 0 (in-variant ! 4 1 {τ = tyInt w16} {d = 20} refl refl (sub ! 2 {τ = X′.mir} {d = 24} refl (item ! (us (h .berths)) k (FB .val fresh) (us-within h was k within) (us-length h was) (us-at (h .berths) k ∙ tx-seen (getD (h .berths) k fresh) ((as-tx-Consecutive ((getD (h .berths) k fresh) .tx) tag) .1 .1)) (sub ! 2 {τ = tyArray B′.mir 10} {d = 8} refl (whole !)))))))) (from ! (stop !)) (init ! 18 refl ((uint w16) .lawful 𝓤 H A W .typed ((as-tx-Consecutive ((getD (h .berths) k fresh) .tx) tag) .1 .0) _ ((EL.owed X.the-type X′.the-laws (Tx.Consecutive ((as-tx-Consecutive ((getD (h .berths) k fresh) .tx) tag) .0) ((as-tx-Consecutive ((getD (h .berths) k fresh) .tx) tag) .1 .0)) _ (tx-as (getD (h .berths) k fresh) (berth-is h was k within) ((as-tx-Consecutive ((getD (h .berths) k fresh) .tx) tag) .1 .1))) .1 .0) .0)) $
+                      assigns ! (of-opd ! (load ! (from ! (hop ! (look ! 12 refl) (fld ! {τ = X′.mir} {d = 24} refl (vrt ! refl (fld ! {τ = D′.mir} {d = 4} refl (stop !)))))) (look-in ! 0 (in-variant ! 4 0 {τ = D′.mir} {d = 4} refl refl (sub ! 2 {τ = X′.mir} {d = 24} refl (item ! (us (h .berths)) k (FB .val fresh) (us-within h was k within) (us-length h was) (us-at (h .berths) k ∙ tx-seen (getD (h .berths) k fresh) ((as-tx-Consecutive ((getD (h .berths) k fresh) .tx) tag) .1 .1)) (sub ! 2 {τ = tyArray B′.mir 10} {d = 8} refl (whole !)))))))) (from ! (stop !)) (init ! 20 refl (F·D .lawful 𝓤 H A W .typed ((as-tx-Consecutive ((getD (h .berths) k fresh) .tx) tag) .0) _ ((EL.owed X.the-type X′.the-laws (Tx.Consecutive party ((as-tx-Consecutive ((getD (h .berths) k fresh) .tx) tag) .0) ((as-tx-Consecutive ((getD (h .berths) k fresh) .tx) tag) .1 .0)) _ (tx-as (getD (h .berths) k fresh) (berth-is h was k within) ((as-tx-Consecutive ((getD (h .berths) k fresh) .tx) tag) .1 .1))) .0) .0)) $
+                      assigns ! (of-opd ! (load ! (from ! (hop ! (look ! 12 refl) (fld ! {τ = X′.mir} {d = 24} refl (vrt ! refl (fld ! {τ = tyInt w16} {d = 20} refl (stop !)))))) (look-in ! 0 (in-variant ! 4 1 {τ = tyInt w16} {d = 20} refl refl (sub ! 2 {τ = X′.mir} {d = 24} refl (item ! (us (h .berths)) k (FB .val fresh) (us-within h was k within) (us-length h was) (us-at (h .berths) k ∙ tx-seen (getD (h .berths) k fresh) ((as-tx-Consecutive ((getD (h .berths) k fresh) .tx) tag) .1 .1)) (sub ! 2 {τ = tyArray B′.mir 10} {d = 8} refl (whole !)))))))) (from ! (stop !)) (init ! 18 refl ((uint w16) .lawful 𝓤 H A W .typed ((as-tx-Consecutive ((getD (h .berths) k fresh) .tx) tag) .1 .0) _ ((EL.owed X.the-type X′.the-laws (Tx.Consecutive party ((as-tx-Consecutive ((getD (h .berths) k fresh) .tx) tag) .0) ((as-tx-Consecutive ((getD (h .berths) k fresh) .tx) tag) .1 .0)) _ (tx-as (getD (h .berths) k fresh) (berth-is h was k within) ((as-tx-Consecutive ((getD (h .berths) k fresh) .tx) tag) .1 .1))) .1 .0) .0)) $
                       assigns ! (addr ! (from ! (hop ! (look ! 36 refl) (stop !)))) (from ! (stop !)) (init ! 4 refl (tt, tt)) $
                       use1 W (‵ (cellAt fullShare (T.the-row .mir) (FT .val h ∷ []) b o)) (W .laws .at-raw fullShare T′.mir b o (FT .val h)) $ lent ! tt FT h b o was (λ α4 δ4.
-                      uses W (‵ (flft (α4 ∷ []) fullShare) ∷ ‵ (MutRef (named 0) (α4 ∷ []) T.the-row .own (record { ptr = (b, o); name = δ4; now = h }) (vptr b o ∷ [])) ∷ []) (raw (C4 𝓤 H A at-mem run .pre (((α4 ∷ [], tt), (fullShare, tt), tt, ((record { ptr = (b, o); name = δ4; now = h }), (k, (((as-tx-Consecutive ((getD (h .berths) k fresh) .tx) tag) .0), (((as-tx-Consecutive ((getD (h .berths) k fresh) .tx) tag) .1 .0), tt)))), (vptr b o ∷ [], ((uint w64) .val k ∷ [], (F·D .val ((as-tx-Consecutive ((getD (h .berths) k fresh) .tx) tag) .0) ∷ [], ((uint w16) .val ((as-tx-Consecutive ((getD (h .berths) k fresh) .tx) tag) .1 .0) ∷ [], tt))))), tt))) (goes-c4 α4 δ4 h k ((as-tx-Consecutive ((getD (h .berths) k fresh) .tx) tag) .0) ((as-tx-Consecutive ((getD (h .berths) k fresh) .tx) tag) .1 .0) k-is ((EL.owed X.the-type X′.the-laws (Tx.Consecutive ((as-tx-Consecutive ((getD (h .berths) k fresh) .tx) tag) .0) ((as-tx-Consecutive ((getD (h .berths) k fresh) .tx) tag) .1 .0)) _ (tx-as (getD (h .berths) k fresh) (berth-is h was k within) ((as-tx-Consecutive ((getD (h .berths) k fresh) .tx) tag) .1 .1))) .0) ((EL.owed X.the-type X′.the-laws (Tx.Consecutive ((as-tx-Consecutive ((getD (h .berths) k fresh) .tx) tag) .0) ((as-tx-Consecutive ((getD (h .berths) k fresh) .tx) tag) .1 .0)) _ (tx-as (getD (h .berths) k fresh) (berth-is h was k within) ((as-tx-Consecutive ((getD (h .berths) k fresh) .tx) tag) .1 .1))) .1 .0) (within, ap (λ (y : Berth). y .tx) (at-is h k) ∙ ((as-tx-Consecutive ((getD (h .berths) k fresh) .tx) tag) .1 .1))) $
+                      uses W (‵ (flft (α4 ∷ []) fullShare) ∷ ‵ (MutRef (named 0) (α4 ∷ []) T.the-row .own (record { ptr = (b, o); name = δ4; now = h }) (vptr b o ∷ [])) ∷ []) (raw (C4 𝓤 H A at-mem run .pre (((α4 ∷ [], tt), (fullShare, tt), tt, ((record { ptr = (b, o); name = δ4; now = h }), (k, (((as-tx-Consecutive ((getD (h .berths) k fresh) .tx) tag) .0), (((as-tx-Consecutive ((getD (h .berths) k fresh) .tx) tag) .1 .0), tt)))), (vptr b o ∷ [], ((uint w64) .val k ∷ [], (F·D .val ((as-tx-Consecutive ((getD (h .berths) k fresh) .tx) tag) .0) ∷ [], ((uint w16) .val ((as-tx-Consecutive ((getD (h .berths) k fresh) .tx) tag) .1 .0) ∷ [], tt))))), tt))) (goes-c4 α4 δ4 h k ((as-tx-Consecutive ((getD (h .berths) k fresh) .tx) tag) .0) ((as-tx-Consecutive ((getD (h .berths) k fresh) .tx) tag) .1 .0) k-is ((EL.owed X.the-type X′.the-laws (Tx.Consecutive party ((as-tx-Consecutive ((getD (h .berths) k fresh) .tx) tag) .0) ((as-tx-Consecutive ((getD (h .berths) k fresh) .tx) tag) .1 .0)) _ (tx-as (getD (h .berths) k fresh) (berth-is h was k within) ((as-tx-Consecutive ((getD (h .berths) k fresh) .tx) tag) .1 .1))) .0) ((EL.owed X.the-type X′.the-laws (Tx.Consecutive party ((as-tx-Consecutive ((getD (h .berths) k fresh) .tx) tag) .0) ((as-tx-Consecutive ((getD (h .berths) k fresh) .tx) tag) .1 .0)) _ (tx-as (getD (h .berths) k fresh) (berth-is h was k within) ((as-tx-Consecutive ((getD (h .berths) k fresh) .tx) tag) .1 .1))) .1 .0) (within, ap (λ (y : Berth). y .tx) (at-is h k) ∙ ((as-tx-Consecutive ((getD (h .berths) k fresh) .tx) tag) .1 .1))) $
                       calls-at ! fm (C4 𝓤 H A at-mem run) known-c4 (((α4 ∷ [], tt), (fullShare, tt), tt, ((record { ptr = (b, o); name = δ4; now = h }), (k, (((as-tx-Consecutive ((getD (h .berths) k fresh) .tx) tag) .0), (((as-tx-Consecutive ((getD (h .berths) k fresh) .tx) tag) .1 .0), tt)))), (vptr b o ∷ [], ((uint w64) .val k ∷ [], (F·D .val ((as-tx-Consecutive ((getD (h .berths) k fresh) .tx) tag) .0) ∷ [], ((uint w16) .val ((as-tx-Consecutive ((getD (h .berths) k fresh) .tx) tag) .1 .0) ∷ [], tt))))), tt) (and-then ! (load ! (from ! (stop !)) (look ! 5 refl)) (and-then ! (load ! (from ! (stop !)) (look ! 35 refl)) (and-then ! (load ! (from ! (stop !)) (look ! 21 refl)) (and-then ! (load ! (from ! (stop !)) (look ! 19 refl)) (no-more !))))) (λ v4.
                       use1 W (later (some (λ (r· : ℕ). ((‵ (flft (α4 ∷ []) fullShare) ⊛ ‵ ftrue) ⊛ ‵ (u8 .own r· (v4 ∷ []))) ⊛ raw (ensured 𝓤 H A c4.ended (c4.clauses 𝓤 H A at-mem run) (α4 ∷ [], tt) ((record { ptr = (b, o); name = δ4; now = h }), (k, (((as-tx-Consecutive ((getD (h .berths) k fresh) .tx) tag) .0), (((as-tx-Consecutive ((getD (h .berths) k fresh) .tx) tag) .1 .0), tt)))) tt r·)))) (id⊢ 𝓤 _) $ await ! tt $ pick ! (λ r·.
                       split ! $ move ! (1 ∷ []) $ use1 W (some (λ (zs4 : Lasts c4.ended (α4 ∷ [], tt) ((record { ptr = (b, o); name = δ4; now = h }), (k, (((as-tx-Consecutive ((getD (h .berths) k fresh) .tx) tag) .0), (((as-tx-Consecutive ((getD (h .berths) k fresh) .tx) tag) .1 .0), tt))))). ‵ (lasts c4.ended (α4 ∷ [], tt) ((record { ptr = (b, o); name = δ4; now = h }), (k, (((as-tx-Consecutive ((getD (h .berths) k fresh) .tx) tag) .0), (((as-tx-Consecutive ((getD (h .berths) k fresh) .tx) tag) .1 .0), tt)))) zs4) ⊛ raw (fact 𝓤 (SendTicked h k r· (zs4 .0))))) (id⊢ 𝓤 _) $ pick ! (λ zs4.
