@@ -8,3 +8,4 @@ pub mod Sides
 pub mod Line
 pub mod Free
 pub mod Changes
+pub mod Parties
