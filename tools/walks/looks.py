@@ -153,8 +153,8 @@ def in_turn(w, flag, first, second, goes_on, decides, value, decided, after, clo
 
 def order_at():
     test_rx = of_berth('rx_in_range', 'ranges', ['Settings', 'BerthSettings', 'u32', 'Rx'], lambda r, last, h, v: f'{r} ≡ rxInRange {v[0]} ({v[1]} .block) {v[2]} {v[3]}', 1)
-    test_tx = of_berth('tx_in_range', 'ranges', ['Settings', 'Tx'], lambda r, last, h, v: f"{r} ≡ txInRange {' '.join(v)}", 2)
-    w = at_berth('order_at', 19, [test_rx, test_tx], 'r ≡ sidesInOrder (h .settings) (berthAt h k)', 'use Rattle.rules.specs.Ranges.{rxInRange, txInRange}\nuse Rattle.looks.specs.Order.{sidesInOrder}\n',
+    test_tx = of_berth('tx_in_range', 'ranges', ['Settings', 'Tx'], lambda r, last, h, v: f'{r} ≡ all (txInRange {v[0]} {v[1]} ∷ partyInRange {v[1]} ∷ [])', 2)
+    w = at_berth('order_at', 19, [test_rx, test_tx], 'r ≡ sidesInOrder (h .settings) (berthAt h k)', 'use Rattle.rules.specs.Ranges.{rxInRange, txInRange, partyInRange}\nuse Rattle.looks.specs.Order.{sidesInOrder}\n',
                  'The receive side of one berth is copied out from behind the `&` and tested by the berth\'s own BS; where it is in range, the send side decides.')
     settings(w, '_3')
     own(w, 8, 9, 10, 4)
@@ -235,21 +235,21 @@ LEFT = 6   # the gap left among the fields of a Sending
 
 def gap_over(arm, found):
     """left == 0, where the send side is the fifth variant"""
-    seen = arm.item('h', 'was', 'k', 'within', f'tx-seen {BERTH} ({found} .1 .1)')
-    side, sending, left = layout.field(TYPES, 'Berth', 2), layout.variant(TYPES, 'Tx', 4, 0), layout.field(TYPES, 'Sending', LEFT)
+    seen = arm.item('h', 'was', 'k', 'within', f'tx-seen {BERTH} ({found} .1 .1 .1)')
+    side, sending, left = layout.field(TYPES, 'Berth', 2), layout.variant(TYPES, 'Tx', 4, 1), layout.field(TYPES, 'Sending', LEFT)
     there = f"(from ! (hop ! (look ! {arm.p('_6')} refl) (fld !{side} refl (vrt ! refl (fld !{sending} refl (fld !{left} refl (stop !)))))))"
-    part = f'(sub ! {LEFT}{left} refl (in-variant ! 4 0{sending} refl refl (sub ! 2{side} refl {seen})))'
-    whole = f'(Tx.Consecutive ({found} .0) ({found} .1 .0))'
-    owed = f"(EL.owed X.the-type X′.the-laws {whole} _ (tx-as {BERTH} {OF_BERTH} ({found} .1 .1)) .0)"
-    fits = f"record {{ fits = LL.owed D.the-type D′.the-laws ({found} .0) _ {owed}{' .1' * LEFT} .0 .1 }}"
+    part = f'(sub ! {LEFT}{left} refl (in-variant ! 4 1{sending} refl refl (sub ! 2{side} refl {seen})))'
+    whole = f'(Tx.Consecutive ({found} .0) ({found} .1 .0) ({found} .1 .1 .0))'
+    owed = f"(EL.owed X.the-type X′.the-laws {whole} _ (tx-as {BERTH} {OF_BERTH} ({found} .1 .1 .1)) .1 .0)"
+    fits = f"record {{ fits = LL.owed D.the-type D′.the-laws ({found} .1 .0) _ {owed}{' .1' * LEFT} .0 .1 }}"
     arm.assign(f"(of-opd ! (load ! {there} (look-in ! {arm.p('cell')} {part})))", '_3', f'(tt, {fits})')
     arm.e(f"assigns-last ! (bin ! {arm.L('_3')} (lit ! tt) tt) {inwalk.S} {arm.W('_7', '(tt, tt)')} $")
-    return f'(eqb ({found} .0 .left) 0)'
+    return f'(eqb ({found} .1 .0 .left) 0)'
 
 
 def message_at():
-    arms = [('Tx::Idle => false,', says('_7', 'false')), ('Tx::SingleDue(_, _) => true,', says('_7', 'true')), ('Tx::FirstDue(_, _) => true,', says('_7', 'true')),
-            ('Tx::AwaitsFlow(_, _) => false,', says('_7', 'false')), ('Tx::Consecutive(Sending { left: left, .. }, _) => left == 0,', gap_over)]
+    arms = [('Tx::Idle => false,', says('_7', 'false')), ('Tx::SingleDue(_, _, _) => true,', says('_7', 'true')), ('Tx::FirstDue(_, _, _) => true,', says('_7', 'true')),
+            ('Tx::AwaitsFlow(_, _, _) => false,', says('_7', 'false')), ('Tx::Consecutive(_, Sending { left: left, .. }, _) => left == 0,', gap_over)]
     return side_at('message_at', 'Tx', 2, 'messageDue', 8, (4, 5, 6), '_7', arms, 't-5')
 
 

@@ -17,6 +17,7 @@ use Rattle.rules.specs.Ranges.{inBlock, underWayInRange, sendingInRange, txInRa
 use Rattle.rules.specs.Turns.{busy}
 use Rattle.rules.specs.declared.Settings.{Settings}
 use Rattle.rules.specs.declared.Sending.{Sending}
+use Rattle.rules.specs.declared.Party.{Party}
 use Rattle.rules.specs.declared.Rx.{Rx}
 use Rattle.rules.specs.declared.Tx.{Tx}
 use Rattle.rules.proofs.Rx as R
@@ -71,11 +72,11 @@ not-busy (Tx.AwaitsFlow party o t) e = absurd (true≢false (sym e))
 not-busy (Tx.Consecutive party o t) e = absurd (true≢false (sym e))
 
 -- a sending side does not await flow control too
-pub not-both : {tx : Tx} {o p : Sending} {t u : ℕ} → tx ≡ Tx.AwaitsFlow party o t → tx ≡ Tx.Consecutive party p u → ⊥
+pub not-both : {tx : Tx} {party other : Party} {o p : Sending} {t u : ℕ} → tx ≡ Tx.AwaitsFlow party o t → tx ≡ Tx.Consecutive other p u → ⊥
 not-both e f = let z : _≡_ {A = ℕ} 3 4 = ap (tagOf X.the-type) (sym e ∙ f) in omega (arith, z)
 
 -- and its tag is the fifth
-pub not-sending : {o : Sending} {t : ℕ} (tx : Tx) → OneOf (0 ∷ 1 ∷ 2 ∷ 3 ∷ []) (tagOf X.the-type tx) → tx ≡ Tx.Consecutive party o t → ⊥
+pub not-sending : {party : Party} {o : Sending} {t : ℕ} (tx : Tx) → OneOf (0 ∷ 1 ∷ 2 ∷ 3 ∷ []) (tagOf X.the-type tx) → tx ≡ Tx.Consecutive party o t → ⊥
 not-sending tx (inl z) e = let f : tagOf X.the-type tx ≡ 4 = ap (tagOf X.the-type) e in omega (arith, z, f)
 not-sending tx (inr (inl z)) e = let f : tagOf X.the-type tx ≡ 4 = ap (tagOf X.the-type) e in omega (arith, z, f)
 not-sending tx (inr (inr (inl z))) e = let f : tagOf X.the-type tx ≡ 4 = ap (tagOf X.the-type) e in omega (arith, z, f)
@@ -100,7 +101,7 @@ none-left : (a z y d : Bool) → (z && y) ≡ false → false ≡ all (a ∷ z �
 none-left a true y d e = later a _ (later true _ (stop _ e))
 none-left a false y d e = later a _ (stop _ refl)
 
-module _ (s : Settings) (o : Sending) (t : ℕ) where
+module _ (s : Settings) (party : Party) (o : Sending) (t : ℕ) where
   abbrev pub Form : Tx → Type 0
   Form tx = (tx ≡ Tx.AwaitsFlow party o t) ⊎ (tx ≡ Tx.Consecutive party o t)
 
@@ -139,12 +140,12 @@ module _ (s : Settings) (o : Sending) (t : ℕ) where
         both tx f (more _ whole (more _ sent (more _ left (ends over)))) (more _ whole (more _ (ap (λ c. c || eqb t 0) left) (ends over)))
 
     pub flows : (r : Bool) → (eqb (o .sent) 0 && eqb (o .left) 0) ≡ false
-        → (tx ≡ Tx.AwaitsFlow party o t → r ≡ false)
-        × (tx ≡ Tx.Consecutive party o t → r ≡ all (leb (o .left) longestGap ∷ inBlock (o .block) (o .sent) ∷ (eqb (o .left) 0 || eqb t 0) ∷ []))
+        → ((whose : Party) → tx ≡ Tx.AwaitsFlow whose o t → r ≡ false)
+        × ((whose : Party) → tx ≡ Tx.Consecutive whose o t → r ≡ all (leb (o .left) longestGap ∷ inBlock (o .block) (o .sent) ∷ (eqb (o .left) 0 || eqb t 0) ∷ []))
         → r ≡ txInRange s tx
     unfolding sendingInRange
     flows r e (off, on) = go f
       where
         go : Form tx → r ≡ txInRange s tx
-        go (inl i) = off i ∙ none-left (sendingInRange s o) (eqb (o .sent) 0) (eqb (o .left) 0) (ltb t timeout) e ∙ sym (ap (txInRange s) i)
-        go (inr i) = on i ∙ asked-last (inBlock (o .block) (o .sent)) (leb (o .left) longestGap) (eqb (o .left) 0 || eqb t 0) way (le-leb _ _ gap) (lt-ltb _ _ time) ∙ sym (ap (txInRange s) i)
+        go (inl i) = off party i ∙ none-left (sendingInRange s o) (eqb (o .sent) 0) (eqb (o .left) 0) (ltb t timeout) e ∙ sym (ap (txInRange s) i)
+        go (inr i) = on party i ∙ asked-last (inBlock (o .block) (o .sent)) (leb (o .left) longestGap) (eqb (o .left) 0 || eqb t 0) way (le-leb _ _ gap) (lt-ltb _ _ time) ∙ sym (ap (txInRange s) i)

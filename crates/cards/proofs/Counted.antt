@@ -61,7 +61,7 @@ unfolding delivers oldOf answerAdds frameAdds
 when-delivered c single (FrameAnswer.Refused m) e n = clash (cc)
 when-delivered c single (FrameAnswer.Heard k old (Delivered m)) e n = refl
 when-delivered c single (FrameAnswer.Heard k old (Begun m)) e n = clash (cc)
-when-delivered c single (FrameAnswer.Heard k old (Failed m)) e n = clash (cc)
+when-delivered c single (FrameAnswer.Heard k old (Failed m party)) e n = clash (cc)
 when-delivered c single (FrameAnswer.Heard k old (Ignored m)) e n = clash (cc)
 when-delivered c single (FrameAnswer.Heard k old TooLong) e n = clash (cc)
 when-delivered c single (FrameAnswer.Heard k old Took) e n = clash (cc)

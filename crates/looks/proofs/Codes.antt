@@ -14,6 +14,7 @@ use denote.Struct.Struct.{Struct}
 use denote.Struct.Declared.{shape}
 use denote.Struct.Laws as LL
 use Rattle.rules.specs.Numbers.{berthCount}
+use Rattle.rules.specs.Parties.{scheduler}
 use Rattle.rules.specs.declared.Codes.{Codes}
 use Rattle.rules.specs.declared.TickAnswer.{TickAnswer}
 use Rattle.rules.proofs.Codes as Q
@@ -40,7 +41,7 @@ abbrev tv : S .Denot → Val
 tv = LL.tuple-val Q.the-type Q′.the-laws
 
 abbrev pub zeros : Codes
-zeros = record { receive = 0; send = 0 }
+zeros = record { receive = 0; send = 0; party = scheduler }
 
 -- the machine values of the pairs
 abbrev pub cs : List Codes → List Val
@@ -77,5 +78,5 @@ module _ (a : TickAnswer) (is : Is A.the-row a (FA .val a ∷ [])) where
       tens = subst (λ (ys : List (S .Denot)). Is (Array S 10) ys (arrayVal (map tv ys) ∷ [])) (set-map to (a .codes) k x) (is-set S tv (LL.tuple-tells Q.the-type Q′.the-laws) 10 (map to (a .codes)) (arrayVal (cs (a .codes)) ∷ []) k (to x) x-is ten)
 
 -- the index in bytes
-pub pair-fits : (k : ℕ) → k < berthCount → k * 2 < 2 ^ 64
+pub pair-fits : (k : ℕ) → k < berthCount → k * 3 < 2 ^ 64
 pair-fits k l = omega (arith, l)

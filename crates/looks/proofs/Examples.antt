@@ -5,6 +5,7 @@ use mathlib.Core.Path.{_≡_, refl, sym}
 use mathlib.Core.List.{[], _∷_}
 use lib.Dec.{T}
 use Rattle.rules.specs.Tests.{all, each}
+use Rattle.rules.specs.Parties.{scheduler}
 use Rattle.rules.specs.Nodes.{fresh, withTx}
 use Rattle.rules.specs.Ranges.{berthInOrder, inOrder}
 use Rattle.rules.specs.Turns.{due}
@@ -17,7 +18,7 @@ use Rattle.looks.specs.Bits.{bitsOf, isSet, dueBits, passedFrom, nextSet
 use Rattle.looks.proofs.DueBits.{next-is-passed}
 
 abbrev waiting : Berth
-waiting = withTx fresh (Tx.SingleDue 3 0)
+waiting = withTx fresh (Tx.SingleDue scheduler 3 0)
 
 abbrev pub threeBerths : ℕ → Berth → Berth → Berth → Node
 threeBerths served a b c = record {

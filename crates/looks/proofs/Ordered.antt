@@ -14,7 +14,7 @@ use borrow.Author.Tests.{eq-eqb, lt-ltb, le-ltb}
 use Rattle.rules.specs.Numbers.{berthCount}
 use Rattle.rules.specs.Tests.{pick, all, each}
 use Rattle.rules.specs.Nodes.{fresh}
-use Rattle.rules.specs.Ranges.{areaAllowed, rxInRange, txInRange, berthInOrder, inOrder}
+use Rattle.rules.specs.Ranges.{areaAllowed, rxInRange, txInRange, partyInRange, berthInOrder, inOrder}
 use Rattle.rules.specs.Turns.{busy}
 use Rattle.rules.specs.declared.Settings.{Settings}
 use Rattle.rules.specs.declared.Rx.{Rx}
@@ -101,11 +101,14 @@ idle-by-last : (s : Settings) (b : Berth) → idle b ≡ true → sidesInOrder s
 unfolding sidesInOrder
 idle-by-last s b e = sym (go (leb (b .last) (s .area)) refl)
   where
-    tx : true ≡ txInRange s (b .tx)
-    tx = sym (ap (txInRange s) (tx-idle b e))
+    tx : txInRange s (b .tx) ≡ true
+    tx = ap (txInRange s) (tx-idle b e)
 
-    go : (t : Bool) → leb (b .last) (s .area) ≡ t → t ≡ all (rxInRange s (b .settings .block) (b .last) (b .rx) ∷ txInRange s (b .tx) ∷ [])
-    go true h = more _ (ap (rxInRange s (b .settings .block) (b .last)) (rx-idle b e) ∙ h) (ends tx)
+    party : true ≡ partyInRange (b .tx)
+    party = sym (ap partyInRange (tx-idle b e))
+
+    go : (t : Bool) → leb (b .last) (s .area) ≡ t → t ≡ all (rxInRange s (b .settings .block) (b .last) (b .rx) ∷ txInRange s (b .tx) ∷ partyInRange (b .tx) ∷ [])
+    go true h = more _ (ap (rxInRange s (b .settings .block) (b .last)) (rx-idle b e) ∙ h) (more _ tx (ends party))
     go false h = stop _ (ap (rxInRange s (b .settings .block) (b .last)) (rx-idle b e) ∙ h)
 
 -- a berth at rest, as the test of its parts has it

@@ -8,7 +8,8 @@ use mir.Val.{Val, vint, vstruct, ofList}
 use denote.Laws.{Is}
 use denote.Builtin.{u32}
 use denote.Struct.Laws as SL
-use Rattle.rules.specs.Ranges.{rxInRange, txInRange}
+use Rattle.rules.specs.Tests.{all}
+use Rattle.rules.specs.Ranges.{rxInRange, txInRange, partyInRange}
 use Rattle.rules.specs.Turns.{flowDue, messageDue, due}
 use Rattle.rules.specs.declared.Settings.{Settings}
 use Rattle.rules.specs.declared.Berth.{Berth}
@@ -20,7 +21,7 @@ use Rattle.rules.proofs.Tx as X
 use Rattle.rules.proofs.Tx.Laws as X′
 use Rattle.rules.proofs.Berth as B
 use Rattle.rules.proofs.Berth.Laws as B′
-use Rattle.berth.proofs.Chains.{more, stop, ends}
+use Rattle.berth.proofs.Chains.{more, stop}
 use Rattle.looks.specs.Order.{sidesInOrder}
 use Rattle.looks.proofs.Lent.{Flat, struct, enum}
 use Rattle.looks.proofs.Ten.{FB}
@@ -61,10 +62,10 @@ pub side-fails : (s : Settings) (b : Berth) → rxInRange s (b .settings .block)
 unfolding sidesInOrder
 side-fails s b e = stop _ e
 
-pub side-passes : {r : Bool} (s : Settings) (b : Berth) → rxInRange s (b .settings .block) (b .last) (b .rx) ≡ true → r ≡ txInRange s (b .tx)
-    → r ≡ sidesInOrder s b
+pub side-passes : {r : Bool} (s : Settings) (b : Berth) → rxInRange s (b .settings .block) (b .last) (b .rx) ≡ true
+    → r ≡ all (txInRange s (b .tx) ∷ partyInRange (b .tx) ∷ []) → r ≡ sidesInOrder s b
 unfolding sidesInOrder
-side-passes s b e h = more _ e (ends h)
+side-passes s b e h = more _ e h
 
 pub message-due : (b : Berth) → messageDue (b .tx) ≡ true → true ≡ due b
 unfolding due

@@ -10,6 +10,7 @@ use types.Match.{live}
 use denote.Laws.{Is}
 use Rattle.rules.specs.declared.Taking.{Taking}
 use Rattle.rules.specs.declared.Sending.{Sending}
+use Rattle.rules.specs.declared.Party.{Party}
 use Rattle.rules.specs.declared.Rx.{Rx}
 use Rattle.rules.specs.declared.Tx.{Tx}
 use Rattle.rules.specs.declared.Berth.{Berth}
@@ -17,6 +18,8 @@ use Rattle.rules.proofs.Taking as K
 use Rattle.rules.proofs.Taking.Laws as K′
 use Rattle.rules.proofs.Sending as D
 use Rattle.rules.proofs.Sending.Laws as D′
+use Rattle.rules.proofs.Party as P
+use Rattle.rules.proofs.Party.Laws as P′
 use Rattle.rules.proofs.Rx as R
 use Rattle.rules.proofs.Tx as X
 use Rattle.rules.proofs.Berth as B
@@ -29,6 +32,9 @@ FK = struct K.the-type K′.the-laws K′.the-plain
 
 abbrev FD : Flat
 FD = struct D.the-type D′.the-laws D′.the-plain
+
+abbrev FP : Flat
+FP = struct P.the-type P′.the-laws P′.the-plain
 
 -- ---- the receive side
 
@@ -68,10 +74,10 @@ txTag (Tx.Consecutive party o t) = 4
 
 abbrev pub txFields : Tx → Vals
 txFields Tx.Idle = vnil
-txFields (Tx.SingleDue party n t) = vcons (vint w32 n) (vcons (vint w16 t) vnil)
-txFields (Tx.FirstDue party n t) = vcons (vint w32 n) (vcons (vint w16 t) vnil)
-txFields (Tx.AwaitsFlow party o t) = vcons (FD .val o) (vcons (vint w16 t) vnil)
-txFields (Tx.Consecutive party o t) = vcons (FD .val o) (vcons (vint w16 t) vnil)
+txFields (Tx.SingleDue party n t) = vcons (FP .val party) (vcons (vint w32 n) (vcons (vint w16 t) vnil))
+txFields (Tx.FirstDue party n t) = vcons (FP .val party) (vcons (vint w32 n) (vcons (vint w16 t) vnil))
+txFields (Tx.AwaitsFlow party o t) = vcons (FP .val party) (vcons (FD .val o) (vcons (vint w16 t) vnil))
+txFields (Tx.Consecutive party o t) = vcons (FP .val party) (vcons (FD .val o) (vcons (vint w16 t) vnil))
 
 abbrev pub txSeen : Berth → Val
 txSeen b = vstruct (ofList (FR .val (b .rx) ∷ vint w32 (b .last) ∷ live (txTag (b .tx)) (txFields (b .tx)) ∷ FO .val (b .settings) ∷ []))
@@ -119,33 +125,33 @@ as-tx-Idle (Tx.FirstDue party n t) e = absurd (omega arith)
 as-tx-Idle (Tx.AwaitsFlow party o t) e = absurd (omega arith)
 as-tx-Idle (Tx.Consecutive party o t) e = absurd (omega arith)
 
-pub as-tx-SingleDue : (tx : Tx) → txTag tx ≡ 1 → (n : ℕ) × ((t : ℕ) × (tx ≡ Tx.SingleDue party n t))
+pub as-tx-SingleDue : (tx : Tx) → txTag tx ≡ 1 → (party : Party) × ((n : ℕ) × ((t : ℕ) × (tx ≡ Tx.SingleDue party n t)))
 as-tx-SingleDue Tx.Idle e = absurd (omega arith)
-as-tx-SingleDue (Tx.SingleDue party n t) e = (n, (t, refl))
+as-tx-SingleDue (Tx.SingleDue party n t) e = (party, (n, (t, refl)))
 as-tx-SingleDue (Tx.FirstDue party n t) e = absurd (omega arith)
 as-tx-SingleDue (Tx.AwaitsFlow party o t) e = absurd (omega arith)
 as-tx-SingleDue (Tx.Consecutive party o t) e = absurd (omega arith)
 
-pub as-tx-FirstDue : (tx : Tx) → txTag tx ≡ 2 → (n : ℕ) × ((t : ℕ) × (tx ≡ Tx.FirstDue party n t))
+pub as-tx-FirstDue : (tx : Tx) → txTag tx ≡ 2 → (party : Party) × ((n : ℕ) × ((t : ℕ) × (tx ≡ Tx.FirstDue party n t)))
 as-tx-FirstDue Tx.Idle e = absurd (omega arith)
 as-tx-FirstDue (Tx.SingleDue party n t) e = absurd (omega arith)
-as-tx-FirstDue (Tx.FirstDue party n t) e = (n, (t, refl))
+as-tx-FirstDue (Tx.FirstDue party n t) e = (party, (n, (t, refl)))
 as-tx-FirstDue (Tx.AwaitsFlow party o t) e = absurd (omega arith)
 as-tx-FirstDue (Tx.Consecutive party o t) e = absurd (omega arith)
 
-pub as-tx-AwaitsFlow : (tx : Tx) → txTag tx ≡ 3 → (o : Sending) × ((t : ℕ) × (tx ≡ Tx.AwaitsFlow party o t))
+pub as-tx-AwaitsFlow : (tx : Tx) → txTag tx ≡ 3 → (party : Party) × ((o : Sending) × ((t : ℕ) × (tx ≡ Tx.AwaitsFlow party o t)))
 as-tx-AwaitsFlow Tx.Idle e = absurd (omega arith)
 as-tx-AwaitsFlow (Tx.SingleDue party n t) e = absurd (omega arith)
 as-tx-AwaitsFlow (Tx.FirstDue party n t) e = absurd (omega arith)
-as-tx-AwaitsFlow (Tx.AwaitsFlow party o t) e = (o, (t, refl))
+as-tx-AwaitsFlow (Tx.AwaitsFlow party o t) e = (party, (o, (t, refl)))
 as-tx-AwaitsFlow (Tx.Consecutive party o t) e = absurd (omega arith)
 
-pub as-tx-Consecutive : (tx : Tx) → txTag tx ≡ 4 → (o : Sending) × ((t : ℕ) × (tx ≡ Tx.Consecutive party o t))
+pub as-tx-Consecutive : (tx : Tx) → txTag tx ≡ 4 → (party : Party) × ((o : Sending) × ((t : ℕ) × (tx ≡ Tx.Consecutive party o t)))
 as-tx-Consecutive Tx.Idle e = absurd (omega arith)
 as-tx-Consecutive (Tx.SingleDue party n t) e = absurd (omega arith)
 as-tx-Consecutive (Tx.FirstDue party n t) e = absurd (omega arith)
 as-tx-Consecutive (Tx.AwaitsFlow party o t) e = absurd (omega arith)
-as-tx-Consecutive (Tx.Consecutive party o t) e = (o, (t, refl))
+as-tx-Consecutive (Tx.Consecutive party o t) e = (party, (o, (t, refl)))
 
 pub rx-seen : (b : Berth) {y : Rx} → b .rx ≡ y → FB .val b ≡ vstruct (ofList (FR .val y ∷ vint w32 (b .last) ∷ FX .val (b .tx) ∷ FO .val (b .settings) ∷ []))
 rx-seen b e = ap (λ (z : Rx). vstruct (ofList (FR .val z ∷ vint w32 (b .last) ∷ FX .val (b .tx) ∷ FO .val (b .settings) ∷ []))) e

@@ -7,7 +7,7 @@ use lib.ListN.{drop}
 use lib.Dec.{leb}
 use Rattle.rules.specs.Tests.{pick, all, each}
 use Rattle.rules.specs.Numbers.{berthCount}
-use Rattle.rules.specs.Ranges.{ownAllowed, rxInRange, txInRange, inOrder}
+use Rattle.rules.specs.Ranges.{ownAllowed, rxInRange, txInRange, partyInRange, inOrder}
 use Rattle.rules.specs.declared.Settings.{Settings}
 use Rattle.rules.specs.declared.Berth.{Berth}
 use Rattle.rules.specs.declared.Node.{Node}
@@ -19,7 +19,7 @@ abbrev pub ownInOrder : Berth → Bool
 ownInOrder b = ownAllowed (b .settings .block) (b .settings .stmin)
 
 unfoldable pub sidesInOrder : Settings → Berth → Bool
-sidesInOrder s b = all (rxInRange s (b .settings .block) (b .last) (b .rx) ∷ txInRange s (b .tx) ∷ [])
+sidesInOrder s b = all (rxInRange s (b .settings .block) (b .last) (b .rx) ∷ txInRange s (b .tx) ∷ partyInRange (b .tx) ∷ [])
 
 -- ---- idle berths
 

@@ -38,10 +38,10 @@ module _ (n : Node) (n′ : Node) where
       → left (setUpSays a) (lent n′ cards incoming outgoing) [] ≡ setUpOutcome (lent n cards incoming outgoing) area block stmin
   set-up-is area block stmin a p cards incoming outgoing = same (p cards incoming outgoing)
 
-  pub send-is : (outgoing outgoing′ : List ℕ) (k : ℕ) (m : List ℕ) (a : SendAnswer) → SendPromise n outgoing k m a n′ outgoing′
+  pub send-is : (outgoing outgoing′ : List ℕ) (k party : ℕ) (m : List ℕ) (a : SendAnswer) → SendPromise n outgoing k party m a n′ outgoing′
       → (cards : List Card) (incoming : List ℕ)
       → left (sendSays a) (lent n′ cards incoming outgoing′) [] ≡ outcome (lent n cards incoming outgoing) (send k party m)
-  send-is outgoing outgoing′ k m a p cards incoming = same (p cards incoming)
+  send-is outgoing outgoing′ k party m a p cards incoming = same (p cards incoming)
 
   pub change-is : (k parameter value : ℕ) (a : ChangeAnswer) → ChangePromise n k parameter value a n′ → (cards : List Card) (incoming outgoing : List ℕ)
       → left (changeSays a) (lent n′ cards incoming outgoing) [] ≡ outcome (lent n cards incoming outgoing) (change k parameter value)
@@ -114,13 +114,13 @@ turn-tells : (b₁ b₂ : List ℕ) (a b : TurnAnswer) → turnSays a b₁ ≡ t
 unfolding turnSays
 turn-tells b₁ b₂ (TurnAnswer.Refused m) (TurnAnswer.Refused n) e = cc
 turn-tells b₁ b₂ (TurnAnswer.Refused m) (TurnAnswer.None p) e = cc
-turn-tells b₁ b₂ (TurnAnswer.Refused m) (TurnAnswer.HandedOver i c p) e = cc
+turn-tells b₁ b₂ (TurnAnswer.Refused m) (TurnAnswer.HandedOver i c p party) e = cc
 turn-tells b₁ b₂ (TurnAnswer.None p) (TurnAnswer.Refused n) e = cc
 turn-tells b₁ b₂ (TurnAnswer.None p) (TurnAnswer.None q) e = cc
-turn-tells b₁ b₂ (TurnAnswer.None p) (TurnAnswer.HandedOver i c q) e = cc
-turn-tells b₁ b₂ (TurnAnswer.HandedOver i c p) (TurnAnswer.Refused n) e = cc
-turn-tells b₁ b₂ (TurnAnswer.HandedOver i c p) (TurnAnswer.None q) e = cc
-turn-tells b₁ b₂ (TurnAnswer.HandedOver i c p) (TurnAnswer.HandedOver j d q) e = cc
+turn-tells b₁ b₂ (TurnAnswer.None p) (TurnAnswer.HandedOver i c q party) e = cc
+turn-tells b₁ b₂ (TurnAnswer.HandedOver i c p party) (TurnAnswer.Refused n) e = cc
+turn-tells b₁ b₂ (TurnAnswer.HandedOver i c p party) (TurnAnswer.None q) e = cc
+turn-tells b₁ b₂ (TurnAnswer.HandedOver i c p party) (TurnAnswer.HandedOver j d q other) e = cc
 
 -- a tick's answer: its number and its codes; beside a refusal stand ten pairs of zeros
 abbrev Beside : ℕ → List Codes → Type 0
@@ -145,10 +145,10 @@ module _ (n : Node) (n₁ n₂ : Node) where
       let e = set-up-is n n₁ area block stmin a p [] [] [] ∙ sym (set-up-is n n₂ area block stmin b q [] [] []) in
       (set-up-tells a b (ap (λ o. o .answer) e), ap (λ o. o .held .node) e)
 
-  pub send-determined : (outgoing s₁ s₂ : List ℕ) (k : ℕ) (m : List ℕ) (a b : SendAnswer)
-      → SendPromise n outgoing k m a n₁ s₁ → SendPromise n outgoing k m b n₂ s₂ → (a ≡ b) × (n₁ ≡ n₂) × (s₁ ≡ s₂)
-  send-determined outgoing s₁ s₂ k m a b p q =
-      let e = send-is n n₁ outgoing s₁ k m a p [] [] ∙ sym (send-is n n₂ outgoing s₂ k m b q [] []) in
+  pub send-determined : (outgoing s₁ s₂ : List ℕ) (k party : ℕ) (m : List ℕ) (a b : SendAnswer)
+      → SendPromise n outgoing k party m a n₁ s₁ → SendPromise n outgoing k party m b n₂ s₂ → (a ≡ b) × (n₁ ≡ n₂) × (s₁ ≡ s₂)
+  send-determined outgoing s₁ s₂ k party m a b p q =
+      let e = send-is n n₁ outgoing s₁ k party m a p [] [] ∙ sym (send-is n n₂ outgoing s₂ k party m b q [] []) in
       (send-tells a b (ap (λ o. o .answer) e), ap (λ o. o .held .node) e, ap (λ o. o .held .outgoing) e)
 
   pub change-determined : (k parameter value : ℕ) (a b : ChangeAnswer)

@@ -44,13 +44,13 @@ module _ (n : Node) where
   tick-found cards incoming outgoing = refl
 
   -- the send side is berth k's, where there is one
-  pub send-found : (tx : Tx) (k : ℕ) (outgoing m : List ℕ) → (k < berthCount → tx ≡ berthAt n k .tx) → (cards : List Card) (incoming : List ℕ)
-      → sendRefusal (inOrder n) (n .settings .area) tx (length outgoing) k (length m) ≡ refusal (lent n cards incoming outgoing) (send k party m)
+  pub send-found : (tx : Tx) (k party : ℕ) (outgoing m : List ℕ) → (k < berthCount → tx ≡ berthAt n k .tx) → (cards : List Card) (incoming : List ℕ)
+      → sendRefusal (inOrder n) (n .settings .area) tx (length outgoing) k party (length m) ≡ refusal (lent n cards incoming outgoing) (send k party m)
   unfolding sendRefusal refusal needs rightStore firstUnmet
-  send-found tx k outgoing m side cards incoming = go (ltb-cases k berthCount)
+  send-found tx k party outgoing m side cards incoming = go (ltb-cases k berthCount)
     where
       go : Tested (ltb k berthCount) (k < berthCount) (berthCount ≤ k)
-          → sendRefusal (inOrder n) (n .settings .area) tx (length outgoing) k (length m) ≡ refusal (lent n cards incoming outgoing) (send k party m)
+          → sendRefusal (inOrder n) (n .settings .area) tx (length outgoing) k party (length m) ≡ refusal (lent n cards incoming outgoing) (send k party m)
       go (holds e l) = rw (side l)
       go (fails e l) = rw e
 
@@ -110,10 +110,10 @@ module _ (n : Node) (number : ℕ) (some : number ≡ 0 → ⊥) where
       → (a : FrameAnswer) → frameSays a ≡ refused number → FramePromise n cards incoming id d a n cards incoming
   refused-frame cards incoming id d e a says = λ outgoing. refuses (lent n cards incoming outgoing) (frame id d) number some says refl (e outgoing)
 
-  pub refused-send : (outgoing : List ℕ) (k : ℕ) (m : List ℕ)
+  pub refused-send : (outgoing : List ℕ) (k party : ℕ) (m : List ℕ)
       → ((cards : List Card) (incoming : List ℕ) → number ≡ refusal (lent n cards incoming outgoing) (send k party m))
-      → (a : SendAnswer) → sendSays a ≡ refused number → SendPromise n outgoing k m a n outgoing
-  refused-send outgoing k m e a says = λ cards incoming. refuses (lent n cards incoming outgoing) (send k party m) number some says refl (e cards incoming)
+      → (a : SendAnswer) → sendSays a ≡ refused number → SendPromise n outgoing k party m a n outgoing
+  refused-send outgoing k party m e a says = λ cards incoming. refuses (lent n cards incoming outgoing) (send k party m) number some says refl (e cards incoming)
 
   pub refused-turn : (cards : List Card) (outgoing buffer : List ℕ)
       → ((incoming : List ℕ) → number ≡ refusal (lent n cards incoming outgoing) (turn buffer))

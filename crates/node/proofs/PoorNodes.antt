@@ -30,6 +30,7 @@ use Rattle.rules.specs.declared.Sending.{Sending}
 use Rattle.rules.specs.declared.Rx.{Rx}
 use Rattle.rules.specs.declared.Tx.{Tx}
 use Rattle.rules.specs.declared.Berth.{Berth}
+use Rattle.rules.specs.declared.Party.{Party}
 use Rattle.rules.specs.declared.Node.{Node}
 use Rattle.rules.specs.declared.Card.{Card}
 use Rattle.rules.specs.declared.Word.the-variants.{Begun}
@@ -86,8 +87,8 @@ module _ (h : Held) (n : Node) (number : ℕ) where
   unfolding tickSays
   not-refusing-tick a cards e r p = replied h tick (suc number) (sym (ap (λ (o : Outcome). o .answer) (answered h tick e (p .agrees (h .incoming) (h .outgoing)))) ∙ rw r)
 
-  pub not-refusing-send : (k : ℕ) (m outgoing : List ℕ) → refusal h (send k party m) ≡ 0
-      → SendPromise (h .node) (h .outgoing) k m (SendAnswer.Refused number) n outgoing → ⊥
+  pub not-refusing-send : (k party : ℕ) (m outgoing : List ℕ) → refusal h (send k party m) ≡ 0
+      → SendPromise (h .node) (h .outgoing) k party m (SendAnswer.Refused number) n outgoing → ⊥
   unfolding sendSays
   not-refusing-send k party m outgoing e p = never (send k party m) e (p (h .cards) (h .incoming))
 
@@ -169,11 +170,11 @@ not-fixed-bytes h id x y ne e f incoming =
 
 -- A FIXED ANSWER TO A SEND, A CHANGE, A TURN, A TICK, A SET-UP; A FIXED PART: of two calls with another berth, another number passed over, one
 -- in order and one not, allowed settings and others, and a part of another length, one shuts it out
-pub not-fixed-send : (h : Held) (j k : ℕ) (m : List ℕ) → (j ≡ k → ⊥) → refusal h (send j party m) ≡ 0 → refusal h (send k party m) ≡ 0 → (a : SendAnswer)
-    → (i : ℕ) × ((n : Node) × (outgoing : List ℕ) × SendPromise (h .node) (h .outgoing) i m a n outgoing → ⊥)
+pub not-fixed-send : (h : Held) (j k party : ℕ) (m : List ℕ) → (j ≡ k → ⊥) → refusal h (send j party m) ≡ 0 → refusal h (send k party m) ≡ 0 → (a : SendAnswer)
+    → (i : ℕ) × ((n : Node) × (outgoing : List ℕ) × SendPromise (h .node) (h .outgoing) i party m a n outgoing → ⊥)
 unfolding reply
-not-fixed-send h j k m ne e f a =
-    not-both (λ i. (n : Node) × (outgoing : List ℕ) × SendPromise (h .node) (h .outgoing) i m a n outgoing) j k (named (sendSays a)) j k ne
+not-fixed-send h j k party m ne e f a =
+    not-both (λ i. (n : Node) × (outgoing : List ℕ) × SendPromise (h .node) (h .outgoing) i party m a n outgoing) j k (named (sendSays a)) j k ne
     (λ p. names h (send j party m) e (p .2 (h .cards) (h .incoming))) (λ p. names h (send k party m) f (p .2 (h .cards) (h .incoming)))
 
 pub not-fixed-change : (h : Held) (j k parameter value : ℕ) → (j ≡ k → ⊥) → refusal h (change j parameter value) ≡ 0
@@ -199,7 +200,7 @@ any-buffer : (a : TurnAnswer) (b : List ℕ) → named (turnSays a []) ≡ named
 unfolding turnSays
 any-buffer (TurnAnswer.Refused n) b = refl
 any-buffer (TurnAnswer.None passed) b = refl
-any-buffer (TurnAnswer.HandedOver id code passed) b = refl
+any-buffer (TurnAnswer.HandedOver id code passed party) b = refl
 
 pub not-fixed-turn : (g h : Held) (buffer : List ℕ) → (passedOver (g .node) ≡ passedOver (h .node) → ⊥)
     → refusal g (turn buffer) ≡ 0 → refusal h (turn buffer) ≡ 0 → (a : TurnAnswer)
@@ -320,13 +321,13 @@ module _ (h : Held) (id : ℕ) (d : List ℕ) (a : FrameAnswer) (n : Node) (card
       differ (stood-before (areaOf (h .node .settings .area) (senderOf id) (h .incoming)) _ _ (omega (arith, answered-inside h id d e)) (sym (area-after p) ∙ kept))
 
 -- so is it at every send that the paper answers, whose message differs from the bytes at the front of the area
-pub not-idle-message : (h : Held) (k : ℕ) (m : List ℕ) (a : SendAnswer) (n : Node) (outgoing : List ℕ) → refusal h (send k party m) ≡ 0
+pub not-idle-message : (h : Held) (k party : ℕ) (m : List ℕ) (a : SendAnswer) (n : Node) (outgoing : List ℕ) → refusal h (send k party m) ≡ 0
     → (take (length m) (areaOf (h .node .settings .area) k (h .outgoing)) ≡ m → ⊥)
     → areaOf (h .node .settings .area) k outgoing ≡ areaOf (h .node .settings .area) k (h .outgoing)
-    → SendPromise (h .node) (h .outgoing) k m a n outgoing → ⊥
+    → SendPromise (h .node) (h .outgoing) k party m a n outgoing → ⊥
 unfolding done
-not-idle-message h k m a n outgoing e differ kept p =
-    let ok = send-answered h k m e in
+not-idle-message h k party m a n outgoing e differ kept p =
+    let ok = send-answered h k party m e in
     let fits = ok .fits in
     let after = ap (λ (o : Outcome). areaOf (h .node .settings .area) k (o .held .outgoing)) (answered h (send k party m) e (p (h .cards) (h .incoming)))
     ∙ area-same (h .node .settings .area) k 0 m (h .outgoing) (omega arith) in
@@ -350,22 +351,22 @@ not-counting h id d p t a n cards incoming e r c f l differ =
 
 -- MADE UP: at every turn that the paper answers, every number other than the distance from the berth served last to the one that is
 -- handed a frame is shut out, and every one but ten where none is
-pub not-made-up : (h : Held) (buffer buffer′ : List ℕ) (n : Node) (cards : List Card) (k code passed : ℕ) → refusal h (turn buffer) ≡ 0
+pub not-made-up : (h : Held) (buffer buffer′ : List ℕ) (n : Node) (cards : List Card) (k code passed : ℕ) (party : Party) → refusal h (turn buffer) ≡ 0
     → (passed ≡ distance (h .node .served) k → ⊥)
-    → TurnPromise (h .node) (h .cards) (h .outgoing) buffer (TurnAnswer.HandedOver (toBerth + k) code passed) n cards buffer′ → ⊥
+    → TurnPromise (h .node) (h .cards) (h .outgoing) buffer (TurnAnswer.HandedOver (toBerth + k) code passed party) n cards buffer′ → ⊥
 unfolding reply turnSays
-not-made-up h buffer buffer′ n cards k code passed e other p = go (ltb-cases (passedOver (h .node)) berthCount) (ap (λ (o : Outcome). o .answer) (answered h (turn buffer) e (p (h .incoming))))
+not-made-up h buffer buffer′ n cards k code passed party e other p = go (ltb-cases (passedOver (h .node)) berthCount) (ap (λ (o : Outcome). o .answer) (answered h (turn buffer) e (p (h .incoming))))
   where
     go : Tested (ltb (passedOver (h .node)) berthCount) (passedOver (h .node) < berthCount) (berthCount ≤ passedOver (h .node))
-        → handed (toBerth + k) (take frameSize buffer′) code passed ≡ reply h (turn buffer) → ⊥
+        → handed (toBerth + k) (take frameSize buffer′) code passed party ≡ reply h (turn buffer) → ⊥
     go (holds t l) q =
-        let z : handed (toBerth + k) (take frameSize buffer′) code passed
-        ≡ handed (toBerth + reached (h .node)) (handedAt h (reached (h .node)) .frame) (handedAt h (reached (h .node)) .code) (passedOver (h .node)) = rw t at q in
+        let z : handed (toBerth + k) (take frameSize buffer′) code passed party
+        ≡ handed (toBerth + reached (h .node)) (handedAt h (reached (h .node)) .frame) (handedAt h (reached (h .node)) .code) (passedOver (h .node)) (handedAt h (reached (h .node)) .party) = rw t at q in
         let same-id : toBerth + k ≡ toBerth + reached (h .node) = cc in
         let same-number : passed ≡ passedOver (h .node) = cc in
         let (is-due, least) = reached-due (h .node) (in-order-range (h .node) (turn-answered h buffer e .order)) l in
         other (same-number ∙ least ∙ ap (distance (h .node .served)) (omega arith))
-    go (fails t l) q = let z : handed (toBerth + k) (take frameSize buffer′) code passed ≡ none berthCount = rw t at q in clash (cc)
+    go (fails t l) q = let z : handed (toBerth + k) (take frameSize buffer′) code passed party ≡ none berthCount = rw t at q in clash (cc)
 
 pub not-made-up-none : (h : Held) (buffer buffer′ : List ℕ) (n : Node) (cards : List Card) (passed : ℕ) → refusal h (turn buffer) ≡ 0
     → (passed ≡ berthCount → ⊥) → TurnPromise (h .node) (h .cards) (h .outgoing) buffer (TurnAnswer.None passed) n cards buffer′ → ⊥
@@ -418,7 +419,7 @@ eightBegun = 0x10 ∷ 8 ∷ 1 ∷ 2 ∷ 3 ∷ 4 ∷ 5 ∷ 6 ∷ []
 
 -- the calls below are answered; a node that no set-up has filled is out of order, and settings of 0 are not allowed
 pub answered-here : (refusal (hearing Rx.Idle 0) (frame 0x640 (0x01 ∷ 7 ∷ [])) ≡ 0) × (refusal (hearing Rx.Idle 0) (frame 0x640 (0x02 ∷ 7 ∷ 8 ∷ [])) ≡ 0)
-    × (refusal (hearing Rx.Idle 0) (send 0 (1 ∷ [])) ≡ 0) × (refusal (hearing Rx.Idle 0) (send 1 (1 ∷ [])) ≡ 0)
+    × (refusal (hearing Rx.Idle 0) (send 0 0 (1 ∷ [])) ≡ 0) × (refusal (hearing Rx.Idle 0) (send 1 0 (1 ∷ [])) ≡ 0)
     × (refusal (hearing (Rx.OwesOverflow 0) 0) (turn (replicate 8 0)) ≡ 0) × (refusal (hearing Rx.Idle 0) (turn (replicate 8 0)) ≡ 0)
     × (refusal (hearing (Rx.OwesOverflow 0) 0) tick ≡ 0) × (refusal (lent blankNode [] [] []) tick ≡ outOfOrder)
     × (setUpRefusal 8 0 0 ≡ 0) × (setUpRefusal 0 0 0 ≡ badSetting)
@@ -433,7 +434,7 @@ answered-here = (refl, refl, refl, refl, refl, refl, refl, refl, refl, refl, ref
 -- so for every fixed answer, and for every part, there is a call that shuts it out
 pub not-fixed-here :
     ((a : FrameAnswer) → (d : List ℕ) × ((n : Node) × (cards : List Card) × (incoming : List ℕ) × FramePromise (hearing Rx.Idle 0 .node) blankCards (replicate 80 0) 0x640 d a n cards incoming → ⊥))
-    × ((a : SendAnswer) → (k : ℕ) × ((n : Node) × (outgoing : List ℕ) × SendPromise (hearing Rx.Idle 0 .node) (replicate 80 0) k (1 ∷ []) a n outgoing → ⊥))
+    × ((a : SendAnswer) → (k : ℕ) × ((n : Node) × (outgoing : List ℕ) × SendPromise (hearing Rx.Idle 0 .node) (replicate 80 0) k 0 (1 ∷ []) a n outgoing → ⊥))
     × ((a : TurnAnswer) → (h : Held) × ((n : Node) × (cards : List Card) × (buffer : List ℕ) × TurnPromise (h .node) (h .cards) (h .outgoing) (replicate 8 0) a n cards buffer → ⊥))
     × ((a : TickAnswer) → (h : Held) × ((n : Node) × (cards : List Card) × TickPromise (h .node) (h .cards) a n cards → ⊥))
     × ((a : SetUpAnswer) → (s : ℕ × ℕ × ℕ) × ((n : Node) × SetUpPromise blankNode (s .0) (s .1) (s .2) a n → ⊥))
@@ -443,7 +444,7 @@ unfolding
     passedOver leastDistance due distance showing shownLength showable inOrder all each berthInOrder rightStore berthAt areaOf
 not-fixed-here = (
   not-fixed-frame (hearing Rx.Idle 0) 0x640 (answered-here .0) (answered-here .1),
-  not-fixed-send (hearing Rx.Idle 0) 0 1 (1 ∷ []) (λ z. omega arith) (answered-here .2) (answered-here .3),
+  not-fixed-send (hearing Rx.Idle 0) 0 1 0 (1 ∷ []) (λ z. omega arith) (answered-here .2) (answered-here .3),
   not-fixed-turn (hearing (Rx.OwesOverflow 0) 0) (hearing Rx.Idle 0) (replicate 8 0) (λ z. omega arith) (answered-here .4) (answered-here .5),
   not-fixed-tick (hearing (Rx.OwesOverflow 0) 0) (lent blankNode [] [] []) (answered-here .6) (answered-here .7),
   not-fixed-set-up blankNode (8, 0, 0) (0, 0, 0) (answered-here .8) (answered-here .9),
@@ -466,10 +467,10 @@ unfolding berthAt changedSettings
 not-idle-settings-here a =
     not-idle-settings (hearing Rx.Idle 0) 0 1 5 a (answered-here .13) (λ q. let z : _≡_ {A = ℕ} 5 0 = ap (λ (s : BerthSettings). s .block) q in omega arith)
 
-pub not-idle-message-here : (a : SendAnswer) (n : Node) → SendPromise (hearing Rx.Idle 0 .node) (replicate 80 0) 0 (1 ∷ []) a n (replicate 80 0) → ⊥
+pub not-idle-message-here : (a : SendAnswer) (n : Node) → SendPromise (hearing Rx.Idle 0 .node) (replicate 80 0) 0 0 (1 ∷ []) a n (replicate 80 0) → ⊥
 unfolding areaOf
 not-idle-message-here a n =
-    not-idle-message (hearing Rx.Idle 0) 0 (1 ∷ []) a n (replicate 80 0) (answered-here .2)
+    not-idle-message (hearing Rx.Idle 0) 0 0 (1 ∷ []) a n (replicate 80 0) (answered-here .2)
     (λ q. let z : _≡_ {A = ℕ} 0 1 = ap (λ (l : List ℕ). getD l 0 0) q in omega arith) refl
 
 pub not-counting-here : (a : FrameAnswer) (n : Node) (cards : List Card)
@@ -484,7 +485,7 @@ pub not-uncounted-here : (a : FrameAnswer) (n : Node) (incoming : List ℕ)
 unfolding cameAt berthAt frameCame byKind kind low heardBy shortLength announced firstFits begun firstCame cardAt frozen
 not-uncounted-here a n incoming = not-uncounted (hearing Rx.Idle 0) 0x640 eightBegun 8 a n incoming (answered-here .12) refl refl
 
-pub not-made-up-here : (n : Node) (cards : List Card) (code : ℕ) (buffer : List ℕ)
-    → TurnPromise (hearing (Rx.OwesOverflow 0) 0 .node) blankCards (replicate 80 0) (replicate 8 0) (TurnAnswer.HandedOver 0x660 code 5) n cards buffer → ⊥
+pub not-made-up-here : (n : Node) (cards : List Card) (code : ℕ) (party : Party) (buffer : List ℕ)
+    → TurnPromise (hearing (Rx.OwesOverflow 0) 0 .node) blankCards (replicate 80 0) (replicate 8 0) (TurnAnswer.HandedOver 0x660 code 5 party) n cards buffer → ⊥
 unfolding distance
-not-made-up-here n cards code buffer = not-made-up (hearing (Rx.OwesOverflow 0) 0) (replicate 8 0) buffer n cards 0 code 5 (answered-here .4) (λ z. omega arith)
+not-made-up-here n cards code party buffer = not-made-up (hearing (Rx.OwesOverflow 0) 0) (replicate 8 0) buffer n cards 0 code 5 party (answered-here .4) (λ z. omega arith)

@@ -5,7 +5,8 @@ use mathlib.Core.Bool.{Bool, not, _&&_}
 use mathlib.Core.List.{List, [], _∷_, _++_}
 use lib.Dec.{ltb, leb, eqb}
 use Rattle.rules.specs.Tests.{pick, Need, need, firstUnmet}
-use Rattle.rules.specs.Numbers.{berthCount, fromBerth, mostData, leastBuffer, outOfOrder, wrongStore, wrongIdentifier, tooManyBytes, noSuchBerth, emptyMessage, messageTooLong, alreadySending, shortBuffer, wrongCards, unknownParameter, valueOutside, alreadyReceiving}
+use Rattle.rules.specs.Numbers.{berthCount, fromBerth, mostData, leastBuffer, outOfOrder, wrongStore, wrongIdentifier, tooManyBytes, noSuchBerth, emptyMessage, messageTooLong, alreadySending, shortBuffer, wrongCards, unknownParameter, valueOutside, alreadyReceiving, noSuchParty}
+use Rattle.rules.specs.Parties.{partyAllowed}
 use Rattle.rules.specs.Turns.{busy}
 use Rattle.rules.specs.Changes.{known, valueAllowed}
 use Rattle.rules.specs.Cards.{underWay}
@@ -37,11 +38,12 @@ frameRefusal ordered area store cards id size =
 unfoldable pub tickRefusal : Bool → ℕ → ℕ
 tickRefusal ordered cards = firstUnmet (need outOfOrder ordered ∷ need wrongCards (areTen cards) ∷ [])
 
-unfoldable pub sendRefusal : Bool → ℕ → Tx → (store k length : ℕ) → ℕ
-sendRefusal ordered area tx store k length =
+unfoldable pub sendRefusal : Bool → ℕ → Tx → (store k party length : ℕ) → ℕ
+sendRefusal ordered area tx store k party length =
     firstUnmet
     (orderAndStoreNeeds ordered area store
     ++ (need noSuchBerth (ltb k berthCount)
+    ∷ need noSuchParty (partyAllowed party)
     ∷ need emptyMessage (ltb 0 length)
     ∷ need messageTooLong (leb length area)
     ∷ need alreadySending (not (busy tx))

@@ -8,6 +8,7 @@ use Rattle.rules.specs.Numbers.{berthCount}
 use Rattle.rules.specs.Tests.{pick, unless}
 use Rattle.rules.specs.Frames.{framesNeeded}
 use Rattle.rules.specs.Nodes.{Held}
+use Rattle.rules.specs.Parties.{scheduler}
 use Rattle.rules.specs.Answers.{Answer, shown, setUpSays, frameSays, tickSays, sendSays, turnSays, changeSays, paperOf}
 use Rattle.rules.specs.Events.{frame, tick, send, turn, show, change}
 use Rattle.rules.specs.Calls.{Outcome, outcome, setUpOutcome, showable, chosen}
@@ -47,9 +48,9 @@ FramePromise n cards incoming id d a n′ cards′ incoming′ =
     (outgoing : List ℕ) →
     Agrees (left (frameSays a) (lent n′ cards′ incoming′ outgoing) []) (outcome (lent n cards incoming outgoing) (frame id d))
 
--- beside a refused tick stand ten pairs of zeros
+-- beside a refused tick stand ten times zeros
 abbrev pub tenZeros : List Codes
-tenZeros = replicate berthCount (record { receive = 0; send = 0 })
+tenZeros = replicate berthCount (record { receive = 0; send = 0; party = scheduler })
 
 pub record TickPromise (n : Node) (cards : List Card) (a : TickAnswer) (n′ : Node) (cards′ : List Card) : Type 0 where
   pub agrees :
@@ -57,8 +58,8 @@ pub record TickPromise (n : Node) (cards : List Card) (a : TickAnswer) (n′ : N
       Agrees (left (tickSays a) (lent n′ cards′ incoming outgoing) []) (outcome (lent n cards incoming outgoing) tick)
   pub beside : unless (a .refused) (λ number. a .codes ≡ tenZeros) (Unit {0})
 
-abbrev pub SendPromise : Node → List ℕ → ℕ → List ℕ → SendAnswer → Node → List ℕ → Type 0
-SendPromise n outgoing k m a n′ outgoing′ =
+abbrev pub SendPromise : Node → List ℕ → (berth party : ℕ) → List ℕ → SendAnswer → Node → List ℕ → Type 0
+SendPromise n outgoing k party m a n′ outgoing′ =
     (cards : List Card) (incoming : List ℕ) →
     Agrees (left (sendSays a) (lent n′ cards incoming outgoing′) []) (outcome (lent n cards incoming outgoing) (send k party m))
 

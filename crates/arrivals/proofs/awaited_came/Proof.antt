@@ -43,12 +43,16 @@ returns-2 c = let t = c .before .before .before .before .before in
     simp (← r, fits, ← c .before .before .before .before .low .ensures .0, eq-eqb _ _ (c .before .before .before .if2 .taken), lt-leb _ _ (c .before .before .if3 .left), ← c .before .after-took .ensures)
     (c .pieced2 .ensures d (rw r at (consecutive-within (t .before .before .missing .result) d fits)))
 
+scheduler-requires : tie.Need-scheduler-requires
+scheduler-requires c κs = search needs
+
 unstored-requires : tie.Need-unstored-requires
 unstored-requires c κs = search needs
 
 returns-3 : tie.Need-returns-3
 unfolding awaitedCame wrongSn
-returns-3 c = simp (← c .before .before .before .before .before .missing .ensures, sym (c .before .before .before .before .consecutive-fits .ensures) ∙ c .before .before .before .if1 .taken, ← c .before .before .low .ensures .0, ne-eqb _ _ (c .before .if2 .left))
+returns-3 c = let t = c .before .before in
+    simp (← t .before .before .before .before .missing .ensures, sym (t .before .before .before .consecutive-fits .ensures) ∙ t .before .before .if1 .taken, ← t .before .low .ensures .0, ne-eqb _ _ (t .if2 .left), ← c .before .scheduler .ensures)
     (c .unstored .ensures _)
 
 ignored-requires : tie.Need-ignored-requires
@@ -70,6 +74,7 @@ awaited-came-spec =
     after-took-requires
     pieced-requires-2
     returns-2
+    scheduler-requires
     unstored-requires
     returns-3
     ignored-requires

@@ -119,45 +119,45 @@ module _ {M : Type 1} (𝓤 : URA M) (H : Heap 𝓤) (A : Atoms 𝓤) (W : Given
               keep ! (0 ∷ 1 ∷ []) $ by ! (exits false (sym (ap messageDue ((as-tx-Idle ((getD (h .berths) k fresh) .tx) tag))) ∙ ap (λ (y : Berth). messageDue (y .tx)) (sym (at-is h k))) refl)),
           (
             (λ tag.
-                -- Tx::SingleDue(_, _) => true,
+                -- Tx::SingleDue(_, _, _) => true,
                 assigns-last ! (of-opd ! (true-lit !)) (from ! (stop !)) (init ! 2 refl (tt, tt)) $
                 exec ! C Λ _ body.t-5 (atRet _ Post) $
                 assigns ! (of-opd ! (load ! (from ! (stop !)) (look ! 2 refl))) (from ! (stop !)) (init ! 16 refl (boolean .lawful 𝓤 H A W .typed true _ refl .0)) $
                 use1 W (‵ (cellAt q′ (T.the-row .mir) (FT .val h ∷ []) b o)) (W .laws .at-raw q′ T′.mir b o (FT .val h)) $ shut ! tt FT q′ h b o was $
                 returns ! (look ! 15 refl) $ forget ! 1 refl $ forget ! 3 refl $ forget ! 5 refl $ forget ! 7 refl $ forget ! 11 refl $ forget ! 13 refl $ forget ! 15 refl $
                 move ! (15 ∷ 16 ∷ []) $ free1 ! $ move ! (13 ∷ 14 ∷ []) $ free1 ! $ move ! (11 ∷ 12 ∷ []) $ free1 ! $ move ! (9 ∷ 10 ∷ []) $ free1 ! $ move ! (7 ∷ 8 ∷ []) $ free1 ! $ move ! (5 ∷ 6 ∷ []) $ free1 ! $ move ! (3 ∷ 4 ∷ []) $ free1 ! $ move ! (1 ∷ 2 ∷ []) $ free1 ! $ free0 ! $
-                keep ! (0 ∷ 1 ∷ []) $ by ! (exits true (sym (ap messageDue ((as-tx-SingleDue ((getD (h .berths) k fresh) .tx) tag) .1 .1)) ∙ ap (λ (y : Berth). messageDue (y .tx)) (sym (at-is h k))) refl)),
+                keep ! (0 ∷ 1 ∷ []) $ by ! (exits true (sym (ap messageDue ((as-tx-SingleDue ((getD (h .berths) k fresh) .tx) tag) .1 .1 .1)) ∙ ap (λ (y : Berth). messageDue (y .tx)) (sym (at-is h k))) refl)),
             (
               (λ tag.
-                  -- Tx::FirstDue(_, _) => true,
+                  -- Tx::FirstDue(_, _, _) => true,
                   assigns-last ! (of-opd ! (true-lit !)) (from ! (stop !)) (init ! 2 refl (tt, tt)) $
                   exec ! C Λ _ body.t-5 (atRet _ Post) $
                   assigns ! (of-opd ! (load ! (from ! (stop !)) (look ! 2 refl))) (from ! (stop !)) (init ! 16 refl (boolean .lawful 𝓤 H A W .typed true _ refl .0)) $
                   use1 W (‵ (cellAt q′ (T.the-row .mir) (FT .val h ∷ []) b o)) (W .laws .at-raw q′ T′.mir b o (FT .val h)) $ shut ! tt FT q′ h b o was $
                   returns ! (look ! 15 refl) $ forget ! 1 refl $ forget ! 3 refl $ forget ! 5 refl $ forget ! 7 refl $ forget ! 11 refl $ forget ! 13 refl $ forget ! 15 refl $
                   move ! (15 ∷ 16 ∷ []) $ free1 ! $ move ! (13 ∷ 14 ∷ []) $ free1 ! $ move ! (11 ∷ 12 ∷ []) $ free1 ! $ move ! (9 ∷ 10 ∷ []) $ free1 ! $ move ! (7 ∷ 8 ∷ []) $ free1 ! $ move ! (5 ∷ 6 ∷ []) $ free1 ! $ move ! (3 ∷ 4 ∷ []) $ free1 ! $ move ! (1 ∷ 2 ∷ []) $ free1 ! $ free0 ! $
-                  keep ! (0 ∷ 1 ∷ []) $ by ! (exits true (sym (ap messageDue ((as-tx-FirstDue ((getD (h .berths) k fresh) .tx) tag) .1 .1)) ∙ ap (λ (y : Berth). messageDue (y .tx)) (sym (at-is h k))) refl)),
+                  keep ! (0 ∷ 1 ∷ []) $ by ! (exits true (sym (ap messageDue ((as-tx-FirstDue ((getD (h .berths) k fresh) .tx) tag) .1 .1 .1)) ∙ ap (λ (y : Berth). messageDue (y .tx)) (sym (at-is h k))) refl)),
               (
                 (λ tag.
-                    -- Tx::AwaitsFlow(_, _) => false,
+                    -- Tx::AwaitsFlow(_, _, _) => false,
                     assigns-last ! (of-opd ! (false-lit !)) (from ! (stop !)) (init ! 2 refl (tt, tt)) $
                     exec ! C Λ _ body.t-5 (atRet _ Post) $
                     assigns ! (of-opd ! (load ! (from ! (stop !)) (look ! 2 refl))) (from ! (stop !)) (init ! 16 refl (boolean .lawful 𝓤 H A W .typed false _ refl .0)) $
                     use1 W (‵ (cellAt q′ (T.the-row .mir) (FT .val h ∷ []) b o)) (W .laws .at-raw q′ T′.mir b o (FT .val h)) $ shut ! tt FT q′ h b o was $
                     returns ! (look ! 15 refl) $ forget ! 1 refl $ forget ! 3 refl $ forget ! 5 refl $ forget ! 7 refl $ forget ! 11 refl $ forget ! 13 refl $ forget ! 15 refl $
                     move ! (15 ∷ 16 ∷ []) $ free1 ! $ move ! (13 ∷ 14 ∷ []) $ free1 ! $ move ! (11 ∷ 12 ∷ []) $ free1 ! $ move ! (9 ∷ 10 ∷ []) $ free1 ! $ move ! (7 ∷ 8 ∷ []) $ free1 ! $ move ! (5 ∷ 6 ∷ []) $ free1 ! $ move ! (3 ∷ 4 ∷ []) $ free1 ! $ move ! (1 ∷ 2 ∷ []) $ free1 ! $ free0 ! $
-                    keep ! (0 ∷ 1 ∷ []) $ by ! (exits false (sym (ap messageDue ((as-tx-AwaitsFlow ((getD (h .berths) k fresh) .tx) tag) .1 .1)) ∙ ap (λ (y : Berth). messageDue (y .tx)) (sym (at-is h k))) refl)),
+                    keep ! (0 ∷ 1 ∷ []) $ by ! (exits false (sym (ap messageDue ((as-tx-AwaitsFlow ((getD (h .berths) k fresh) .tx) tag) .1 .1 .1)) ∙ ap (λ (y : Berth). messageDue (y .tx)) (sym (at-is h k))) refl)),
                 (
                   (λ tag.
-                      -- Tx::Consecutive(Sending { left: left, .. }, _) => left == 0,
-                      assigns ! (of-opd ! (load ! (from ! (hop ! (look ! 4 refl) (fld ! {τ = X′.mir} {d = 24} refl (vrt ! refl (fld ! {τ = D′.mir} {d = 4} refl (fld ! {τ = tyInt w8} {d = 12} refl (stop !))))))) (look-in ! 0 (sub ! 6 {τ = tyInt w8} {d = 12} refl (in-variant ! 4 0 {τ = D′.mir} {d = 4} refl refl (sub ! 2 {τ = X′.mir} {d = 24} refl (item ! (us (h .berths)) k (FB .val fresh) (us-within h was k within) (us-length h was) (us-at (h .berths) k ∙ tx-seen (getD (h .berths) k fresh) ((as-tx-Consecutive ((getD (h .berths) k fresh) .tx) tag) .1 .1)) (sub ! 2 {τ = tyArray B′.mir 10} {d = 8} refl (whole !))))))))) (from ! (stop !)) (init ! 10 refl (tt, record { fits = LL.owed D.the-type D′.the-laws ((as-tx-Consecutive ((getD (h .berths) k fresh) .tx) tag) .0) _ (EL.owed X.the-type X′.the-laws (Tx.Consecutive ((as-tx-Consecutive ((getD (h .berths) k fresh) .tx) tag) .0) ((as-tx-Consecutive ((getD (h .berths) k fresh) .tx) tag) .1 .0)) _ (tx-as (getD (h .berths) k fresh) (berth-is h was k within) ((as-tx-Consecutive ((getD (h .berths) k fresh) .tx) tag) .1 .1)) .0) .1 .1 .1 .1 .1 .1 .0 .1 })) $
+                      -- Tx::Consecutive(_, Sending { left: left, .. }, _) => left == 0,
+                      assigns ! (of-opd ! (load ! (from ! (hop ! (look ! 4 refl) (fld ! {τ = X′.mir} {d = 24} refl (vrt ! refl (fld ! {τ = D′.mir} {d = 4} refl (fld ! {τ = tyInt w8} {d = 12} refl (stop !))))))) (look-in ! 0 (sub ! 6 {τ = tyInt w8} {d = 12} refl (in-variant ! 4 1 {τ = D′.mir} {d = 4} refl refl (sub ! 2 {τ = X′.mir} {d = 24} refl (item ! (us (h .berths)) k (FB .val fresh) (us-within h was k within) (us-length h was) (us-at (h .berths) k ∙ tx-seen (getD (h .berths) k fresh) ((as-tx-Consecutive ((getD (h .berths) k fresh) .tx) tag) .1 .1 .1)) (sub ! 2 {τ = tyArray B′.mir 10} {d = 8} refl (whole !))))))))) (from ! (stop !)) (init ! 10 refl (tt, record { fits = LL.owed D.the-type D′.the-laws ((as-tx-Consecutive ((getD (h .berths) k fresh) .tx) tag) .1 .0) _ (EL.owed X.the-type X′.the-laws (Tx.Consecutive ((as-tx-Consecutive ((getD (h .berths) k fresh) .tx) tag) .0) ((as-tx-Consecutive ((getD (h .berths) k fresh) .tx) tag) .1 .0) ((as-tx-Consecutive ((getD (h .berths) k fresh) .tx) tag) .1 .1 .0)) _ (tx-as (getD (h .berths) k fresh) (berth-is h was k within) ((as-tx-Consecutive ((getD (h .berths) k fresh) .tx) tag) .1 .1 .1)) .1 .0) .1 .1 .1 .1 .1 .1 .0 .1 })) $
                       assigns-last ! (bin ! (load ! (from ! (stop !)) (look ! 10 refl)) (lit ! tt) tt) (from ! (stop !)) (init ! 2 refl (tt, tt)) $
                       exec ! C Λ _ body.t-5 (atRet _ Post) $
-                      assigns ! (of-opd ! (load ! (from ! (stop !)) (look ! 2 refl))) (from ! (stop !)) (init ! 16 refl (boolean .lawful 𝓤 H A W .typed (eqb ((as-tx-Consecutive ((getD (h .berths) k fresh) .tx) tag) .0 .left) 0) _ refl .0)) $
+                      assigns ! (of-opd ! (load ! (from ! (stop !)) (look ! 2 refl))) (from ! (stop !)) (init ! 16 refl (boolean .lawful 𝓤 H A W .typed (eqb ((as-tx-Consecutive ((getD (h .berths) k fresh) .tx) tag) .1 .0 .left) 0) _ refl .0)) $
                       use1 W (‵ (cellAt q′ (T.the-row .mir) (FT .val h ∷ []) b o)) (W .laws .at-raw q′ T′.mir b o (FT .val h)) $ shut ! tt FT q′ h b o was $
                       returns ! (look ! 15 refl) $ forget ! 1 refl $ forget ! 3 refl $ forget ! 5 refl $ forget ! 7 refl $ forget ! 9 refl $ forget ! 11 refl $ forget ! 13 refl $ forget ! 15 refl $
                       move ! (15 ∷ 16 ∷ []) $ free1 ! $ move ! (13 ∷ 14 ∷ []) $ free1 ! $ move ! (11 ∷ 12 ∷ []) $ free1 ! $ move ! (9 ∷ 10 ∷ []) $ free1 ! $ move ! (7 ∷ 8 ∷ []) $ free1 ! $ move ! (5 ∷ 6 ∷ []) $ free1 ! $ move ! (3 ∷ 4 ∷ []) $ free1 ! $ move ! (1 ∷ 2 ∷ []) $ free1 ! $ free0 ! $
-                      keep ! (0 ∷ 1 ∷ []) $ by ! (exits (eqb ((as-tx-Consecutive ((getD (h .berths) k fresh) .tx) tag) .0 .left) 0) (sym (ap messageDue ((as-tx-Consecutive ((getD (h .berths) k fresh) .tx) tag) .1 .1)) ∙ ap (λ (y : Berth). messageDue (y .tx)) (sym (at-is h k))) refl)),
+                      keep ! (0 ∷ 1 ∷ []) $ by ! (exits (eqb ((as-tx-Consecutive ((getD (h .berths) k fresh) .tx) tag) .1 .0 .left) 0) (sym (ap messageDue ((as-tx-Consecutive ((getD (h .berths) k fresh) .tx) tag) .1 .1 .1)) ∙ ap (λ (y : Berth). messageDue (y .tx)) (sym (at-is h k))) refl)),
                   tt,
                 ),
               ),

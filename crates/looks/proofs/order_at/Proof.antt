@@ -53,6 +53,7 @@ use Rattle.rules.proofs.Cases.{is-true, is-false}
 use Rattle.looks.proofs.Lent.{uint, boolean, looked, shut, returned, had}
 use Rattle.looks.proofs.Item.{item}
 use Rattle.looks.proofs.Ten.{FT, FB, FG, us, us-at, us-length, us-within, at-is, berth-is, settings-is, bytes-fit}
+use Rattle.rules.specs.Tests.{all}
 use Rattle.rules.specs.declared.BerthSettings.{BerthSettings}
 use Rattle.rules.specs.declared.Rx.{Rx}
 use Rattle.rules.specs.declared.Tx.{Tx}
@@ -60,7 +61,7 @@ use Rattle.rules.proofs.BerthSettings as O
 use Rattle.rules.proofs.Rx as R
 use Rattle.rules.proofs.Tx as X
 use Rattle.looks.proofs.Sides.{FR, FX, FO, see-parts, rx-of, last-of, tx-of, own-of, side-fails, side-passes}
-use Rattle.rules.specs.Ranges.{rxInRange, txInRange}
+use Rattle.rules.specs.Ranges.{rxInRange, txInRange, partyInRange}
 use Rattle.looks.specs.Order.{sidesInOrder}
 use Rattle.berth.proofs.ranges.rx_in_range as c1
 use Rattle.berth.proofs.ranges.rx_in_range.Symbol as c1-def
@@ -163,7 +164,7 @@ module _ {M : Type 1} (𝓤 : URA M) (H : Heap 𝓤) (A : Atoms 𝓤) (W : Given
         use0 W (raw (C2 𝓤 H A at-mem run .pre ((tt, tt, tt, ((h .settings), (((getD (h .berths) k fresh) .tx), tt)), (FG .val (h .settings) ∷ [], (FX .val ((getD (h .berths) k fresh) .tx) ∷ [], tt))), tt))) (goes-c2 (h .settings) ((getD (h .berths) k fresh) .tx) (settings-is h was) (tx-of (getD (h .berths) k fresh) (berth-is h was k within))) $
         calls-at ! fm (C2 𝓤 H A at-mem run) known-c2 ((tt, tt, tt, ((h .settings), (((getD (h .berths) k fresh) .tx), tt)), (FG .val (h .settings) ∷ [], (FX .val ((getD (h .berths) k fresh) .tx) ∷ [], tt))), tt) (and-then ! (load ! (from ! (stop !)) (look ! 33 refl)) (and-then ! (load ! (from ! (stop !)) (look ! 25 refl)) (no-more !))) (λ v2.
         use1 W (later (some (λ (t : Bool). (‵ ftrue ⊛ ‵ (bool .own t (v2 ∷ []))) ⊛ raw (ensured 𝓤 H A c2.ended (c2.clauses 𝓤 H A at-mem run) tt ((h .settings), (((getD (h .berths) k fresh) .tx), tt)) tt t)))) (id⊢ 𝓤 _) $ await ! tt $ pick ! (λ t.
-        split ! $ move ! (1 ∷ []) $ use1 W (raw (fact 𝓤 (t ≡ txInRange (h .settings) ((getD (h .berths) k fresh) .tx)))) (exE 𝓤 _ (λ ws. snd∗ 𝓤 (sem 𝓤 H A (lasts c2.ended tt ((h .settings), (((getD (h .berths) k fresh) .tx), tt)) ws)) (fact 𝓤 (t ≡ txInRange (h .settings) ((getD (h .berths) k fresh) .tx))))) $ heard ! (t ≡ txInRange (h .settings) ((getD (h .berths) k fresh) .tx)) (λ et. split ! $ drop ! $ returned ! boolean t v2 (λ t-is.
+        split ! $ move ! (1 ∷ []) $ use1 W (raw (fact 𝓤 (t ≡ all (txInRange (h .settings) ((getD (h .berths) k fresh) .tx) ∷ partyInRange ((getD (h .berths) k fresh) .tx) ∷ [])))) (exE 𝓤 _ (λ ws. snd∗ 𝓤 (sem 𝓤 H A (lasts c2.ended tt ((h .settings), (((getD (h .berths) k fresh) .tx), tt)) ws)) (fact 𝓤 (t ≡ all (txInRange (h .settings) ((getD (h .berths) k fresh) .tx) ∷ partyInRange ((getD (h .berths) k fresh) .tx) ∷ []))))) $ heard ! (t ≡ all (txInRange (h .settings) ((getD (h .berths) k fresh) .tx) ∷ partyInRange ((getD (h .berths) k fresh) .tx) ∷ [])) (λ et. split ! $ drop ! $ returned ! boolean t v2 (λ t-is.
         land ! (from ! (stop !)) (init ! 38 refl (boolean .lawful 𝓤 H A W .typed t _ t-is .0)) $
         use1 W (‵ (cellAt q′ (T.the-row .mir) (FT .val h ∷ []) b o)) (W .laws .at-raw q′ T′.mir b o (FT .val h)) $ shut ! tt FT q′ h b o was $
         returns-within ! Post refl (look ! 37 refl) $ forget ! 1 refl $ forget ! 3 refl $ forget ! 5 refl $ forget ! 7 refl $ forget ! 9 refl $ forget ! 11 refl $ forget ! 13 refl $ forget ! 15 refl $ forget ! 17 refl $ forget ! 19 refl $ forget ! 21 refl $ forget ! 23 refl $ forget ! 25 refl $ forget ! 27 refl $ forget ! 29 refl $ forget ! 31 refl $ forget ! 33 refl $ forget ! 35 refl $ forget ! 37 refl $

@@ -27,7 +27,7 @@ enum-known-tx-4 : tie.Need-enum-known-tx-4
 enum-known-tx-4 c = search needs
 
 sending-in-range-requires : tie.Need-sending-in-range-requires
-sending-in-range-requires c κs = ⊎-elim (λ w. inl (simp (w .3, w .4, w .5))) (λ w. inr (simp (w .3, w .4, w .5))) (c .match .came)
+sending-in-range-requires c κs = ⊎-elim (λ w. (w .1 .given .0 .0, inl (simp (w .3, w .4, w .5)))) (λ w. (w .1 .given .0 .0, inr (simp (w .3, w .4, w .5)))) (c .match .came)
 
 returns : tie.Need-returns
 returns c = search needs

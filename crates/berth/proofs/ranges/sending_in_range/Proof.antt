@@ -11,10 +11,10 @@ use Rattle.berth.proofs.ranges.sending_in_range.Statement.{statement}
 use Rattle.berth.proofs.ranges.sending_in_range.Tie as tie
 
 returns : tie.Need-returns
-returns c = let s = c .before .before in no-gap _ _ _ (s .args .tx) (s .pre) (c .if1 .taken)
+returns c = let s = c .before .before in no-gap _ _ _ _ (s .args .tx) (s .pre .1) (c .if1 .taken)
 
 returns-2 : tie.Need-returns-2
-returns-2 c = let s = c .before .before .before in no-time _ _ _ (s .args .tx) (s .pre) (c .if2 .taken)
+returns-2 c = let s = c .before .before .before in no-time _ _ _ _ (s .args .tx) (s .pre .1) (c .if2 .taken)
 
 under-way-requires : tie.Need-under-way-requires
 under-way-requires c κs = search needs
@@ -36,7 +36,7 @@ returns-3 c =
     let under-way = c .before .before .before in
     let s = start (under-way .before) in
     let by = passed (under-way .before) (under-way .if3 .taken) in
-    rests (s .args .settings) (s .args .o) (s .args .t) (s .args .tx) (s .pre) (by .0) (by .1) (by .2) (c .if4 .taken)
+    rests (s .args .settings) (s .pre .0) (s .args .o) (s .args .t) (s .args .tx) (s .pre .1) (by .0) (by .1) (by .2) (c .if4 .taken)
 
 flows-in-range-requires : tie.Need-flows-in-range-requires
 flows-in-range-requires c κs = search needs
@@ -47,10 +47,10 @@ returns-4 c =
     let s = start (under-way .before) in
     let by = passed (under-way .before) (under-way .if3 .taken) in
     let last = c .flows-in-range in
-    flows (s .args .settings) (s .args .o) (s .args .t) (s .args .tx) (s .pre) (by .0) (by .1) (by .2) (last .result) (c .before .if4 .left) (last .ensures)
+    flows (s .args .settings) (s .pre .0) (s .args .o) (s .args .t) (s .args .tx) (s .pre .1) (by .0) (by .1) (by .2) (last .result) (c .before .if4 .left) (last .ensures)
 
 returns-5 : tie.Need-returns-5
-returns-5 c = let s = start (c .before) in no-way _ _ _ (s .args .tx) (s .pre) (sym (c .before .under-way .ensures) ∙ c .if3 .left)
+returns-5 c = let s = start (c .before) in no-way _ _ _ _ (s .args .tx) (s .pre .1) (sym (c .before .under-way .ensures) ∙ c .if3 .left)
 
 pub sending-in-range-spec : {M : Type 1} → statement M
 sending-in-range-spec =
