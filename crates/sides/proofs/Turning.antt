@@ -10,9 +10,10 @@ use lib.Seq.{take-at}
 use lib.Dec.{lit<}
 use borrow.Author.Tests.{lt-ltb}
 use Rattle.rules.specs.Numbers.{berthCount, toBerth, leastArea, largestArea, frameSize, leastBuffer}
+use Rattle.rules.specs.Parties.{scheduler}
 use Rattle.rules.specs.Nodes.{berthAt, withRx, withTx}
 use Rattle.rules.specs.Ranges.{TxRange}
-use Rattle.rules.specs.Turns.{flowDue, messageDue, due, flowFrame, afterFlow, messageFrame, messageCode, afterMessage, HandedOver, handOver}
+use Rattle.rules.specs.Turns.{flowDue, messageDue, due, flowFrame, afterFlow, messageFrame, messageCode, messageParty, afterMessage, HandedOver, handOver}
 use Rattle.rules.specs.Stores.{areaOf, servedNode, passedOver, reached, handedAt}
 use Rattle.rules.specs.Cards.{addedAt, turnAdds}
 use Rattle.rules.specs.Answers.{turnSays}
@@ -22,6 +23,7 @@ use Rattle.rules.specs.declared.Settings.{Settings}
 use Rattle.rules.specs.declared.BerthSettings.{BerthSettings}
 use Rattle.rules.specs.declared.Rx.{Rx}
 use Rattle.rules.specs.declared.Tx.{Tx}
+use Rattle.rules.specs.declared.Party.{Party}
 use Rattle.rules.specs.declared.Node.{Node}
 use Rattle.rules.specs.declared.Card.{Card}
 use Rattle.rules.specs.declared.TurnAnswer.{TurnAnswer}
@@ -67,7 +69,7 @@ module _ {n : Node} {cards : List Card} {s : Settings} {at passed : ℕ} {outgoi
 
   -- what the berth hands over, with the frame at the front of the buffer
   hands : (h : HandedOver) → handOver (berthAt n at) (areaOf (s .area) at outgoing) ≡ h → length (h .frame) ≡ frameSize
-      → (a : TurnAnswer) → a ≡ TurnAnswer.HandedOver (toBerth + at) (h .code) passed
+      → (a : TurnAnswer) → a ≡ TurnAnswer.HandedOver (toBerth + at) (h .code) passed (h .party)
       → TurnPromise n cards outgoing buffer a (servedNode n at (h .berth)) (addedAt cards at (turnAdds (h .code))) (h .frame ++ drop frameSize buffer)
   unfolding turnSays afterTurn done reply written handedAt
   hands h said eight a is =
@@ -78,13 +80,13 @@ module _ {n : Node} {cards : List Card} {s : Settings} {at passed : ℕ} {outgoi
   -- flow control, where it is owed
   module _ (own : BerthSettings) (rx : Rx) (owed : flowDue rx ≡ true) (its : own ≡ berthAt n at .settings) (side : rx ≡ berthAt n at .rx) where
     pub flow-hands : (rx′ : Rx) → rx′ ≡ afterFlow rx → (frame : List ℕ) → frame ≡ flowFrame own rx → length frame ≡ frameSize
-        → (a : TurnAnswer) → a ≡ TurnAnswer.HandedOver (toBerth + at) 0 passed
+        → (a : TurnAnswer) → a ≡ TurnAnswer.HandedOver (toBerth + at) 0 passed scheduler
         → TurnPromise n cards outgoing buffer a (servedNode n at (withRx (berthAt n at) rx′ (berthAt n at .last))) cards (frame ++ drop frameSize buffer)
     unfolding handOver
     flow-hands rx′ after frame laid eight a is =
         let b = berthAt n at in
         rw (no-code-adds cards at) at
-        (hands (record { berth = withRx b rx′ (b .last); frame = frame; code = 0 }) (rw (rw side at owed, after, laid, side, its)) eight a is)
+        (hands (record { berth = withRx b rx′ (b .last); frame = frame; code = 0; party = scheduler }) (rw (rw side at owed, after, laid, side, its)) eight a is)
 
   -- a frame of the message, where no flow control is owed
   module _ (tx : Tx) (none : flowDue (berthAt n at .rx) ≡ false) (side : tx ≡ berthAt n at .tx) where
@@ -95,10 +97,10 @@ module _ {n : Node} {cards : List Card} {s : Settings} {at passed : ℕ} {outgoi
     pub message-range : TxRange s tx
     message-range = rw side (ready .range)
 
-    pub message-hands : (tx′ : Tx) → tx′ ≡ afterMessage tx → (code : ℕ) → code ≡ messageCode tx
+    pub message-hands : (tx′ : Tx) → tx′ ≡ afterMessage tx → (code : ℕ) → code ≡ messageCode tx → (party : Party) → party ≡ messageParty tx
         → (frame : List ℕ) → frame ≡ messageFrame tx (areaOf (s .area) at outgoing) → length frame ≡ frameSize
-        → (a : TurnAnswer) → a ≡ TurnAnswer.HandedOver (toBerth + at) code passed
+        → (a : TurnAnswer) → a ≡ TurnAnswer.HandedOver (toBerth + at) code passed party
         → TurnPromise n cards outgoing buffer a (servedNode n at (withTx (berthAt n at) tx′)) (addedAt cards at (turnAdds code)) (frame ++ drop frameSize buffer)
     unfolding handOver
-    message-hands tx′ after code is frame laid eight =
-        hands (record { berth = withTx (berthAt n at) tx′; frame = frame; code = code }) (rw (none, after, is, laid, side)) eight
+    message-hands tx′ after code is party whose frame laid eight =
+        hands (record { berth = withTx (berthAt n at) tx′; frame = frame; code = code; party = party }) (rw (none, after, whose, is, laid, side)) eight

@@ -44,8 +44,8 @@ pub record Hearing (n : Node) (cards : List Card) (id : ℕ) (s : Settings) (own
 
 -- ---- a send that is not refused
 
-pub record Sends (n : Node) (area at : ℕ) (outgoing m : List ℕ) : Type 0 where
-  pub may : (cards : List Card) (incoming : List ℕ) → refusal (lent n cards incoming outgoing) (send at m) ≡ 0
+pub record Sends (n : Node) (area at party : ℕ) (outgoing m : List ℕ) : Type 0 where
+  pub may : (cards : List Card) (incoming : List ℕ) → refusal (lent n cards incoming outgoing) (send at party m) ≡ 0
   pub size : area ≡ n .settings .area
 
 -- ---- a turn that is not refused, at the berth that is passed to

@@ -130,7 +130,8 @@ pub fn sent(area: u32, at: usize, party: u32, outgoing: &mut [u8], message: &[u8
     let lo = area_start(at, area);
     let hi = lo + area as usize;
     bytes::copy(message, &mut outgoing[lo..hi]);
-    let begun = berth::turns::begins_with(message.len() as u32, Party(party as u8));
+    let whose = party as u8;
+    let begun = berth::turns::begins_with(message.len() as u32, Party(whose));
     SentAt {
         tx: begun,
         answer: SendAnswer::Sent(at as u8),

@@ -24,17 +24,20 @@ flow-frame-requires c κs = (c .before .before .pre .0, simp length-take (omega 
 after-flow-requires : tie.Need-after-flow-requires
 after-flow-requires c κs = search needs
 
+scheduler-requires : tie.Need-scheduler-requires
+scheduler-requires c κs = search needs
+
 handed-over-requires : tie.Need-handed-over-requires
-handed-over-requires c κs = met (c .before .before .before .before .before .before) .mine
+handed-over-requires c κs = met (c .before .before .before .before .before .before .before) .mine
 
 same-length : tie.Need-same-length
 same-length c = search needs
 
 returns : tie.Need-returns
-returns c = let laid = c .before .before .before .before in
+returns c = let laid = c .before .before .before .before .before in
     let s = laid .before .before .before in
     let eight : length (laid .flow-frame .last .1 .1 .0) ≡ frameSize = laid .flow-frame .kept .1 .1 .0 ∙ simp length-take (omega (arith, met s .room)) in
-    λ n cards settings outgoing its side t. flow-hands t (s .args .own) (s .args .rx) (s .pre .0) its side (c .before .after-flow .result) (c .before .after-flow .ensures) _ (laid .flow-frame .ensures) eight (c .handed-over .result) (c .handed-over .ensures)
+    λ n cards settings outgoing its side t. flow-hands t (s .args .own) (s .args .rx) (s .pre .0) its side (c .before .before .after-flow .result) (c .before .before .after-flow .ensures) _ (laid .flow-frame .ensures) eight (c .handed-over .result) (rw (c .before .scheduler .ensures) at (c .handed-over .ensures))
 
 pub flow-handed-spec : {M : Type 1} → statement M
 flow-handed-spec =
@@ -44,6 +47,7 @@ flow-handed-spec =
     slice-aggregate-flow-frame
     flow-frame-requires
     after-flow-requires
+    scheduler-requires
     handed-over-requires
     same-length
     returns)

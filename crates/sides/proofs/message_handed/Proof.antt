@@ -1,12 +1,13 @@
 -- A berth that is due and owes no flow control has a message's frame due, which goes to the front of the buffer.
 use Prim.Native.Nat.{_+_, _-_, _*_}
 use native.Mathlib.Omega.{arith}
-use mathlib.Core.Path.{_≡_, _∙_}
+use mathlib.Core.Path.{_≡_, ap, _∙_}
 use lib.ListN.{length, length-take, length-drop}
 use denote.Ref.{now}
 use Rattle.rules.specs.Numbers.{frameSize}
 use Rattle.rules.specs.Ranges.{TxRange}
 use Rattle.rules.specs.Stores.{areaOf}
+use Rattle.berth.specs.declared.turns.Report.{Report}
 use Rattle.sides.proofs.Turning.{Ready, ready, message-due, message-range, message-hands}
 use borrow.Author.Needs.{needs}
 use Rattle.sides.proofs.message_handed.Statement.{statement}
@@ -60,25 +61,26 @@ message-frame-requires c κs = let s = start c in
 after-message-requires : tie.Need-after-message-requires
 after-message-requires c κs = range (start (c .before .before .before))
 
-message-code-requires : tie.Need-message-code-requires
-message-code-requires c κs = range (start (c .before .before .before .before))
+message-report-requires : tie.Need-message-report-requires
+message-report-requires c κs = range (start (c .before .before .before .before))
 
 handed-over-requires : tie.Need-handed-over-requires
-handed-over-requires c κs = met (start (c .before .before .before .before .before)) .mine
+handed-over-requires c κs = met (start (c .before .before .before .before .before .before)) .mine
 
 same-length : tie.Need-same-length
 same-length c = search needs
 
 returns : tie.Need-returns
 unfolding areaOf
-returns c = let laid = c .before .before .before .before .before in
+returns c = let laid = c .before .before .before .before .before .before in
+    let report = c .before .before .message-report in
     let s = start (laid .before) in
     let a = s .args in
     let lo = a .at * a .settings .area in
     let part : lo + a .settings .area - lo ≡ a .settings .area = omega arith in
     let eight : length (laid .message-frame .last .1 .1 .1 .0) ≡ frameSize = laid .message-frame .kept .1 .1 .1 .0 ∙ simp length-take (omega (arith, met s .room)) in
     let frame = rw (laid .before .before .before .before .area-start .ensures .0, part) at (laid .message-frame .ensures) in
-    λ n cards none side t. message-hands t (a .tx) none side (c .before .before .after-message .result) (c .before .before .after-message .ensures) (c .before .message-code .result) (c .before .message-code .ensures) _ frame eight (c .handed-over .result) (c .handed-over .ensures)
+    λ n cards none side t. message-hands t (a .tx) none side (c .before .before .before .after-message .result) (c .before .before .before .after-message .ensures) _ (ap (λ (r : Report). r .code) (report .ensures)) _ (ap (λ (r : Report). r .party) (report .ensures)) _ frame eight (c .handed-over .result) (c .handed-over .ensures)
 
 pub message-handed-spec : {M : Type 1} → statement M
 message-handed-spec =
@@ -94,7 +96,7 @@ message-handed-spec =
     slice-aggregate-message-frame
     message-frame-requires
     after-message-requires
-    message-code-requires
+    message-report-requires
     handed-over-requires
     same-length
     returns)

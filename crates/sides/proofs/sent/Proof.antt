@@ -10,7 +10,7 @@ use borrow.Author.Needs.{needs}
 use Rattle.sides.proofs.sent.Statement.{statement}
 use Rattle.sides.proofs.sent.Tie as tie
 
-met : (c : tie.After-area-start) → let a = c .before .before .before .args in Sendable (a .area) (a .at) (now (a .outgoing)) (now (a .message))
+met : (c : tie.After-area-start) → let a = c .before .before .before .args in Sendable (a .area) (a .at) (a .party) (now (a .outgoing)) (now (a .message))
 met c = sendable (c .before .before .before .pre .1)
 
 area-start-requires : tie.Need-area-start-requires
@@ -32,14 +32,17 @@ copy-requires : tie.Need-copy-requires
 copy-requires c κs = let m = met (c .before) in
     simp (length-take, length-drop) (omega (arith, c .before .area-start .ensures, m .fits, m .store))
 
+cast-whose : tie.Need-cast-whose
+cast-whose c = omega (arith, met (c .before .before .before .before) .allowed)
+
 cast-begins-with : tie.Need-cast-begins-with
 cast-begins-with c = let m = met (c .before .before .before .before) in omega (arith, m .fits, m .most)
 
 begins-with-requires : tie.Need-begins-with-requires
 begins-with-requires c κs = search needs
 
-cast-t14 : tie.Need-cast-t14
-cast-t14 c = omega (arith, met (c .before .before .before .before .before) .mine)
+cast-t17 : tie.Need-cast-t17
+cast-t17 c = omega (arith, met (c .before .before .before .before .before) .mine)
 
 same-length : tie.Need-same-length
 same-length c = search needs
@@ -62,8 +65,9 @@ sent-spec =
     part-copy-start
     part-copy-end
     copy-requires
+    cast-whose
     cast-begins-with
     begins-with-requires
-    cast-t14
+    cast-t17
     same-length
     returns)
