@@ -7,8 +7,8 @@ BERTH = '(getD (h .berths) k fresh)'
 TICK_USES = '''use Rattle.rules.specs.Ticks.{closer, txTicked}
 use Rattle.rules.specs.declared.Sending.{Sending}
 use Rattle.looks.proofs.Variants.{see-rx, rx-seen, rx-as, as-rx-Idle, as-rx-OwesOverflow, as-rx-OwesGo, as-rx-Awaits, see-tx, tx-seen, tx-as, as-tx-Idle, as-tx-SingleDue, as-tx-FirstDue, as-tx-AwaitsFlow, as-tx-Consecutive}
-use Rattle.berths.specs.Ticks.{ReceiveTicked, SendTicked}
-use Rattle.berths.proofs.OneTick.{received, receives-nothing, sends, sends-nothing, gap-code, gap-falls, gap-over, some-left, runs-on, runs-out, next-fits, both}
+use Rattle.berths.specs.Ticks.{ReceiveTicked, SendTicked, goesOn}
+use Rattle.berths.proofs.OneTick.{received, receives-nothing, goes-on, ends-by, sends, sends-nothing, gap-code, gap-falls, gap-over, some-left, runs-on, runs-out, next-fits, both}
 '''
 EACH_USES = '''use mathlib.Core.List.{map}
 use Rattle.rules.specs.Ticks.{codesOf, ticked}
@@ -34,6 +34,10 @@ def found(kind, variant, count):
 
 
 LAW = {'Rx': ('ReceiveTicked', 'received', 'receives-nothing'), 'Tx': ('SendTicked', 'sends', 'sends-nothing')}
+# what a state answers: a receive side a number, a send side its code and its party
+ENDED = {'Rx': 'u8', 'Tx': 'SendEnd'}
+GOES_ON = Callee('berths', 'ticks::goes_on', None, [], 'SendEnd', lambda r, z, zs, h, vs: f'{r} ≡ goesOn')
+ENDS_WITH = Callee('berths', 'ticks::ends_with', None, ['u8', 'Party'], 'SendEnd', lambda r, z, zs, h, vs: f'{r} ≡ record {{ code = {vs[0]}; party = {vs[1]} }}')
 
 
 def side_is(kind):
@@ -44,17 +48,25 @@ def state(fn, kind, variant, fields):
     """One state of a side as a callee: the side of berth k is in it."""
     def asks(ps):
         return f'({ps[0]} < berthCount) × (berthAt h {ps[0]} .{kind.lower()} ≡ {kind}.{variant} {" ".join(ps[1:])})'
-    return Callee('berths', f'ticks::{fn}', 'mut', ['usize'] + fields, 'u8', lambda r, z, zs, h, vs: f'{LAW[kind][0]} {h} {vs[0]} {r} {z}', asks=asks)
+    return Callee('berths', f'ticks::{fn}', 'mut', ['usize'] + fields, ENDED[kind], lambda r, z, zs, h, vs: f'{LAW[kind][0]} {h} {vs[0]} {r} {z}', asks=asks)
+
+
+GOES = ('call', GOES_ON, 'r·', 'e·', 'r-is', None, None)
+ENDS = ('call', ENDS_WITH, 'r·', 'e·', 'r-is', None, None)
 
 
 def timed(kind, variant, before, code):
-    """A state whose timer runs: it goes on, or the side ends with a code."""
+    """A state whose timer runs: it goes on, or the side ends with a code, a send side with its party too."""
     on = f'(λ u. {kind}.{variant} {before} u)'
+    calls = ([], []) if kind == 'Rx' else ([GOES], [ENDS])
+    side = f'({kind}.{variant} {before} t)'
+    by = ('{}', '{}') if kind == 'Rx' else (f'(e· ∙ goes-on {side} {{}})', f'(e· ∙ ends-by {side} {{}} refl)')
 
-    def proof(how, test):
-        return f'{LAW[kind][1]} h k {side_is(kind)} ({how} t (λ u. 0) {code} {test}) ({how} t {on} {kind}.Idle {test})'
-    return [('if', ('less', 'over'), [('fits', 'next-fits t less'), ('make', kind, variant), ('return', proof('runs-on', 'less'))], None),
-            ('make', kind, 'Idle'), ('return', proof('runs-out', 'over'))]
+    def proof(how, test, by):
+        said = f'({how} t (λ u. 0) {code} {test})'
+        return f'{LAW[kind][1]} h k {side_is(kind)} {by.format(said)} ({how} t {on} {kind}.Idle {test})'
+    return [('if', ('less', 'over'), [('fits', 'next-fits t less'), ('make', kind, variant), *calls[0], ('return', proof('runs-on', 'less', by[0]))], None),
+            ('make', kind, 'Idle'), *calls[1], ('return', proof('runs-out', 'over', by[1]))]
 
 
 CLOSER = Callee('berths', 'ticks::closer', None, ['Sending'], 'Sending', lambda r, z, zs, h, vs: f'{r} ≡ closer {vs[0]}', asks=lambda ps: f'0 < {ps[0]} .left')
@@ -62,22 +74,23 @@ CLOSER = Callee('berths', 'ticks::closer', None, ['Sending'], 'Sending', lambda 
 
 def consecutive():
     same = side_is('Tx')
-    falls = '(subst (λ (y : Sending). txTicked (Tx.Consecutive o· t) ≡ Tx.Consecutive y t) (sym qe) (gap-falls o· t waits))'
-    gap = ('if', ('waits', 'free'), [('call', CLOSER, 'q·', 'qe', 'q-is', '(some-left (o· .left) waits)', None), ('make', 'Tx', 'Consecutive'),
-                                    ('return', f'sends h k {same} (gap-code o· t waits) {falls}')], None)
+    side = '(Tx.Consecutive party o· t)'
+    falls = f'(subst (λ (y : Sending). txTicked {side} ≡ Tx.Consecutive party y t) (sym qe) (gap-falls party o· t waits))'
+    gap = ('if', ('waits', 'free'), [('call', CLOSER, 'q·', 'qe', 'q-is', '(some-left (o· .left) waits)', None), ('make', 'Tx', 'Consecutive'), GOES,
+                                    ('return', f'sends h k {same} (e· ∙ goes-on {side} (gap-code party o· t waits)) {falls}')], None)
 
-    def proof(how, test):
-        over = f'(gap-over o· t free ({how} t (λ u. 0) 2 {test}) ({how} t (λ u. Tx.Consecutive o· u) Tx.Idle {test}))'
-        return f'sends h k {same} ({over} .0) ({over} .1)'
-    return [gap, ('if', ('less', 'over'), [('fits', 'next-fits t less'), ('make', 'Tx', 'Consecutive'), ('return', proof('runs-on', 'less'))], None),
-            ('make', 'Tx', 'Idle'), ('return', proof('runs-out', 'over'))]
+    def proof(how, test, by):
+        over = f'(gap-over party o· t free ({how} t (λ u. 0) 2 {test}) ({how} t (λ u. Tx.Consecutive party o· u) Tx.Idle {test}))'
+        return f'sends h k {same} {by.format(f"({over} .0)")} ({over} .1)'
+    return [gap, ('if', ('less', 'over'), [('fits', 'next-fits t less'), ('make', 'Tx', 'Consecutive'), GOES, ('return', proof('runs-on', 'less', f'(e· ∙ goes-on {side} {{}})'))], None),
+            ('make', 'Tx', 'Idle'), ENDS, ('return', proof('runs-out', 'over', f'(e· ∙ ends-by {side} {{}} refl)'))]
 
 
 # function, variant, the fields before the timer with their kinds, the code
 STATES = {
     'Rx': [('owes_overflow', 'OwesOverflow', [], 1), ('owes_go', 'OwesGo', [('p·', 'Taking')], 2), ('awaits', 'Awaits', [('p·', 'Taking')], 4)],
-    'Tx': [('single_due', 'SingleDue', [('n·', 'u32')], 2), ('first_due', 'FirstDue', [('n·', 'u32')], 2), ('awaits_flow', 'AwaitsFlow', [('o·', 'Sending')], 3),
-           ('consecutive', 'Consecutive', [('o·', 'Sending')], 2)],
+    'Tx': [('single_due', 'SingleDue', [('party', 'Party'), ('n·', 'u32')], 2), ('first_due', 'FirstDue', [('party', 'Party'), ('n·', 'u32')], 2),
+           ('awaits_flow', 'AwaitsFlow', [('party', 'Party'), ('o·', 'Sending')], 3), ('consecutive', 'Consecutive', [('party', 'Party'), ('o·', 'Sending')], 2)],
 }
 
 
@@ -87,7 +100,8 @@ def callees(kind):
 
 def side(kind, states):
     """The match on a side: nothing where it is idle, else the function of its state."""
-    arms = [[('return', f'{LAW[kind][2]} h k {found(kind, "Idle", 0)[1]}')]]
+    idle = found(kind, 'Idle', 0)[1]
+    arms = [[('return', f'receives-nothing h k {idle}')] if kind == 'Rx' else [GOES, ('return', f'sends-nothing h k e· {idle}')]]
     for (_, variant, fields, _), c in zip(STATES[kind], states):
         there = f'(within, ap (λ (y : Berth). y .{kind.lower()}) (at-is h k) ∙ {found(kind, variant, len(fields) + 1)[1]})'
         arms.append([('call', c, 'r·', 'e·', 'r-is', there, None), ('return', 'e·')])
@@ -95,17 +109,17 @@ def side(kind, states):
 
 
 RECEIVE = Callee('berths', 'ticks::receive', 'mut', ['usize'], 'u8', lambda r, z, zs, h, vs: f'ReceiveTicked {h} {vs[0]} {r} {z}', asks=lambda ps: f'{ps[0]} < berthCount')
-SEND = Callee('berths', 'ticks::send', 'mut', ['usize'], 'u8', lambda r, z, zs, h, vs: f'SendTicked {h} {vs[0]} {r} {z}', asks=lambda ps: f'{ps[0]} < berthCount')
-ENDS = Callee('berths', 'ticks::both_ends', None, ['u8', 'u8'], 'Ends', lambda r, z, zs, h, vs: f'{r} ≡ record {{ receive = {vs[0]}; send = {vs[1]} }}')
+SEND = Callee('berths', 'ticks::send', 'mut', ['usize'], 'SendEnd', lambda r, z, zs, h, vs: f'SendTicked {h} {vs[0]} {r} {z}', asks=lambda ps: f'{ps[0]} < berthCount')
+BOTH_ENDS = Callee('berths', 'ticks::both_ends', None, ['u8', 'SendEnd'], 'Ends', lambda r, z, zs, h, vs: f'{r} ≡ record {{ receive = {vs[0]}; send = {vs[1]} }}')
 ANY = Callee('berths', 'ticks::any', None, ['Ends'], 'bool', lambda r, z, zs, h, vs: f'{r} ≡ anyEnd {vs[0]}')
 CODES = Callee('berths', 'ticks::codes', None, ['Ends'], 'Codes', lambda r, z, zs, h, vs: f'{r} ≡ endCodes {vs[0]}')
-ADDS = Callee('berths', 'ticks::adds', None, ['Ends'], 'Adds', lambda r, z, zs, h, vs: f'{r} ≡ endAdds ({vs[0]} .receive) ({vs[0]} .send)')
+ADDS = Callee('berths', 'ticks::adds', None, ['Ends'], 'Adds', lambda r, z, zs, h, vs: f'{r} ≡ endAdds ({vs[0]} .receive) ({vs[0]} .send .code)')
 
 
 def at():
     done = '(both h (zs1 .0) (zs2 .0) k r₁ r₂ (subst (λ m. k < m) (sym (ten-length h was)) within) e₁ e₂)'
     return [('call', RECEIVE, 'r₁', 'e₁', 'r₁-is', 'within', None), ('call', SEND, 'r₂', 'e₂', 'r₂-is', 'within', None),
-            ('call', ENDS, 'r', 'e', 'is', None, None), ('return', f'(e ∙ {done} .0, {done} .1)')]
+            ('call', BOTH_ENDS, 'r', 'e', 'is', None, None), ('return', f'(e ∙ {done} .0, {done} .1)')]
 
 
 AT = Callee('berths', 'ticks::at', 'mut', ['usize'], 'Ends',
@@ -147,12 +161,13 @@ def walks(walk):
             params = k + fields + [('t', 'u16')]
             plan = consecutive() if fn == 'consecutive' else timed(kind, variant, ' '.join(p for p, _ in fields), code)
             asks = f'(k < berthCount) × (berthAt h k .{kind.lower()} ≡ {kind}.{variant} {" ".join(p for p, _ in params[1:])})'
-            yield walk(f'ticks::{fn}', params, 'u8', said, plan, callees=[CLOSER] if fn == 'consecutive' else [], requires=asks, uses=TICK_USES,
+            made = [] if kind == 'Rx' else [GOES_ON, ENDS_WITH]
+            yield walk(f'ticks::{fn}', params, ENDED[kind], said, plan, callees=([CLOSER] if fn == 'consecutive' else []) + made, requires=asks, uses=TICK_USES,
                        inside={'_2': '(within .0)'}, doc='The timer runs on, or the side ends.')
         states = callees(kind)
-        yield walk(f'ticks::{name}', k, 'u8', said, side(kind, states), callees=states, requires='k < berthCount', uses=TICK_USES,
+        yield walk(f'ticks::{name}', k, ENDED[kind], said, side(kind, states), callees=states + ([] if kind == 'Rx' else [GOES_ON]), requires='k < berthCount', uses=TICK_USES,
                    inside={'_2': 'within'}, doc='A match behind the reference, and the function of the state.')
-    yield walk('ticks::at', k, 'Ends', '(r ≡ endsOf (berthAt h k)) × (h′ ≡ withBerth h k (ticked (berthAt h k)))', at(), callees=[RECEIVE, SEND, ENDS],
+    yield walk('ticks::at', k, 'Ends', '(r ≡ endsOf (berthAt h k)) × (h′ ≡ withBerth h k (ticked (berthAt h k)))', at(), callees=[RECEIVE, SEND, BOTH_ENDS],
                requires='k < berthCount', uses=TICK_USES + 'use Rattle.rules.specs.Ticks.{ticked}\nuse Rattle.rules.specs.Nodes.{withBerth}\nuse Rattle.berths.specs.Ticks.{endsOf}\n',
                doc='One side, then the other.')
     yield walk('ticks::each', [('cards', '&mut [Card]'), ('start', 'usize')], 'TickAnswer',

@@ -11,8 +11,9 @@ use lib.Seq.{take-all}
 use lib.Dec.{eqb, ltb}
 use Rattle.rules.specs.Tests.{pick}
 use Rattle.rules.specs.Numbers.{timeout, N-TIMEOUT-A, N-TIMEOUT-Cr}
+use Rattle.rules.specs.Parties.{reporting}
 use Rattle.rules.specs.Nodes.{fresh, berthAt}
-use Rattle.rules.specs.Ticks.{ran, rxCode, txCode, codesOf}
+use Rattle.rules.specs.Ticks.{ran, rxCode, txCode, txParty, codesOf}
 use Rattle.rules.specs.Cards.{zeroCard, cardAt, added, addedAt, nothing, underWay, tickAdds, tickedCards}
 use Rattle.rules.specs.declared.Rx.{Rx}
 use Rattle.rules.specs.declared.Berth.{Berth}
@@ -26,7 +27,7 @@ use Rattle.berth.specs.Idle.{idle}
 use Rattle.looks.proofs.Bodies.{none}
 use Rattle.looks.proofs.Ordered.{rx-idle, tx-idle}
 use Rattle.looks.proofs.Codes.{zeros}
-use Rattle.berths.specs.Ticks.{rxEnd, overflowEnd, endsOf, anyEnd, endCodes}
+use Rattle.berths.specs.Ticks.{rxEnd, overflowEnd, goesOn, endsOf, anyEnd, endCodes}
 use Rattle.berths.specs.declared.ticks.Ends.{Ends}
 
 -- what a tick adds to the card of a berth
@@ -53,7 +54,7 @@ end-code (Rx.Awaits p t) = other (ltb (t + 1) timeout) N-TIMEOUT-Cr refl
 
 pub end-codes : (b : Berth) → endCodes (endsOf b) ≡ codesOf b
 unfolding endCodes codesOf
-end-codes b = ap (λ (c : ℕ). record { receive = c; send = txCode (b .tx) }) (end-code (b .rx))
+end-codes b = ap (λ (c : ℕ). record { receive = c; send = txCode (b .tx); party = txParty (b .tx) }) (end-code (b .rx))
 
 end-add : (rx : Rx) (s : ℕ) → endAdds (rxEnd rx) s ≡ tickAdds (underWay rx) (rxCode rx) s
 unfolding ran endAdds tickAdds
@@ -66,13 +67,13 @@ end-add (Rx.OwesOverflow t) s = over (ltb (t + 1) timeout)
 end-add (Rx.OwesGo p t) s = refl
 end-add (Rx.Awaits p t) s = refl
 
-pub end-adds : (b : Berth) → endAdds (endsOf b .receive) (endsOf b .send) ≡ tickOf b
+pub end-adds : (b : Berth) → endAdds (endsOf b .receive) (endsOf b .send .code) ≡ tickOf b
 end-adds b = end-add (b .rx) (txCode (b .tx))
 
 -- ---- where neither side ended
 
-quiet-ends : (b : Berth) → anyEnd (endsOf b) ≡ false → endsOf b ≡ record { receive = 0; send = 0 }
-unfolding anyEnd
+quiet-ends : (b : Berth) → anyEnd (endsOf b) ≡ false → endsOf b ≡ record { receive = 0; send = goesOn }
+unfolding anyEnd reporting
 quiet-ends b e = let n = or-neither (not (eqb (rxEnd (b .rx)) 0)) (not (eqb (txCode (b .tx)) 0)) e in rw (none (rxEnd (b .rx)) (no-of (n .0)), none (txCode (b .tx)) (no-of (n .1)))
 
 pub quiet-codes : (b : Berth) → anyEnd (endsOf b) ≡ false → codesOf b ≡ zeros
@@ -81,7 +82,7 @@ quiet-codes b e = sym (end-codes b) ∙ ap endCodes (quiet-ends b e)
 
 pub quiet-adds : (b : Berth) → anyEnd (endsOf b) ≡ false → tickOf b ≡ nothing
 unfolding endAdds tickAdds
-quiet-adds b e = sym (end-adds b) ∙ ap (λ (y : Ends). endAdds (y .receive) (y .send)) (quiet-ends b e)
+quiet-adds b e = sym (end-adds b) ∙ ap (λ (y : Ends). endAdds (y .receive) (y .send .code)) (quiet-ends b e)
 
 -- ---- the first i cards
 

@@ -9,6 +9,7 @@ use lib.ListN.{length, getD, set, length-replicate}
 use lib.Seq.{set-getD}
 use lib.Dec.{T, ltb, nltb→le}
 use Rattle.rules.specs.Numbers.{berthCount}
+use Rattle.rules.specs.Parties.{reporting}
 use Rattle.rules.specs.Nodes.{fresh, berthAt, withRx, withTx, withBerths, withBerth}
 use Rattle.rules.specs.Ticks.{rxTicked, txTicked, ticked, codesOf}
 use Rattle.rules.specs.declared.Rx.{Rx}
@@ -45,7 +46,7 @@ idle-stays b e =
     ∙ ap (withTx b) (ap txTicked (tx-idle b e) ∙ sym (tx-idle b e))
 
 idle-codes : (b : Berth) → idle b ≡ true → codesOf b ≡ zeros
-unfolding codesOf
+unfolding codesOf reporting
 idle-codes b e = rw (rx-idle b e, tx-idle b e)
 
 -- ---- the loop
@@ -94,10 +95,10 @@ module _ (h : Node) (ten : length (h .berths) ≡ berthCount) where
         ∙ steps-answer (sym (quiet-codes found (ap anyEnd (sym ends) ∙ none)))
 
     module _ (cards : List Card) (ten-cards : length cards ≡ berthCount) where
-      pub ended-cards : {e : Ends} {a : Adds} {z : List Card} → e ≡ endsOf found → a ≡ endAdds (e .receive) (e .send)
+      pub ended-cards : {e : Ends} {a : Adds} {z : List Card} → e ≡ endsOf found → a ≡ endAdds (e .receive) (e .send .code)
           → z ≡ addedAt (cardsTo h cards i) i a → z ≡ cardsTo h cards (i + 1)
       ended-cards ends adds is = is
-          ∙ ap (addedAt (cardsTo h cards i) i) (adds ∙ ap (λ (y : Ends). endAdds (y .receive) (y .send)) ends ∙ end-adds found ∙ ap tickOf there)
+          ∙ ap (addedAt (cardsTo h cards i) i) (adds ∙ ap (λ (y : Ends). endAdds (y .receive) (y .send .code)) ends ∙ end-adds found ∙ ap tickOf there)
           ∙ steps-cards h cards i (omega (arith, within, ten)) (omega (arith, within, ten-cards))
 
       pub quiet-cards : {e : Ends} → e ≡ endsOf found → anyEnd e ≡ false → cardsTo h cards i ≡ cardsTo h cards (i + 1)

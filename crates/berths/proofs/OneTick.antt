@@ -10,14 +10,17 @@ use lib.Seq.{getD-set-same}
 use lib.Dec.{T, ltb, eqb, ltb→lt, nltb→le}
 use borrow.Author.Tests.{lt-ltb, le-ltb}
 use Rattle.rules.specs.Numbers.{timeout}
+use Rattle.rules.specs.Parties.{partyOf, reporting}
 use Rattle.rules.specs.Nodes.{fresh, berthAt, withRx, withBerth}
 use Rattle.rules.specs.Ticks.{ran, rxTicked, closer, txTicked, txCode, ticked}
 use Rattle.rules.specs.Tests.{pick}
 use Rattle.rules.specs.declared.Sending.{Sending}
+use Rattle.rules.specs.declared.Party.{Party}
 use Rattle.rules.specs.declared.Rx.{Rx}
 use Rattle.rules.specs.declared.Tx.{Tx}
 use Rattle.rules.specs.declared.Node.{Node}
-use Rattle.berths.specs.Ticks.{rxEnd, ReceiveTicked, SendTicked, endsOf}
+use Rattle.berths.specs.Ticks.{rxEnd, ReceiveTicked, goesOn, txEnd, SendTicked, endsOf}
+use Rattle.berths.specs.declared.ticks.SendEnd.{SendEnd}
 use Rattle.looks.proofs.Bodies.{not-not}
 use Rattle.rules.proofs.Cases.{is-false}
 use Rattle.looks.proofs.Item.{set-same}
@@ -40,31 +43,40 @@ pub receives-nothing : (h : Node) (k : ℕ) → getD (h .berths) k fresh .rx ≡
 unfolding berthAt withBerth
 receives-nothing h k is = (sym (ap rxEnd is), sym (ap (put-rx h k) (ap rxTicked is ∙ sym is) ∙ ap (λ bs. record { settings = h .settings; served = h .served; berths = bs }) (set-same (h .berths) k fresh)))
 
-pub sends : (h : Node) (k : ℕ) {y y′ : Tx} {c : ℕ} → getD (h .berths) k fresh .tx ≡ y → txCode y ≡ c → txTicked y ≡ y′ → SendTicked h k c (put-tx h k y′)
-unfolding berthAt withBerth
-sends h k is code after = (sym (ap txCode is ∙ code), ap (put-tx h k) (sym (ap txTicked is ∙ after)))
+-- a send side that goes on reports no party, and one that ends its own
+pub goes-on : (y : Tx) → txCode y ≡ 0 → goesOn ≡ txEnd y
+unfolding reporting
+goes-on y e = rw e
 
-pub sends-nothing : (h : Node) (k : ℕ) → getD (h .berths) k fresh .tx ≡ Tx.Idle → SendTicked h k 0 h
+pub ends-by : (y : Tx) {c : ℕ} → txCode y ≡ c → eqb c 0 ≡ false → record { code = c; party = partyOf y } ≡ txEnd y
+unfolding reporting
+ends-by y e some = rw (e, some)
+
+pub sends : (h : Node) (k : ℕ) {y y′ : Tx} {end : SendEnd} → getD (h .berths) k fresh .tx ≡ y → end ≡ txEnd y → txTicked y ≡ y′ → SendTicked h k end (put-tx h k y′)
 unfolding berthAt withBerth
-sends-nothing h k is = (sym (ap txCode is), sym (ap (put-tx h k) (ap txTicked is ∙ sym is) ∙ ap (λ bs. record { settings = h .settings; served = h .served; berths = bs }) (set-same (h .berths) k fresh)))
+sends h k is end after = (end ∙ sym (ap txEnd is), ap (put-tx h k) (sym (ap txTicked is ∙ after)))
+
+pub sends-nothing : (h : Node) (k : ℕ) {end : SendEnd} → end ≡ goesOn → getD (h .berths) k fresh .tx ≡ Tx.Idle → SendTicked h k end h
+unfolding berthAt withBerth
+sends-nothing h k end is = (end ∙ goes-on Tx.Idle refl ∙ sym (ap txEnd is), sym (ap (put-tx h k) (ap txTicked is ∙ sym is) ∙ ap (λ bs. record { settings = h .settings; served = h .served; berths = bs }) (set-same (h .berths) k fresh)))
 
 -- while the gap left is above 0 it falls; once it is 0 the timer runs
-pub gap-code : (o : Sending) (t : ℕ) → T (not (eqb (o .left) 0)) → txCode (Tx.Consecutive party o t) ≡ 0
-gap-code o t some = rw (is-false (eqb (o .left) 0) some)
+pub gap-code : (party : Party) (o : Sending) (t : ℕ) → T (not (eqb (o .left) 0)) → txCode (Tx.Consecutive party o t) ≡ 0
+gap-code party o t some = rw (is-false (eqb (o .left) 0) some)
 
-pub gap-falls : (o : Sending) (t : ℕ) → T (not (eqb (o .left) 0)) → txTicked (Tx.Consecutive party o t) ≡ Tx.Consecutive party (closer o) t
-gap-falls o t some = rw (is-false (eqb (o .left) 0) some)
+pub gap-falls : (party : Party) (o : Sending) (t : ℕ) → T (not (eqb (o .left) 0)) → txTicked (Tx.Consecutive party o t) ≡ Tx.Consecutive party (closer o) t
+gap-falls party o t some = rw (is-false (eqb (o .left) 0) some)
 
-pub gap-over : (o : Sending) (t : ℕ) {y : Tx} {c : ℕ} → T (not (not (eqb (o .left) 0)))
+pub gap-over : (party : Party) (o : Sending) (t : ℕ) {y : Tx} {c : ℕ} → T (not (not (eqb (o .left) 0)))
     → ran t (λ u. 0) 2 ≡ c → ran t (λ u. Tx.Consecutive party o u) Tx.Idle ≡ y → (txCode (Tx.Consecutive party o t) ≡ c) × (txTicked (Tx.Consecutive party o t) ≡ y)
-gap-over o t none code after = let z = not-not (eqb (o .left) 0) none in (rw z code, rw z after)
+gap-over party o t none code after = let z = not-not (eqb (o .left) 0) none in (rw z code, rw z after)
 
 pub some-left : (n : ℕ) → T (not (eqb n 0)) → 0 < n
 some-left zero some = absurd some
 some-left (suc n) some = omega arith
 
 -- both sides, one after the other
-pub both : (h h₁ h₂ : Node) (k r s : ℕ) → k < length (h .berths) → ReceiveTicked h k r h₁ → SendTicked h₁ k s h₂
+pub both : (h h₁ h₂ : Node) (k r : ℕ) (s : SendEnd) → k < length (h .berths) → ReceiveTicked h k r h₁ → SendTicked h₁ k s h₂
     → (record { receive = r; send = s } ≡ endsOf (berthAt h k)) × (h₂ ≡ withBerth h k (ticked (berthAt h k)))
 unfolding berthAt withBerth ticked
 both h h₁ h₂ k r s within e f =

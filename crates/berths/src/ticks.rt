@@ -13,7 +13,7 @@ ghost use Rattle.rules.specs.Ticks.{closer, ticked, codesOf};
 ghost use Rattle.rules.specs.Cards.{tickedCards};
 ghost use Rattle.cards.specs.Counting.{endAdds};
 ghost use lib.ListN.{length};
-ghost use Rattle.berths.specs.Ticks.{ReceiveTicked, SendTicked, anyEnd, endCodes, endsOf};
+ghost use Rattle.berths.specs.Ticks.{ReceiveTicked, SendTicked, goesOn, anyEnd, endCodes, endsOf};
 ghost use Rattle.berths.specs.declared.ticks.Ends.{Ends};
 use rules::Adds;
 use rules::Card;
@@ -108,7 +108,7 @@ fn ends_with(code: u8, party: Party) -> SendEnd
     }
 }
 
-fn single_due(node: &mut Node, k: usize, n: u32, t: u16, party: Party) -> SendEnd
+fn single_due(node: &mut Node, k: usize, party: Party, n: u32, t: u16) -> SendEnd
     requires { ⌜ (k < berthCount) × (berthAt (now node) k .tx ≡ Tx.SingleDue party n t) ⌝ }
     ensures { λ r. ⌜ SendTicked (now (node .entry)) k r (now (node .exit)) ⌝ }
 {
@@ -120,7 +120,7 @@ fn single_due(node: &mut Node, k: usize, n: u32, t: u16, party: Party) -> SendEn
     ends_with(rules::N_TIMEOUT_A, party)
 }
 
-fn first_due(node: &mut Node, k: usize, n: u32, t: u16, party: Party) -> SendEnd
+fn first_due(node: &mut Node, k: usize, party: Party, n: u32, t: u16) -> SendEnd
     requires { ⌜ (k < berthCount) × (berthAt (now node) k .tx ≡ Tx.FirstDue party n t) ⌝ }
     ensures { λ r. ⌜ SendTicked (now (node .entry)) k r (now (node .exit)) ⌝ }
 {
@@ -132,7 +132,7 @@ fn first_due(node: &mut Node, k: usize, n: u32, t: u16, party: Party) -> SendEnd
     ends_with(rules::N_TIMEOUT_A, party)
 }
 
-fn awaits_flow(node: &mut Node, k: usize, o: Sending, t: u16, party: Party) -> SendEnd
+fn awaits_flow(node: &mut Node, k: usize, party: Party, o: Sending, t: u16) -> SendEnd
     requires { ⌜ (k < berthCount) × (berthAt (now node) k .tx ≡ Tx.AwaitsFlow party o t) ⌝ }
     ensures { λ r. ⌜ SendTicked (now (node .entry)) k r (now (node .exit)) ⌝ }
 {
@@ -155,7 +155,7 @@ fn closer(o: Sending) -> Sending
 }
 
 // While the gap left is above 0 it falls, and the timer stays.
-fn consecutive(node: &mut Node, k: usize, o: Sending, t: u16, party: Party) -> SendEnd
+fn consecutive(node: &mut Node, k: usize, party: Party, o: Sending, t: u16) -> SendEnd
     requires { ⌜ (k < berthCount) × (berthAt (now node) k .tx ≡ Tx.Consecutive party o t) ⌝ }
     ensures { λ r. ⌜ SendTicked (now (node .entry)) k r (now (node .exit)) ⌝ }
 {
@@ -177,10 +177,10 @@ fn send(node: &mut Node, k: usize) -> SendEnd
 {
     match node.berths[k].tx {
         Tx::Idle => return goes_on(),
-        Tx::SingleDue(party, n, t) => return single_due(&mut *node, k, n, t, party),
-        Tx::FirstDue(party, n, t) => return first_due(&mut *node, k, n, t, party),
-        Tx::AwaitsFlow(party, o, t) => return awaits_flow(&mut *node, k, o, t, party),
-        Tx::Consecutive(party, o, t) => return consecutive(&mut *node, k, o, t, party),
+        Tx::SingleDue(party, n, t) => return single_due(&mut *node, k, party, n, t),
+        Tx::FirstDue(party, n, t) => return first_due(&mut *node, k, party, n, t),
+        Tx::AwaitsFlow(party, o, t) => return awaits_flow(&mut *node, k, party, o, t),
+        Tx::Consecutive(party, o, t) => return consecutive(&mut *node, k, party, o, t),
     }
 }
 
@@ -210,13 +210,13 @@ fn any(ends: Ends) -> bool
 fn codes(ends: Ends) -> Codes
     ensures { λ r. ⌜ r ≡ endCodes ends ⌝ }
 {
+    let send = ends.send;
+    let party = send.party;
     let receive = if ends.receive == OVERFLOW {
         rules::N_TIMEOUT_A
     } else {
         ends.receive
     };
-    let send = ends.send;
-    let party = send.party;
     Codes {
         receive: receive,
         send: send.code,

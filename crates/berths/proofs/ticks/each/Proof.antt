@@ -271,7 +271,7 @@ module _ {M : Type 1} (𝓤 : URA M) (H : Heap 𝓤) (A : Atoms 𝓤) (W : Given
           use0 W (raw (C5 𝓤 H A at-mem run .pre ((tt, tt, tt, (c·, tt), (F·Ed .val c· ∷ [], tt)), tt))) (goes-c5 c· c-is) $
           calls-at ! fm (C5 𝓤 H A at-mem run) known-c5 ((tt, tt, tt, (c·, tt), (F·Ed .val c· ∷ [], tt)), tt) (and-then ! (load ! (from ! (stop !)) (look ! 26 refl)) (no-more !)) (λ v4.
           use1 W (later (some (λ (a· : Adds). ((‵ ftrue) ⊛ ‵ ((F·Ad .row) .own a· (v4 ∷ []))) ⊛ raw (ensured 𝓤 H A c5.ended (c5.clauses 𝓤 H A at-mem run) tt (c·, tt) tt a·)))) (id⊢ 𝓤 _) $ await ! tt $ pick ! (λ a·.
-          split ! $ move ! (1 ∷ []) $ use1 W (raw (fact 𝓤 (a· ≡ endAdds (c· .receive) (c· .send)))) (exE 𝓤 _ (λ ws. snd∗ 𝓤 (sem 𝓤 H A (lasts c5.ended tt (c·, tt) ws)) (fact 𝓤 (a· ≡ endAdds (c· .receive) (c· .send))))) $ heard ! (a· ≡ endAdds (c· .receive) (c· .send)) (λ ea. split ! $ move ! (1 ∷ []) $ returned ! F·Ad a· v4 (λ a-is.
+          split ! $ move ! (1 ∷ []) $ use1 W (raw (fact 𝓤 (a· ≡ endAdds (c· .receive) (c· .send .code)))) (exE 𝓤 _ (λ ws. snd∗ 𝓤 (sem 𝓤 H A (lasts c5.ended tt (c·, tt) ws)) (fact 𝓤 (a· ≡ endAdds (c· .receive) (c· .send .code))))) $ heard ! (a· ≡ endAdds (c· .receive) (c· .send .code)) (λ ea. split ! $ move ! (1 ∷ []) $ returned ! F·Ad a· v4 (λ a-is.
           land ! (from ! (stop !)) (init ! 10 refl (F·Ad .lawful 𝓤 H A W .typed a· _ a-is .0)) $
           drop ! $
           lft-new ! tt (λ ν5.
@@ -298,7 +298,7 @@ module _ {M : Type 1} (𝓤 : URA M) (H : Heap 𝓤) (A : Atoms 𝓤) (W : Given
           drop ! $
           assigns ! (bin ! (load ! (from ! (stop !)) (look ! 29 refl)) (lit ! tt) (record { fits = pair-fits (i .0) (ltb→lt (i .0) 10 less) })) (from ! (stop !)) (init ! 7 refl (tt, record { fits = pair-fits (i .0) (ltb→lt (i .0) 10 less) })) $
           assigns ! (addr ! (from ! (fld ! {τ = tyArray Q′.mir 10} {d = 1} refl (stop !)))) (from ! (stop !)) (init ! 5 refl (tt, tt)) $
-          assigns ! (bin ! (load ! (from ! (stop !)) (look ! 5 refl)) (load ! (from ! (stop !)) (look ! 7 refl)) tt) (from ! (stop !)) (init ! 3 refl (tt, tt)) $ rewrite ! 3 (λ (m : ℕ). ‵ (fat fullShare tyPtr l₁₈ 0 (vptr l₄ m))) (sym (place-is 2 (0 + 1) (i .0))) refl $
+          assigns ! (bin ! (load ! (from ! (stop !)) (look ! 5 refl)) (load ! (from ! (stop !)) (look ! 7 refl)) tt) (from ! (stop !)) (init ! 3 refl (tt, tt)) $ rewrite ! 3 (λ (m : ℕ). ‵ (fat fullShare tyPtr l₁₈ 0 (vptr l₄ m))) (sym (place-is 3 (0 + 1) (i .0))) refl $
           assigns-last ! (of-opd ! (load ! (from ! (stop !)) (look ! 9 refl))) (from ! (hop ! (look ! 3 refl) (stop !))) (store-in ! 31 (item ! (cs ((codesTo h (i .0)) .codes)) (i .0) (F·Q .val zeros) (cs-within (codesTo h (i .0)) (i .3) (i .0) (ltb→lt (i .0) 10 less)) (cs-length (codesTo h (i .0)) (i .3)) (cs-at ((codesTo h (i .0)) .codes) (i .0)) (sub ! 1 {τ = tyArray Q′.mir 10} {d = 1} refl (whole !))) (F·Q .lawful 𝓤 H A W .typed q· _ q-is .0)) $
           rewrite ! 31 (λ (ws : List Val). ‵ (fat fullShare A1′.mir l₄ 0 (answerWith (codesTo h (i .0)) ws))) (cs-set ((codesTo h (i .0)) .codes) (i .0) q·) refl $
           exec ! C Λ (env-of body.locals (l₀ ∷ l₁ ∷ l₂ ∷ l₃ ∷ l₄ ∷ l₅ ∷ l₆ ∷ l₇ ∷ l₈ ∷ l₉ ∷ l₁₀ ∷ l₁₁ ∷ l₁₂ ∷ l₁₃ ∷ l₁₄ ∷ l₁₅ ∷ l₁₆ ∷ l₁₇ ∷ l₁₈ ∷ [])) (rest-of (rest-of (rest-of (rest-of (rest-of (rest-of (body.turn-1))))))) (anyQ (Turned i)) $
