@@ -22,7 +22,8 @@ class Side:
         self.name, self.state = name, numbers[0]
         self.idle = self.state == 0
         gap_left = numbers[7] if name == "send" and self.state == CONSECUTIVE else 0
-        self.end = 0 if self.idle else gap_left + TIMER_END - numbers[-1]  # the tick that ends it
+        timer = 0 if self.idle else numbers[-2 if name == "send" else -1]  # behind that of a send side stands its party
+        self.end = 0 if self.idle else gap_left + TIMER_END - timer  # the tick that ends it
 
     def reports(self):
         """What it reports while only the clock goes on: (tick, code), once."""

@@ -71,7 +71,7 @@ class Round:
         begins = DUE[self.due(berth)[0]]
         frame = rf"({begins}\w{{{16 - len(begins)}}})"  # the buffer holds it too, and nothing else is written there
         self.served = berth
-        line = rf"frame {TO_BERTH_0 + berth:04X} {frame} passed {passed} code [01] buffer \1(EE)*"
+        line = rf"frame {TO_BERTH_0 + berth:04X} {frame} passed {passed} code (0|1 party {berth}:[01]) buffer \1(EE)*"
         return "" if re.fullmatch(line, answer) else f"berth {berth} is the first with a frame due, {passed} passed over: {begins}.."
 
     def note(self, passed):

@@ -11,8 +11,9 @@
 #define X_COUNT(id, programs, side, states, sentence) id,
 #define AS_ID(id, programs, side, states, sentence) id,
 enum outcome {
-    NODE_OUTCOMES(AS_ID) CHANGE_OUTCOMES(AS_ID) FAULTS(AS_OUTCOME_OF_FAULT) RECEIVE_OUTCOMES(AS_ID)
-    SEND_OUTCOMES(AS_ID) BERTH_OUTCOMES(AS_ID) COUNTS(AS_OUTCOME_OF_COUNT)
+    NODE_OUTCOMES(AS_ID) CHANGE_OUTCOMES(AS_ID) PARTY_OUTCOMES(AS_ID) FAULTS(AS_OUTCOME_OF_FAULT)
+    RECEIVE_OUTCOMES(AS_ID) SEND_OUTCOMES(AS_ID) PARTY_SEND_OUTCOMES(AS_ID) BERTH_OUTCOMES(AS_ID)
+    PARTY_BERTH_OUTCOMES(AS_ID) COUNTS(AS_OUTCOME_OF_COUNT)
     OUTCOME_COUNT
 };
 #undef X_FAULT
@@ -37,5 +38,9 @@ void cover_ranges_kept(const struct node *before);
 void cover_go(const struct node *before, int berth);
 void cover_full_block(const struct node *before, int berth);
 void follow_settings(const struct node *before, const struct node *after, enum call_kind kind);
+
+/* coverage_parties.c: whose messages they are, request W6 */
+void cover_parties(const struct node *before, const struct node *after, const struct call *call,
+                   const struct answer *answer);
 
 #endif

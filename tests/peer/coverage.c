@@ -20,8 +20,9 @@ static const struct row {
 #define X_FAULT(id, programs, side, states, sentence) { programs, side, states, sentence },
 #define X_COUNT(id, programs, side, states, sentence) { programs, side, states, sentence },
 #define AS_ROW(id, programs, side, states, sentence) { programs, side, states, sentence },
-    NODE_OUTCOMES(AS_ROW) CHANGE_OUTCOMES(AS_ROW) FAULTS(AS_OUTCOME_OF_FAULT) RECEIVE_OUTCOMES(AS_ROW)
-    SEND_OUTCOMES(AS_ROW) BERTH_OUTCOMES(AS_ROW) COUNTS(AS_OUTCOME_OF_COUNT)
+    NODE_OUTCOMES(AS_ROW) CHANGE_OUTCOMES(AS_ROW) PARTY_OUTCOMES(AS_ROW) FAULTS(AS_OUTCOME_OF_FAULT)
+    RECEIVE_OUTCOMES(AS_ROW) SEND_OUTCOMES(AS_ROW) PARTY_SEND_OUTCOMES(AS_ROW) BERTH_OUTCOMES(AS_ROW)
+    PARTY_BERTH_OUTCOMES(AS_ROW) COUNTS(AS_OUTCOME_OF_COUNT)
 };
 
 static const struct {
@@ -309,6 +310,8 @@ static void cover_send(const struct node *before, int berth, int refusal)
     case 8:
         count_send(send_refused_8, &before->tx[berth]);
         break;
+    case 18:    /* counted among the parties */
+        break;
     default:
         count_send(sent, &before->tx[berth]);
         count_receive(sent_beside, &before->rx[berth]);
@@ -446,6 +449,7 @@ void cover(const struct world *before, const struct world *world, const struct c
     const struct node *node = &before->node;
     cover_calls_without_cards(before, call, answer);
     follow_settings(node, &world->node, call->kind);
+    cover_parties(node, &world->node, call, answer);
     switch (call->kind) {
     case BAD:
         count(record_bad);

@@ -200,8 +200,10 @@ static struct frame_answer consecutive_came(struct arrival *a)
 
 static struct frame_answer sending_failed(struct arrival *a, int code)
 {
+    struct frame_answer failed = answer(0, FAILED, code);
+    failed.party = a->tx->party;
     *a->tx = (struct send_side){ .state = TX_IDLE };
-    return answer(0, FAILED, code);
+    return failed;
 }
 
 /* For a mutant only: what goes out in the berth's own go. */

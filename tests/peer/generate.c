@@ -5,7 +5,7 @@
 
 #include "generate.h"
 
-enum { CARD_SEEDS = 1000000, SET_SEEDS = 2000000 };
+enum { CARD_SEEDS = 1000000, SET_SEEDS = 2000000, PARTY_SEEDS = 3000000 };
 
 void write_record(struct generator *g, const uint8_t *record)
 {
@@ -36,6 +36,7 @@ void emit(struct generator *g, const uint8_t *record)
     if (g->program == SCENES && !g->plain) {
         deal_cards(g, berth_of(g, record));
         deal_changes(g, berth_of(g, record));
+        deal_senders(g, berth_of(g, record));
     }
 }
 
@@ -96,7 +97,7 @@ void generate(enum program program, uint64_t seed, long records)
 {
     struct generator g = {
         .dice = { seed }, .card_dice = { seed + CARD_SEEDS }, .set_dice = { seed + SET_SEEDS },
-        .program = program, .left = records,
+        .party_dice = { seed + PARTY_SEEDS }, .program = program, .left = records,
     };
     open_world(&g.model, program);
     if (program == SCENES)

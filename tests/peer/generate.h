@@ -18,7 +18,8 @@ struct generator {
     long left;              /* records still to write; then every emit does nothing */
     struct dice card_dice;  /* apart, so that cards leave the other draws as they are */
     struct dice set_dice;   /* and so do settings */
-    bool plain;             /* no looks, cards and changes between the records of a scenes stream */
+    struct dice party_dice; /* and parties */
+    bool plain;             /* no looks, cards, changes and odd sends between the records of a scenes stream */
 };
 
 /* generate.c */
@@ -76,6 +77,17 @@ int some_reserved_stmin(struct generator *g);
 
 /* generate_settings.c: scenes streams of changes, in every state of both sides */
 void generate_settings(uint64_t seed, int changes);
+
+/* generate_senders.c: whose the sends of a scenes stream are, and its odd ones */
+int some_party(struct generator *g);
+int some_strange_party(struct generator *g);
+uint8_t party_byte(struct generator *g, const struct send_side *tx);
+void deal_senders(struct generator *g, int berth);
+void emit_odd_send(struct generator *g, int berth);
+void spoil_one_party(struct generator *g);
+
+/* generate_parties.c: scenes streams of sends for both parties, kept and reported in every way */
+void generate_parties(uint64_t seed, int sends);
 
 /* generate_free.c: scenes streams in which every berth comes free */
 void generate_free(uint64_t seed, int nodes);

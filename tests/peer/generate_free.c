@@ -168,7 +168,10 @@ static void come_free(struct generator *g, bool with_others)
 /* Every third node is one in which other berths go on. */
 void generate_free(uint64_t seed, int nodes)
 {
-    struct generator g = { .dice = { seed }, .card_dice = { seed }, .program = SCENES, .left = LONG_MAX, .plain = true };
+    struct generator g = {
+        .dice = { seed }, .card_dice = { seed }, .party_dice = { ~seed }, .program = SCENES, .left = LONG_MAX,
+        .plain = true,
+    };
     open_world(&g.model, SCENES);
     emit_good_header(&g, seed);
     for (int i = 0; i < nodes; i++)

@@ -63,7 +63,7 @@ struct receive_side some_receive_side(struct generator *g, int berth)
 static struct send_side some_sending(struct generator *g, enum send_state state)
 {
     static const int block_sizes[] = { 0, 0, 1, 2, 3, 255 };
-    struct send_side tx = { .state = state };
+    struct send_side tx = { .state = state, .party = roll(&g->party_dice, 2) };
     tx.length = edge(g, AREA_MIN, g->model.node.area);
     tx.position = some_place(g, tx.length);
     tx.sn = edge(g, 0, SN_MAX);
@@ -83,6 +83,7 @@ static struct send_side some_due(struct generator *g, enum send_state state, int
         .state = state,
         .length = edge(g, shortest, longest),
         .timer = some_timer(g),
+        .party = roll(&g->party_dice, 2),
     };
 }
 
@@ -246,8 +247,21 @@ static bool spoil_block_or_gap(struct generator *g, enum fault fault, struct sen
     }
 }
 
+/* In any state that has a party. */
+static void spoil_party(struct generator *g, struct send_side *tx)
+{
+    do
+        *tx = some_send_side(g);
+    while (tx->state == TX_IDLE);
+    tx->party = some_strange_party(g);
+}
+
 bool spoil_send_side(struct generator *g, enum fault fault, struct send_side *tx)
 {
+    if (fault == party_large) {
+        spoil_party(g, tx);
+        return true;
+    }
     if (spoil_due_side(g, fault, tx))
         return true;
     *tx = some_sending(g, chance(&g->dice, 50) ? AWAITS_FLOW : CONSECUTIVE);

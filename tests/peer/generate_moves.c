@@ -54,6 +54,8 @@ void emit_send(struct generator *g, int berth, int length)
     uint8_t record[RECORD_BYTES] = { SEND, (uint8_t)berth };
     put_number(record, 2, length);
     record[8] = (uint8_t)roll(&g->dice, 256);
+    if (g->program == SCENES)
+        record[9] = (uint8_t)some_party(g);
     emit(g, record);
     sometimes_look(g, berth % BERTHS);
 }

@@ -84,7 +84,10 @@ static void go_through_set(struct generator *g, int served, int set, int seed)
 
 void generate_round(uint64_t seed, int sets)
 {
-    struct generator g = { .dice = { seed }, .card_dice = { seed }, .program = SCENES, .left = LONG_MAX, .plain = true };
+    struct generator g = {
+        .dice = { seed }, .card_dice = { seed }, .party_dice = { ~seed }, .program = SCENES, .left = LONG_MAX,
+        .plain = true,
+    };
     open_world(&g.model, SCENES);
     emit_good_header(&g, seed);
     for (int k = 0; k < BERTHS; k++)    /* bytes in the areas, so that a frame of another berth shows */

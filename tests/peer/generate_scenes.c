@@ -121,6 +121,7 @@ void emit_send_side(struct generator *g, int berth, const struct send_side *tx)
         put(record, 10, 10, (uint64_t)tx->gap);
         put(record, 11, 11, (uint64_t)tx->gap_left);
     }
+    record[14] = party_byte(g, tx);
     emit(g, record);
 }
 

@@ -129,8 +129,8 @@ static void give_settings_anew(struct generator *g, int berth)
 void generate_settings(uint64_t seed, int changes)
 {
     struct generator g = {
-        .dice = { seed }, .card_dice = { seed }, .set_dice = { ~seed }, .program = SCENES, .left = LONG_MAX,
-        .plain = true,
+        .dice = { seed }, .card_dice = { seed }, .set_dice = { ~seed }, .party_dice = { ~seed }, .program = SCENES,
+        .left = LONG_MAX, .plain = true,
     };
     open_world(&g.model, SCENES);
     emit_good_header(&g, seed);

@@ -30,6 +30,7 @@ static const char usage[] =
     "       peer generate free SEED COUNT                a scenes stream of COUNT nodes that come free\n"
     "       peer generate round SEED COUNT               a scenes stream of turns, with COUNT sets of due berths\n"
     "       peer generate settings SEED COUNT            a scenes stream of COUNT changes of berths' settings\n"
+    "       peer generate parties SEED COUNT             a scenes stream of COUNT sends for both parties, and more\n"
     "       peer mutants                                 their names and sentences\n";
 
 static int fail(const char *why)
@@ -81,7 +82,10 @@ static bool generate_for_law(const char *name, uint64_t seed, int number)
     static const struct {
         const char *name;
         void (*generate)(uint64_t, int);
-    } streams[] = { { "free", generate_free }, { "round", generate_round }, { "settings", generate_settings } };
+    } streams[] = {
+        { "free", generate_free }, { "round", generate_round }, { "settings", generate_settings },
+        { "parties", generate_parties },
+    };
     for (size_t i = 0; i < sizeof streams / sizeof streams[0]; i++) {
         if (strcmp(streams[i].name, name) == 0) {
             streams[i].generate(seed, number);

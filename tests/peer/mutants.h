@@ -129,6 +129,10 @@
  * W5 by sentence: a the due berths, b as ten bits, c the next set bit after the one served
  * last, d every answer as it is, e in each call.
  *
+ * W6 by sentence: a the same ten entries, b each send names its party, c the send side keeps the name
+ * until the message ends, d the report names it, e the exerciser sends as 0, f nothing else goes by the
+ * party, g 18, h the range, j the records of scenes.
+ *
  * W11 by sentence: a no stored byte outside the area, b the refusal is out, c the
  * number unused, d no other answer changes.
  *
@@ -405,6 +409,145 @@
     X(W5d8, "the idle berths at the front do not count as passed over")               \
     X(W5d9, "the berth served last is kept as its place in the round")                \
     X(W5e1, "the bits are gathered anew only when none of the last call's is left")   \
+    X(W6a1, "a berth that sends for one party is free for the other")                 \
+    X(W6a2, "the scheduler may send over a message of the laptop")                    \
+    X(W6a3, "the laptop may send over a message of the scheduler")                    \
+    X(W6a4, "8 for the laptop while the scheduler sends to any berth")                \
+    X(W6a5, "8 for the scheduler while the laptop sends to any berth")                \
+    X(W6a6, "8 for the laptop while the berth receives")                              \
+    X(W6a7, "the laptop sends to the next berth")                                     \
+    X(W6a8, "berth and party change places")                                          \
+    X(W6a9, "7 for a message of the laptop above 7 bytes")                            \
+    X(W6a10, "a message of the laptop is answered and not copied")                    \
+    X(W6a11, "5 for the laptop at berth 9")                                           \
+    X(W6b1, "every message is the scheduler's")                                       \
+    X(W6b2, "every message is the laptop's")                                          \
+    X(W6b3, "0 is the laptop, and 1 the scheduler")                                   \
+    X(W6b4, "a message of one frame is the scheduler's")                              \
+    X(W6b5, "a message of several frames is the scheduler's")                         \
+    X(W6b6, "the name goes to the message of the next berth")                         \
+    X(W6b7, "the name goes to all messages under way")                                \
+    X(W6b8, "a berth that the laptop has sent to stays the laptop's")                 \
+    X(W6b9, "a message has the party of the send before")                             \
+    X(W6c1, "a first frame handed over loses the name")                               \
+    X(W6c2, "go loses the name")                                                      \
+    X(W6c3, "WAIT loses the name")                                                    \
+    X(W6c4, "a consecutive frame handed over loses the name")                         \
+    X(W6c5, "a frame that fills the peer's block loses the name")                     \
+    X(W6c6, "a tick of a gap loses the name")                                         \
+    X(W6c7, "a tick of the timer loses the name")                                     \
+    X(W6c8, "an ignored frame loses the name")                                        \
+    X(W6c9, "a frame for the receive side loses the name")                            \
+    X(W6c10, "flow control handed over loses the name")                               \
+    X(W6c11, "a change of the berth's settings loses the name")                       \
+    X(W6c12, "a message that is shown loses the name")                                \
+    X(W6c13, "a send refused with 8 gives its party to the message under way")        \
+    X(W6c14, "a send refused with 6 or 7 gives its party to the message under way")   \
+    X(W6c15, "a send refused with 18 loses the name of the message under way")        \
+    X(W6c16, "a frame that another berth hands over loses the name")                  \
+    X(W6c17, "after a first frame the party is the SN")                               \
+    X(W6c18, "after go the party is the other one")                                   \
+    X(W6c19, "after a consecutive frame the party is the other one")                  \
+    X(W6c20, "a refused frame, tick or turn loses the name")                          \
+    X(W6c21, "a refused set-up loses the name")                                       \
+    X(W6c22, "a report of another berth loses the name")                              \
+    X(W6d1, "code 1 of a single frame names the scheduler")                           \
+    X(W6d2, "code 1 of a last consecutive frame names the scheduler")                 \
+    X(W6d3, "a send side's code 2 names the scheduler")                               \
+    X(W6d4, "code 3 names the scheduler")                                             \
+    X(W6d5, "Failed 6 names the scheduler")                                           \
+    X(W6d6, "Failed 9 names the scheduler")                                           \
+    X(W6d7, "code 1 names the laptop")                                                \
+    X(W6d8, "a tick's send code names the laptop")                                    \
+    X(W6d9, "Failed 6 and 9 name the laptop")                                         \
+    X(W6d10, "a report names the other party")                                        \
+    X(W6d11, "a report names the party of the next berth")                            \
+    X(W6d12, "a report names the party of berth 0")                                   \
+    X(W6d13, "a report names the party of the last send to any berth")                \
+    X(W6d14, "a report names the party of the last send, refused or not")             \
+    X(W6d15, "all reports of a tick name the party of the first")                     \
+    X(W6d16, "all reports of a tick name the party of the last")                      \
+    X(W6d17, "code 1 names the party of the berth served before")                     \
+    X(W6d18, "of the reports of a tick only the first is named")                      \
+    X(W6d19, "the scheduler is not named")                                            \
+    X(W6d20, "a message's frame with code 0 names the party")                         \
+    X(W6d21, "flow control handed over names the party of the message beside it")     \
+    X(W6d22, "Failed 5 names the party of the message beside it")                     \
+    X(W6d23, "Going names the party")                                                 \
+    X(W6d24, "Waiting names the party")                                               \
+    X(W6d25, "a receive side's code names the party of the message beside it")        \
+    X(W6d26, "a tick names its parties from berth 9 down")                            \
+    X(W6d27, "a tick with a report names the parties of all messages under way")      \
+    X(W6d28, "a tick without a report has the word party too")                        \
+    X(W6d29, "the party of a turn stands behind its buffer")                          \
+    X(W6d30, "no report names its party")                                             \
+    X(W6d31, "a send names its party in its answer")                                  \
+    X(W6e1, "the exerciser names parties")                                            \
+    X(W6e2, "the exerciser takes byte 9 of a send for its party")                     \
+    X(W6f1, "the scheduler's messages go before the laptop's")                        \
+    X(W6f2, "a message of the laptop does not count as sent")                         \
+    X(W6f3, "a message of the laptop does not count as failed in sending")            \
+    X(W6f4, "a message of the laptop has no timeout")                                 \
+    X(W6f5, "a message of the laptop is not shown")                                   \
+    X(W6f6, "15 while the laptop sends to the berth too")                             \
+    X(W6f7, "the laptop's frames keep no gap")                                        \
+    X(W6f8, "the laptop's frames go without blocks")                                  \
+    X(W6f9, "WAIT does not start the timer of the laptop's message again")            \
+    X(W6f10, "the laptop's last frame has code 0")                                    \
+    X(W6f11, "a message's code is its party")                                         \
+    X(W6f12, "the laptop's frames do not count as serving their berth")               \
+    X(W6g1, "send tests its party before the order")                                  \
+    X(W6g2, "send tests its party before its store")                                  \
+    X(W6g3, "send tests its party before its berth")                                  \
+    X(W6g4, "send tests its party behind 6")                                          \
+    X(W6g5, "send tests its party behind 7")                                          \
+    X(W6g6, "send tests its party behind 8")                                          \
+    X(W6g7, "party 2 will do")                                                        \
+    X(W6g8, "party 1 is refused")                                                     \
+    X(W6g9, "any party will do")                                                      \
+    X(W6g10, "only the lowest bit of a party counts")                                 \
+    X(W6g11, "a party from 128 on is below 0, and the scheduler")                     \
+    X(W6g12, "a party above 1 is the laptop")                                         \
+    X(W6g13, "a party above 1 is the scheduler")                                      \
+    X(W6g14, "a party above 1 is refused with 5")                                     \
+    X(W6g15, "a send refused with 18 is made all the same, for the scheduler")        \
+    X(W6g16, "a send refused with 18 leaves its bytes in the area")                   \
+    X(W6g17, "the party is not tested while the berth sends")                         \
+    X(W6h1, "the party of a single due has no range")                                 \
+    X(W6h2, "the party of a first due has no range")                                  \
+    X(W6h3, "the party has no range while awaiting flow control")                     \
+    X(W6h4, "the party has no range while consecutive")                               \
+    X(W6h5, "a party of 2 is in order")                                               \
+    X(W6h6, "a party of 1 is out of order")                                           \
+    X(W6h7, "a party from 128 on is below 0, and in order")                           \
+    X(W6h8, "only the party of berth 0 has a range")                                  \
+    X(W6h9, "the party of berth 9 has no range")                                      \
+    X(W6h10, "a frame looks at the party of its own berth only")                      \
+    X(W6h11, "send looks at the party of its own berth only")                         \
+    X(W6h12, "show looks at the party of its own berth only")                         \
+    X(W6h13, "a change looks at the party of its own berth only")                     \
+    X(W6h14, "a tick does not test the parties")                                      \
+    X(W6h15, "a turn does not test the parties")                                      \
+    X(W6h16, "a frame does not test the parties")                                     \
+    X(W6h17, "send does not test the parties")                                        \
+    X(W6h18, "show does not test the parties")                                        \
+    X(W6h19, "a change does not test the parties")                                    \
+    X(W6h20, "the party has no range in a gap")                                       \
+    X(W6j1, "a send with a party above 1 is bad")                                     \
+    X(W6j2, "a load of a party above 1 is bad")                                       \
+    X(W6j3, "a load of a send side has no party")                                     \
+    X(W6j4, "a party above 1 is loaded as 1")                                         \
+    X(W6j5, "an idle side keeps the party that it is loaded with")                    \
+    X(W6j6, "a load of an idle side with a party is bad")                             \
+    X(W6j7, "a state has the party before the timer")                                 \
+    X(W6j8, "an idle send side shows a party")                                        \
+    X(W6j9, "a single due and a first due show no party")                             \
+    X(W6j10, "a state has the party of berth 0")                                      \
+    X(W6j11, "a state has no party")                                                  \
+    X(W6j12, "byte 15 of a load of a send side is not looked at")                     \
+    X(W6j13, "byte 10 of a send is not looked at")                                    \
+    X(W6j14, "a load of the node's own loses the names")                              \
+    X(W6j15, "a load of the receive side loses the name")                             \
     X(W11a1, "a last consecutive frame stores its padding up to the end of the area") \
     X(W11b1, "11, where seven bytes would leave the area though fewer are missing")   \
     X(W11b2, "11, where the last byte of a message is the last of its area")          \

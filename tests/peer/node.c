@@ -5,6 +5,7 @@
 
 #include "mutants.h"
 #include "node.h"
+#include "party_mistakes.h"
 #include "settings_mistakes.h"
 
 /* Only asked of a node in order: elsewhere A may be anything. */
@@ -44,7 +45,7 @@ int set_up(struct node *node, uint32_t area, uint32_t block_size, uint32_t stmin
     return 0;
 }
 
-static int send_refusal(const struct node *node, struct bytes outgoing, int berth, size_t length)
+static int send_refusal(const struct node *node, struct bytes outgoing, int berth, uint32_t party, size_t length)
 {
     if (!in_order_for(node, (uint32_t)berth, mistake(W3e9)))
         return 1;
@@ -52,6 +53,8 @@ static int send_refusal(const struct node *node, struct bytes outgoing, int bert
         return 2;
     if (berth >= BERTHS)
         return 5;
+    if (party > LAPTOP)
+        return 18;
     bool busy = node->tx[berth].state != TX_IDLE || (mistake(29c) && node->rx[berth].state != RX_IDLE);
     if (mistake(29a) && busy)
         return 8;
@@ -62,9 +65,11 @@ static int send_refusal(const struct node *node, struct bytes outgoing, int bert
     return busy ? 8 : 0;
 }
 
-int send_message(struct node *node, struct bytes outgoing, int berth, struct bytes message)
+int send_message(struct node *node, struct bytes outgoing, int berth, uint32_t party, struct bytes message)
 {
-    int refusal = send_refusal(node, outgoing, berth, message.length);
+    if (sends_by_mistake())
+        return mistaken_send(node, outgoing, (struct sending){ (uint32_t)berth, party, message });
+    int refusal = send_refusal(node, outgoing, berth, party, message.length);
     if (refusal != 0)
         return refusal;
 
@@ -75,6 +80,7 @@ int send_message(struct node *node, struct bytes outgoing, int berth, struct byt
     node->tx[berth] = (struct send_side){
         .state = message.length <= SINGLE_MAX ? SINGLE_DUE : FIRST_DUE,
         .length = (int)message.length,
+        .party = (int)party,
     };
     return 0;
 }

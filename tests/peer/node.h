@@ -1,6 +1,6 @@
 /*
- * node.h - the node of paper 01 and its calls, with the cards of request W1 beside it, the gaps of W2 and the
- * settings of W3.
+ * node.h - the node of paper 01 and its calls, with the cards of request W1 beside it, the gaps of W2, the
+ * settings of W3 and the parties of W6.
  *
  * This is an independent reading of the paper in plain C: it shares no line
  * with the proved node, so that an error would have to be made twice to stay
@@ -41,6 +41,9 @@ enum report {
     N_BUFFER_OVFLW = 9,
 };
 
+/* Who sends a message; no other number is a party. */
+enum party { SCHEDULER, LAPTOP };
+
 enum receive_state { RX_IDLE, OWES_OVERFLOW, OWES_GO, AWAITS };
 enum send_state { TX_IDLE, SINGLE_DUE, FIRST_DUE, AWAITS_FLOW, CONSECUTIVE };
 
@@ -58,6 +61,7 @@ struct send_side {
     int block_size, sent;   /* the peer's block size; frames sent in this block */
     int gap, gap_left;      /* the peer's gap and what is left of it, in ticks */
     int timer;
+    int party;              /* whose message it is, until it ends */
 };
 
 /* A berth's own: what its go frames carry, and what its blocks are counted by. */
@@ -116,12 +120,14 @@ struct frame_answer {
     int old;
     enum word word;
     int number;             /* the length, the code, or the digit after I */
+    int party;              /* of a message that Failed 6 or 9 ends, else 0 */
 };
 
 struct tick_answer {
     int refusal;
     int receive_code[BERTHS];
     int send_code[BERTHS];
+    int party[BERTHS];      /* beside a send code, else 0 */
 };
 
 struct turn_answer {
@@ -129,6 +135,7 @@ struct turn_answer {
     bool none;
     int identifier;
     int code;
+    int party;              /* beside code 1, else 0 */
     int passed_over;
 };
 
@@ -145,7 +152,7 @@ struct frame_answer frame_came(struct node *node, struct bytes incoming, struct 
 
 struct tick_answer tick(struct node *node, struct cards cards);
 
-int send_message(struct node *node, struct bytes outgoing, int berth, struct bytes message);
+int send_message(struct node *node, struct bytes outgoing, int berth, uint32_t party, struct bytes message);
 
 struct turn_answer call_for_frame(struct node *node, struct bytes outgoing, struct cards cards,
                                   struct bytes buffer);

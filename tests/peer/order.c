@@ -7,6 +7,7 @@
  */
 #include "mutants.h"
 #include "order.h"
+#include "party_mistakes.h"
 #include "settings_mistakes.h"
 
 #define BREAKS(name, test)                                \
@@ -99,8 +100,9 @@ static enum fault transfer_fault(const struct node *node, const struct send_side
 static enum fault send_fault(const struct node *node, const struct send_side *tx)
 {
     if (tx->state == TX_IDLE)
-        return no_fault;
+        return mistake(W6j5) && tx->party > LAPTOP ? party_large : no_fault;
     BREAKS(send_timer_large, tx->timer >= TIMER_END);
+    BREAKS(party_large, party_breaks(node, tx, tx->party > LAPTOP));
     switch (tx->state) {
     case SINGLE_DUE:
         BREAKS(single_small, tx->length < 1);

@@ -40,7 +40,8 @@
     X(gap_large, "peer's gap above 128")                                \
     X(gap_left_large, "gap left above 128")                             \
     X(gap_left_while_awaiting, "gap left above 0 while awaiting")       \
-    X(timer_in_gap, "timer above 0 while gap left is above 0")
+    X(timer_in_gap, "timer above 0 while gap left is above 0")          \
+    X(party_large, "party above 1")
 
 #define AS_FAULT(name, sentence) name,
 enum fault { no_fault, FAULTS(AS_FAULT) FAULT_COUNT };

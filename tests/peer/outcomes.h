@@ -131,6 +131,25 @@
     X(set_up_of_unlike, ONLY_SCENES, OF_NODE, "-", "set-up: unlike berths become alike") \
     X(set_up_refused_unlike, ONLY_SCENES, OF_NODE, "-", "set-up: refused 10, unlike berths")
 
+#define PARTY_OUTCOMES(X)                                                       \
+    X(send_1_and_18, ONLY_SCENES, OF_NODE, "-", "send: refused 1, party above 1") \
+    X(send_2_and_18, ONLY_SCENES, OF_NODE, "-", "send: refused 2, party above 1") \
+    X(send_5_and_18, ONLY_SCENES, OF_NODE, "-", "send: refused 5, party above 1") \
+    X(party_2, ONLY_SCENES, OF_NODE, "-", "send: refused 18, party 2")          \
+    X(party_3_127, ONLY_SCENES, OF_NODE, "-", "send: refused 18, party 3 to 127") \
+    X(party_128_254, ONLY_SCENES, OF_NODE, "-", "send: refused 18, party 128 to 254") \
+    X(party_255, ONLY_SCENES, OF_NODE, "-", "send: refused 18, party 255")      \
+    X(frame_party_alone, ONLY_SCENES, OF_NODE, "-", "frame: refused 1, a party alone") \
+    X(tick_party_alone, ONLY_SCENES, OF_NODE, "-", "tick: refused 1, a party alone") \
+    X(send_party_alone, ONLY_SCENES, OF_NODE, "-", "send: refused 1, a party alone") \
+    X(turn_party_alone, ONLY_SCENES, OF_NODE, "-", "turn: refused 1, a party alone") \
+    X(show_party_alone, ONLY_SCENES, OF_NODE, "-", "show: out of order by a party alone") \
+    X(change_party_alone, ONLY_SCENES, OF_NODE, "-", "change: refused 1, a party alone") \
+    X(reports_of_both, ONLY_SCENES, OF_NODE, "-", "tick: reports of both parties") \
+    X(both_codes_of_laptop, ONLY_SCENES, OF_NODE, "-", "tick: both codes of a berth, laptop's") \
+    X(set_up_over_laptop, ONLY_SCENES, OF_NODE, "-", "set-up: over a laptop's message") \
+    X(set_up_refused_laptop, ONLY_SCENES, OF_NODE, "-", "set-up: refused 10, laptop's message")
+
 #define AS_OUTCOME_OF_FAULT(name, sentence)                                     \
     X_FAULT(fault_##name, ONLY_SCENES, OF_NODE, "-", "refused 1: " sentence)
 
@@ -209,6 +228,38 @@
     X(show_sending, ONLY_SCENES, OF_SEND, "sfwcp", "show: message being sent")  \
     X(show_no_sending, ONLY_SCENES, OF_SEND, "i", "show: no message being sent")
 
+#define PARTY_SEND_OUTCOMES(X)                                                  \
+    X(send_refused_18, ONLY_SCENES, OF_SEND, "isfwcp", "send: refused 18")      \
+    X(send_refused_18_and_6, ONLY_SCENES, OF_SEND, "isfwcp", "send: refused 18, message empty") \
+    X(send_refused_18_and_7, ONLY_SCENES, OF_SEND, "isfwcp", "send: refused 18, message above A") \
+    X(scheduler_kept_off, ONLY_SCENES, OF_SEND, "sfwcp", "send: refused 8 for the scheduler, laptop's") \
+    X(laptop_kept_off, ONLY_SCENES, OF_SEND, "sfwcp", "send: refused 8 for the laptop, scheduler's") \
+    X(other_refused_6, ONLY_SCENES, OF_SEND, "sfwcp", "send: refused 6 for the other party") \
+    X(other_refused_7, ONLY_SCENES, OF_SEND, "sfwcp", "send: refused 7 for the other party") \
+    X(first_of_laptop, ONLY_SCENES, OF_SEND, "f", "turn: first handed over, laptop's") \
+    X(more_of_laptop, ONLY_SCENES, OF_SEND, "c", "turn: consecutive, more to go, laptop's") \
+    X(full_of_laptop, ONLY_SCENES, OF_SEND, "c", "turn: consecutive, block full, laptop's") \
+    X(flow_first_of_laptop, ONLY_SCENES, OF_SEND, "sfwcp", "turn: flow control goes first, laptop's") \
+    X(going_of_laptop, ONLY_SCENES, OF_SEND, "w", "flow control: going, laptop's") \
+    X(waiting_of_laptop, ONLY_SCENES, OF_SEND, "w", "flow control: waiting, laptop's") \
+    X(ignored_of_laptop, ONLY_SCENES, OF_SEND, "sfwcp", "frame: ignored, laptop's") \
+    X(received_of_laptop, ONLY_SCENES, OF_SEND, "sfwcp", "frame: for the receive side, laptop's") \
+    X(tick_of_laptop, ONLY_SCENES, OF_SEND, "sfwcp", "tick: no code, laptop's") \
+    X(change_of_laptop, ONLY_SCENES, OF_SEND, "sfwcp", "change: changed, laptop's") \
+    X(shown_of_laptop, ONLY_SCENES, OF_SEND, "sfwcp", "show: message being sent, laptop's") \
+    X(sent_for_scheduler, BOTH, OF_SEND, "sc", "turn: code 1, scheduler's")     \
+    X(sent_for_laptop, ONLY_SCENES, OF_SEND, "sc", "turn: code 1, laptop's")    \
+    X(code_2_for_scheduler, BOTH, OF_SEND, "sfc", "tick: code 2, scheduler's")  \
+    X(code_2_for_laptop, ONLY_SCENES, OF_SEND, "sfc", "tick: code 2, laptop's") \
+    X(code_3_for_scheduler, BOTH, OF_SEND, "w", "tick: code 3, scheduler's")    \
+    X(code_3_for_laptop, ONLY_SCENES, OF_SEND, "w", "tick: code 3, laptop's")   \
+    X(failed_6_for_scheduler, BOTH, OF_SEND, "w", "flow control: failed 6, scheduler's") \
+    X(failed_6_for_laptop, ONLY_SCENES, OF_SEND, "w", "flow control: failed 6, laptop's") \
+    X(failed_9_for_scheduler, BOTH, OF_SEND, "w", "flow control: failed 9, scheduler's") \
+    X(failed_9_for_laptop, ONLY_SCENES, OF_SEND, "w", "flow control: failed 9, laptop's") \
+    X(party_2_alone, ONLY_SCENES, OF_SEND, "sfwcp", "refused 1: party 2 alone") \
+    X(party_255_alone, ONLY_SCENES, OF_SEND, "sfwcp", "refused 1: party 255 alone")
+
 #define TEN_BERTHS "0123456789"
 
 #define BERTH_OUTCOMES(X)                                                       \
@@ -220,6 +271,16 @@
     X(stmin_alone, ONLY_SCENES, OF_BERTH, TEN_BERTHS, "refused 1: its STmin alone") \
     X(taken_alone, ONLY_SCENES, OF_BERTH, TEN_BERTHS, "refused 1: taken, allowed by another's BS") \
     X(taken_by_own, ONLY_SCENES, OF_BERTH, TEN_BERTHS, "tick: taken, not allowed by another's BS")
+
+#define PARTY_BERTH_OUTCOMES(X)                                                 \
+    X(taken_for_scheduler, ONLY_SCENES, OF_BERTH, TEN_BERTHS, "send: sent for the scheduler") \
+    X(taken_for_laptop, ONLY_SCENES, OF_BERTH, TEN_BERTHS, "send: sent for the laptop") \
+    X(scheduler_after_laptop, ONLY_SCENES, OF_BERTH, TEN_BERTHS, "send: sent for the scheduler after the laptop") \
+    X(laptop_after_scheduler, ONLY_SCENES, OF_BERTH, TEN_BERTHS, "send: sent for the laptop after the scheduler") \
+    X(report_of_scheduler, ONLY_SCENES, OF_BERTH, TEN_BERTHS, "report: scheduler's") \
+    X(report_of_laptop, ONLY_SCENES, OF_BERTH, TEN_BERTHS, "report: laptop's")  \
+    X(report_beside_other, ONLY_SCENES, OF_BERTH, TEN_BERTHS, "report: next berth's message is the other's") \
+    X(party_alone, ONLY_SCENES, OF_BERTH, TEN_BERTHS, "refused 1: its party alone")
 
 #define AS_OUTCOME_OF_COUNT(name, sentence) X_COUNT(card_##name, BOTH, OF_CARD, "rtk", sentence)
 

@@ -41,13 +41,17 @@ static bool read_bare(enum program program, const uint8_t *r, struct call *call)
     return zeros(r, 1, 15);
 }
 
-/* The first byte is a field even where the message is empty. */
+/* The first byte is a field even where the message is empty. The exerciser sends for the scheduler. */
 static bool read_send(enum program program, const uint8_t *r, struct call *call)
 {
+    bool names = program == SCENES || mistake(W6e2);
     call->berth = r[1];
     call->length = (int)number(r, 2, 3);
     call->rising_from = r[8];
-    return call->length <= (program == EXERCISER ? 1001 : MESSAGE_MAX) && zeros(r, 4, 7) && zeros(r, 9, 15);
+    call->party = names ? r[9] : SCHEDULER;
+    if (call->length > (program == EXERCISER ? 1001 : MESSAGE_MAX) || (mistake(W6j1) && call->party > LAPTOP))
+        return false;
+    return zeros(r, 4, 7) && zeros(r, names ? rule(10, W6j13, 11) : 9, 15);
 }
 
 static bool read_turn(enum program program, const uint8_t *r, struct call *call)
@@ -92,11 +96,23 @@ static bool read_load_receive(enum program program, const uint8_t *r, struct cal
     return true;
 }
 
+/* The mistakes of a record that has its own mind about the party. */
+static bool mistaken_party_byte(const uint8_t *r)
+{
+    return (mistake(W6j2) && r[14] > LAPTOP) || (mistake(W6j6) && r[2] == TX_IDLE && r[14] != 0);
+}
+
+static int loaded_party(uint8_t byte)
+{
+    return rule(rule(byte, W6j3, SCHEDULER), W6j4, byte > LAPTOP ? LAPTOP : byte);
+}
+
+/* Any party: what the node makes of it is its business. */
 static bool read_load_send(enum program program, const uint8_t *r, struct call *call)
 {
     (void)program;
     call->berth = r[1];
-    if (call->berth >= BERTHS || r[2] > CONSECUTIVE || !zeros(r, 14, 15))
+    if (call->berth >= BERTHS || r[2] > CONSECUTIVE || !zeros(r, rule(15, W6j12, 16), 15) || mistaken_party_byte(r))
         return false;
     struct send_side *tx = &call->tx;
     tx->state = r[2];
@@ -104,6 +120,8 @@ static bool read_load_send(enum program program, const uint8_t *r, struct call *
         tx->length = (int)number(r, 3, 4);
         tx->timer = (int)number(r, 12, 13);
     }
+    if (tx->state != TX_IDLE || mistake(W6j5))
+        tx->party = loaded_party(r[14]);
     if (tx->state == AWAITS_FLOW || tx->state == CONSECUTIVE) {
         tx->position = (int)number(r, 5, 6);
         tx->sn = r[7];

@@ -39,6 +39,7 @@ struct call {
     int length;                     /* of a frame's data or of a message */
     uint8_t data[DATA_MAX];
     uint8_t rising_from;            /* a message's first byte */
+    uint32_t party;                 /* whose message it is */
     int buffer;                     /* a turn's buffer length */
     int choice;                     /* 0 incoming, 1 outgoing */
     struct receive_side rx;

@@ -5,6 +5,7 @@
 
 #include "cards.h"
 #include "mutants.h"
+#include "naming_mistakes.h"
 #include "say.h"
 
 static void say_frame(struct line *line, const struct frame_answer *answer)
@@ -48,8 +49,17 @@ static void say_receive_side(struct line *line, const struct receive_side *rx)
     line_add(line, " last %d", rx->last);
 }
 
-static void say_send_side(struct line *line, const struct send_side *tx)
+static void say_timer_and_party(struct line *line, const struct send_side *tx, int party)
 {
+    bool due = tx->state == SINGLE_DUE || tx->state == FIRST_DUE;
+    line_add(line, " %d", rule(tx->timer, W6j7, party));
+    if (!mistake(W6j11) && !(mistake(W6j9) && due))
+        line_add(line, " %d", rule(party, W6j7, tx->timer));
+}
+
+static void say_send_side(struct line *line, const struct node *node, int berth)
+{
+    const struct send_side *tx = &node->tx[berth];
     line_add(line, " tx %d", (int)tx->state);
     if (tx->state != TX_IDLE)
         line_add(line, " %d", tx->length);
@@ -57,7 +67,9 @@ static void say_send_side(struct line *line, const struct send_side *tx)
         line_add(line, " %d %d %d %d %d %d", tx->position, tx->sn, tx->block_size, tx->sent,
                  tx->gap, tx->gap_left);
     if (tx->state != TX_IDLE)
-        line_add(line, " %d", tx->timer);
+        say_timer_and_party(line, tx, rule(tx->party, W6j10, node->tx[0].party));
+    else if (mistake(W6j8))
+        line_add(line, " 0");
 }
 
 static void say_node(struct line *line, const struct node *node)
@@ -107,7 +119,7 @@ static void say_scenes_answer(struct line *line, const struct world *world, cons
         line_add(line, "state");
         say_settings(line, &world->node, call->berth);
         say_receive_side(line, &world->node.rx[call->berth]);
-        say_send_side(line, &world->node.tx[call->berth]);
+        say_send_side(line, &world->node, call->berth);
         break;
     case NODE:
         say_node(line, &world->node);
@@ -156,13 +168,59 @@ static void say_answered(struct line *line, const struct world *world, const str
     }
 }
 
+static void name_party(struct named *named, int berth, int party)
+{
+    named->reports[berth] = true;
+    named->party[berth] = party;
+}
+
+/* Only a report of a send side has a party to name: Failed 5 is the receive side's. */
+static struct named named_in(const struct call *call, const struct answer *answer)
+{
+    struct named named = { .party = { 0 } };
+    const struct frame_answer *frame = &answer->frame;
+    const struct turn_answer *turn = &answer->turn;
+    if (call->kind == FRAME && frame->word == FAILED && frame->number != N_WRONG_SN)
+        name_party(&named, frame->berth, frame->party);
+    for (int k = 0; k < BERTHS && call->kind == TICK; k++)
+        if (answer->tick.send_code[k] != 0)
+            name_party(&named, k, answer->tick.party[k]);
+    if (call->kind == TURN && turn->code == N_OK)
+        name_party(&named, turn->identifier - TO_BERTH_0, turn->party);
+    return named;
+}
+
+static void say_parties(struct line *line, const struct world *world, const struct call *call,
+                        const struct answer *answer)
+{
+    if (answer->refusal != 0)
+        return;
+    struct named named = named_in(call, answer);
+    mistake_naming(&named, world, call, answer);
+    bool first = true;
+    for (int i = 0; i < BERTHS; i++) {
+        int k = rule(i, W6d26, BERTHS - 1 - i);
+        if (!named.reports[k])
+            continue;
+        line_add(line, first ? " party %d:%d" : " %d:%d", k, named.party[k]);
+        first = false;
+    }
+    if (mistake(W6d28) && first && call->kind == TICK)
+        line_add(line, " party");
+}
+
 void say_answer(struct line *line, enum program program, const struct world *world,
                 const struct call *call, const struct answer *answer)
 {
+    bool buffer = program == SCENES && call->kind == TURN, parties = program == SCENES || mistake(W6e1);
     if (answer->refusal != 0)
         line_add(line, "refused %d", answer->refusal);
     else
         say_answered(line, world, call, answer);
-    if (program == SCENES && call->kind == TURN)
+    if (parties && !(mistake(W6d29) && buffer))
+        say_parties(line, world, call, answer);
+    if (buffer)
         line_add_bytes(line, " buffer", answer->buffer, (size_t)call->buffer);
+    if (mistake(W6d29) && buffer)
+        say_parties(line, world, call, answer);
 }

@@ -7,6 +7,12 @@
 #include "line.h"
 #include "world.h"
 
+/* The berths whose send side reports in an answer, and whose message each was. */
+struct named {
+    bool reports[BERTHS];
+    int party[BERTHS];
+};
+
 /* The world is the one after the call. */
 void say_answer(struct line *line, enum program program, const struct world *world,
                 const struct call *call, const struct answer *answer);

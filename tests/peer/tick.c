@@ -70,6 +70,7 @@ static struct tick_answer tick_answered(struct node *node, struct cards cards)
     struct tick_answer answer = { .refusal = 0 };
     for (int k = 0; k < BERTHS; k++) {
         enum receive_state before = node->rx[k].state;
+        int party = node->tx[k].party;
         bool counted = !(mistake(W1a2) && has_code(&answer));
         if (leaves_out(node, &answer, k))
             continue;
@@ -77,6 +78,7 @@ static struct tick_answer tick_answered(struct node *node, struct cards cards)
         if (!send_stands_still(&node->rx[k], &node->tx[k], answer.receive_code[k]))
             answer.send_code[k] = tick_send(&node->tx[k]);
         mistakes_at_codes(node, k, &answer);
+        answer.party[k] = answer.send_code[k] != 0 ? party : 0;
         if (counted)
             add_to_card(cards, k, tick_adds(before, answer.receive_code[k], answer.send_code[k]));
     }

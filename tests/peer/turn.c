@@ -5,6 +5,7 @@
 
 #include "cards.h"
 #include "mutants.h"
+#include "party_mistakes.h"
 #include "settings_mistakes.h"
 #include "turn_mistakes.h"
 
@@ -15,7 +16,7 @@ struct hand_over {
     const uint8_t *area;    /* the berth's part of the outgoing store */
     uint8_t frame[FRAME_BYTES];
     int used;               /* bytes of the frame before the filling */
-    int code;
+    int code, party;        /* what is reported with a message's last frame, and whose it was */
 };
 
 static bool flow_control_due(const struct node *node, int berth)
@@ -33,7 +34,8 @@ static bool gap_over(const struct send_side *tx)
 static bool message_due(const struct node *node, int berth)
 {
     const struct send_side *tx = &node->tx[berth];
-    return tx->state == SINGLE_DUE || tx->state == FIRST_DUE || (tx->state == CONSECUTIVE && gap_over(tx));
+    bool due = tx->state == SINGLE_DUE || tx->state == FIRST_DUE || (tx->state == CONSECUTIVE && gap_over(tx));
+    return due && !waits_for_scheduler(node, tx);
 }
 
 /* The first berth with a frame due, counted as berths passed over; BERTHS if there is none. */
@@ -97,12 +99,18 @@ static void hand_over_flow_control(struct hand_over *h)
         h->tx->timer = 0;
 }
 
+static void message_ends(struct hand_over *h)
+{
+    h->code = N_OK;
+    h->party = h->tx->party;
+    *h->tx = (struct send_side){ .state = TX_IDLE };
+}
+
 static void hand_over_single(struct hand_over *h)
 {
     put_byte(h, h->tx->length);
     put(h, h->area, h->tx->length);
-    h->code = N_OK;
-    *h->tx = (struct send_side){ .state = TX_IDLE };
+    message_ends(h);
 }
 
 static void hand_over_first(struct hand_over *h)
@@ -118,6 +126,7 @@ static void hand_over_first(struct hand_over *h)
         .sn = 1,
         .block_size = rule(0, 05c, h->set.block_size),
         .gap = rule(0, W2d2, 1),
+        .party = h->tx->party,
     };
 }
 
@@ -168,8 +177,7 @@ static void hand_over_consecutive(struct hand_over *h)
         after_consecutive(tx);
         return;
     }
-    h->code = N_OK;
-    *tx = (struct send_side){ .state = TX_IDLE };
+    message_ends(h);
 }
 
 static void hand_over_message(struct hand_over *h)
@@ -217,8 +225,9 @@ static void write_frame(const struct hand_over *h, struct bytes buffer)
         memset(buffer.at + FRAME_BYTES, FILLER, buffer.length - FRAME_BYTES);
 }
 
-/* Serves one berth that has a frame due; answers with the code. */
-static int serve(struct node *node, struct bytes outgoing, struct cards cards, struct bytes buffer, int berth)
+/* Serves one berth that has a frame due. */
+static struct hand_over serve(struct node *node, struct bytes outgoing, struct cards cards, struct bytes buffer,
+                              int berth)
 {
     struct hand_over h = {
         .rx = &node->rx[berth],
@@ -238,7 +247,7 @@ static int serve(struct node *node, struct bytes outgoing, struct cards cards, s
     add_to_card(cards, berth, turn_adds(h.frame, h.code));
     if (!(mistake(25e) && flow))
         node->served = rule(berth, W5d9, (berth - node->served + BERTHS - 1) % BERTHS);
-    return h.code;
+    return h;
 }
 
 /* The mistake of a card that hears of a turn without a buffer. */
@@ -267,9 +276,11 @@ struct turn_answer call_for_frame(struct node *node, struct bytes outgoing, stru
         return (struct turn_answer){ .none = true, .passed_over = passed };
     }
     int berth = (start + passed) % BERTHS, told = told_passed_over(node, start, passed);
+    struct hand_over h = serve(node, outgoing, cards, buffer, berth);
     return (struct turn_answer){
         .identifier = TO_BERTH_0 + berth,
-        .code = serve(node, outgoing, cards, buffer, berth),
+        .code = h.code,
+        .party = h.party,
         .passed_over = rule(told, 25d, berth),
     };
 }

@@ -36,9 +36,9 @@ static void say_load_send(const struct call *call)
     };
     const struct send_side *tx = &call->tx;
     printf("load send side of berth %d: %s, length %d, position %d, SN %d, peer's block size %d, "
-           "sent %d, gap %d, gap left %d, timer %d\n",
+           "sent %d, gap %d, gap left %d, timer %d, party %d\n",
            call->berth, states[tx->state], tx->length, tx->position, tx->sn, tx->block_size,
-           tx->sent, tx->gap, tx->gap_left, tx->timer);
+           tx->sent, tx->gap, tx->gap_left, tx->timer, tx->party);
 }
 
 static void say_settings(const char *what, const struct call *call)
@@ -127,7 +127,8 @@ void print_words(const struct call *call)
         puts("tick");
         break;
     case SEND:
-        printf("send to %d, length %d, from %02X\n", call->berth, call->length, call->rising_from);
+        printf("send to %d, length %d, from %02X, party %d\n", call->berth, call->length, call->rising_from,
+               (int)call->party);
         break;
     case TURN:
         printf("turn with a buffer of %d bytes\n", call->buffer);

@@ -5,6 +5,7 @@
 #include <string.h>
 
 #include "cards.h"
+#include "keeping_mistakes.h"
 #include "mutants.h"
 #include "world.h"
 
@@ -90,7 +91,7 @@ static void perform_send(struct world *world, const struct call *call, struct an
     if (misses_cards(world, mistake(W1g17)))
         answer->refusal = 12;
     else
-        answer->refusal = send_message(&world->node, world->outgoing, call->berth, message);
+        answer->refusal = send_message(&world->node, world->outgoing, call->berth, call->party, message);
 }
 
 /* The mistakes of a change that looks at a store or at the list; 0 where there is none. */
@@ -257,7 +258,7 @@ static int needs(const struct world *world, uint64_t length)
     return mistake(31d) && above_area ? 0 : frames_needed(length);
 }
 
-struct answer perform(struct world *world, const struct call *call)
+static struct answer performed(struct world *world, const struct call *call)
 {
     struct answer answer = { .refusal = 0 };
     switch (call->kind) {
@@ -296,5 +297,17 @@ struct answer perform(struct world *world, const struct call *call)
         perform_by_hand(world, call);
         break;
     }
+    return answer;
+}
+
+/* The mutants that lose or mistake a party watch a call from outside: the rules hand it on as it is. */
+struct answer perform(struct world *world, const struct call *call)
+{
+    if (!mistakes_parties())
+        return performed(world, call);
+    struct world before = *world;
+    hide_parties(&world->node, call);
+    struct answer answer = performed(world, call);
+    mistake_parties(&(struct seen){ &before, world, call, &answer });
     return answer;
 }

@@ -17,7 +17,7 @@ def numbers(home, path, params, ret, law, asks=None):
 
 FRAME_REFUSAL = numbers('node', 'refusals::frame', ['bool', 'u32', 'usize', 'usize', 'u32', 'usize'], 'u8', 'frameRefusal')
 TICK_REFUSAL = numbers('node', 'refusals::tick', ['bool', 'usize'], 'u8', 'tickRefusal')
-SEND_REFUSAL = numbers('node', 'refusals::send', ['bool', 'u32', 'Tx', 'usize', 'u32', 'usize'], 'u8', 'sendRefusal')
+SEND_REFUSAL = numbers('node', 'refusals::send', ['bool', 'u32', 'Tx', 'usize', 'u32', 'u32', 'usize'], 'u8', 'sendRefusal')
 TURN_REFUSAL = numbers('node', 'refusals::turn', ['bool', 'u32', 'usize', 'usize', 'usize'], 'u8', 'turnRefusal')
 CHANGE_REFUSAL = numbers('node', 'refusals::change', ['bool', 'Rx', 'u32', 'u32', 'u32'], 'u8', 'changeRefusal')
 OF_BERTH = numbers('node', 'places::of_berth', ['u32'], 'usize', 'placeOf')
@@ -37,10 +37,10 @@ HEARD = Callee('sides', 'heard', None, ['Settings', 'BerthSettings', 'usize', 'R
                lambda r, z, zs, h, vs: f'(n· : Node) (c· : List Card) (d· : ℕ) → Hearing n· c· d· {" ".join(vs[:5])} (incoming .now) (payload .now) → FramePromise n· c· (incoming .now) d· (payload .now) '
                                        f'({r} .answer) (withBerth n· {vs[2]} (withRx (berthAt n· {vs[2]}) ({r} .rx) ({r} .last))) (answerAdded c· {vs[2]} (payload .now) ({r} .answer)) {zs["incoming"]}',
                asks=lambda ps: f'((n· : Node) × ((c· : List Card) × ((d· : ℕ) × Hearing n· c· d· {" ".join(ps[:5])} (incoming .now) (payload .now))))')
-SENT = Callee('sides', 'sent', None, ['u32', 'usize', '&mut [u8]:outgoing', '&[u8]:message'], 'SentAt',
-              lambda r, z, zs, h, vs: f'(n· : Node) → Sends n· {vs[0]} {vs[1]} (outgoing .now) (message .now) → SendPromise n· (outgoing .now) {vs[1]} (message .now) ({r} .answer) '
+SENT = Callee('sides', 'sent', None, ['u32', 'usize', 'u32', '&mut [u8]:outgoing', '&[u8]:message'], 'SentAt',
+              lambda r, z, zs, h, vs: f'(n· : Node) → Sends n· {vs[0]} {vs[1]} {vs[2]} (outgoing .now) (message .now) → SendPromise n· (outgoing .now) {vs[1]} {vs[2]} (message .now) ({r} .answer) '
                                       f'(withBerth n· {vs[1]} (withTx (berthAt n· {vs[1]}) ({r} .tx))) {zs["outgoing"]}',
-              asks=lambda ps: f'((n· : Node) × Sends n· {ps[0]} {ps[1]} (outgoing .now) (message .now))')
+              asks=lambda ps: f'((n· : Node) × Sends n· {ps[0]} {ps[1]} {ps[2]} (outgoing .now) (message .now))')
 CHANGED = Callee('sides', 'changed', None, ['BerthSettings', 'usize', 'u32', 'u32'], 'ChangedAt',
                  lambda r, z, zs, h, vs: f'(n· : Node) → Changing n· {" ".join(vs)} → ChangePromise n· {" ".join(vs[1:])} ({r} .answer) (withBerth n· {vs[1]} (withSettings (berthAt n· {vs[1]}) ({r} .own)))',
                  asks=lambda ps: f'((n· : Node) × Changing n· {" ".join(ps)})')
@@ -253,15 +253,15 @@ def tick():
 
 
 def send():
-    known = 'h eo (outgoing .now) k (message .now) ej en'
+    known = 'h eo (outgoing .now) k party (message .now) ej en'
     made = f'(et h (sending {known} fine))'
-    back = f'(subst (λ (g· : Node). SendPromise h (outgoing .now) j· (message .now) (t· .answer) g· ⟨outgoing⟩) (sym eu) {made})'
+    back = f'(subst (λ (g· : Node). SendPromise h (outgoing .now) j· party (message .now) (t· .answer) g· ⟨outgoing⟩) (sym eu) {made})'
     return (begins('let area = node.settings.area;')
             + [('source', 'let at = node::places::of_berth(berth);', 1), ('call', OF_BERTH, 'j·', 'ej', 'j-is', None, '(placed k ej)'), ('source', 'let tx = node.berths[at].tx;', 4)]
-            + refuses('let number = node::refusals::send(ordered, area, tx, outgoing.len(), berth, message.len());', 3, SEND_REFUSAL, 'SendAnswer', f'send-refused {known} found')
-            + [('source', 'let sent = sides::sent(area, at, outgoing, message);', 3), ('call', SENT, 't·', 'et', 't-is', f'(h, sending {known} fine)', None),
+            + refuses('let number = node::refusals::send( ordered, area, tx, outgoing.len(), berth, party, message.len(), );', 3, SEND_REFUSAL, 'SendAnswer', f'send-refused {known} found')
+            + [('source', 'let sent = sides::sent(area, at, party, outgoing, message);', 3), ('call', SENT, 't·', 'et', 't-is', f'(h, sending {known} fine)', None),
                ('source', 'berths::put::tx(&mut *node, at, sent.tx);', 2), ('call', PUT_TX, 'u·', 'eu', 'u-is', '(placed k ej)', None), ('source', 'sent.answer', 2),
-               ('return', f'subst (λ (m· : ℕ). SendPromise h (outgoing .now) m· (message .now) (t· .answer) ⟨node⟩ ⟨outgoing⟩) (is-berth {known} fine) {back}')])
+               ('return', f'subst (λ (m· : ℕ). SendPromise h (outgoing .now) m· party (message .now) (t· .answer) ⟨node⟩ ⟨outgoing⟩) (is-berth {known} fine) {back}')])
 
 
 def hand_over():
@@ -340,8 +340,8 @@ def walks(walk):
                doc='Refused, or a frame for a berth.')
     yield walk('tick', [('cards', '&mut [Card]')], 'TickAnswer', 'TickPromise h (cards .now) r h′ cards′', tick(), callees=[ORDER, TICK_REFUSAL, EACH, QUIET], uses=TICK_USES,
                doc='Refused, or each berth from the first on that is not idle is ticked.')
-    yield walk('send', [('outgoing', '&mut [u8]'), ('k', 'u32'), ('message', '&[u8]')], 'SendAnswer',
-               'SendPromise h (outgoing .now) k (message .now) r h′ outgoing′', send(), callees=[ORDER, OF_BERTH, SEND_REFUSAL, SENT, PUT_TX], uses=SEND_USES, doc='Refused, or sent.')
+    yield walk('send', [('outgoing', '&mut [u8]'), ('k', 'u32'), ('party', 'u32'), ('message', '&[u8]')], 'SendAnswer',
+               'SendPromise h (outgoing .now) k party (message .now) r h′ outgoing′', send(), callees=[ORDER, OF_BERTH, SEND_REFUSAL, SENT, PUT_TX], uses=SEND_USES, doc='Refused, or sent.')
     yield walk('turn', [('cards', '&mut [Card]'), ('outgoing', '&[u8]'), ('buffer', '&mut [u8]')], 'TurnAnswer', 'TurnPromise h (cards .now) (outgoing .now) (buffer .now) r h′ cards′ buffer′', turn(),
                callees=[ORDER, TURN_REFUSAL, PASSED_OVER, PROBE, HAND_OVER], uses=TURN_USES, doc='Refused, none due, or handed over.')
     yield walk('change', [('k', 'u32'), ('parameter', 'u32'), ('value', 'u32')], 'ChangeAnswer', 'ChangePromise h k parameter value r h′', change(),

@@ -47,7 +47,7 @@ CALLS = [
     ('frame', [('incoming', '&mut [u8]'), ('identifier', 'u32'), ('payload', '&[u8]')], 'Frame', True,
      'FramePromise h {} (incoming .now) identifier (payload .now) r h′ {} incoming′'),
     ('tick', [], 'Tick', False, 'TickPromise h {} r h′ {}'),
-    ('send', [('outgoing', '&mut [u8]'), ('k', 'u32'), ('message', '&[u8]')], 'Send', True, 'SendPromise h (outgoing .now) k (message .now) r h′ outgoing′'),
+    ('send', [('outgoing', '&mut [u8]'), ('k', 'u32'), ('party', 'u32'), ('message', '&[u8]')], 'Send', True, 'SendPromise h (outgoing .now) k party (message .now) r h′ outgoing′'),
     ('turn', [('outgoing', '&[u8]'), ('buffer', '&mut [u8]')], 'Turn', True, 'TurnPromise h {} (outgoing .now) (buffer .now) r h′ {} buffer′'),
     ('change', [('k', 'u32'), ('parameter', 'u32'), ('value', 'u32')], 'Change', True, 'ChangePromise h k parameter value r h′'),
 ]

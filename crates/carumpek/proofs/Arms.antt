@@ -70,26 +70,26 @@ module _ (h : Node) {order : ℕ} (eo : order ≡ orderOf h) where
 
   -- ---- a send
 
-  module _ {number j : ℕ} (outgoing : List ℕ) (k : ℕ) (m : List ℕ) (ej : j ≡ placeOf k)
-      (en : number ≡ sendRefusal (ltb order unordered) (h .settings .area) (getD (h .berths) j fresh .tx) (length outgoing) k (length m)) where
-    send-number : (cards : List Card) (incoming : List ℕ) → number ≡ refusal (lent h cards incoming outgoing) (send k m)
+  module _ {number j : ℕ} (outgoing : List ℕ) (k party : ℕ) (m : List ℕ) (ej : j ≡ placeOf k)
+      (en : number ≡ sendRefusal (ltb order unordered) (h .settings .area) (getD (h .berths) j fresh .tx) (length outgoing) k party (length m)) where
+    send-number : (cards : List Card) (incoming : List ℕ) → number ≡ refusal (lent h cards incoming outgoing) (send k party m)
     unfolding berthAt
     send-number cards incoming =
-        en ∙ ap (λ (t : Bool). sendRefusal t (h .settings .area) (getD (h .berths) j fresh .tx) (length outgoing) k (length m)) test
-        ∙ send-found h (getD (h .berths) j fresh .tx) k outgoing m (λ l. ap (λ (i : ℕ). getD (h .berths) i fresh .tx) (ej ∙ place-is k l)) cards incoming
+        en ∙ ap (λ (t : Bool). sendRefusal t (h .settings .area) (getD (h .berths) j fresh .tx) (length outgoing) k party (length m)) test
+        ∙ send-found h (getD (h .berths) j fresh .tx) k party outgoing m (λ l. ap (λ (i : ℕ). getD (h .berths) i fresh .tx) (ej ∙ place-is k l)) cards incoming
 
-    pub send-refused : T (not (eqb number 0)) → SendPromise h outgoing k m (SendAnswer.Refused number) h outgoing
+    pub send-refused : T (not (eqb number 0)) → SendPromise h outgoing k party m (SendAnswer.Refused number) h outgoing
     unfolding sendSays
-    send-refused found = refused-send h number (some number found) outgoing k m send-number (SendAnswer.Refused number) refl
+    send-refused found = refused-send h number (some number found) outgoing k party m send-number (SendAnswer.Refused number) refl
 
     module _ (fine : T (not (not (eqb number 0)))) where
-      may-send : (cards : List Card) (incoming : List ℕ) → refusal (lent h cards incoming outgoing) (send k m) ≡ 0
+      may-send : (cards : List Card) (incoming : List ℕ) → refusal (lent h cards incoming outgoing) (send k party m) ≡ 0
       may-send cards incoming = sym (send-number cards incoming) ∙ none number fine
 
       pub is-berth : j ≡ k
-      is-berth = ej ∙ place-is k (send-answered (lent h [] [] outgoing) k m (may-send [] []) .mine)
+      is-berth = ej ∙ place-is k (send-answered (lent h [] [] outgoing) k party m (may-send [] []) .mine)
 
-      pub sending : Sends h (h .settings .area) j outgoing m
+      pub sending : Sends h (h .settings .area) j party outgoing m
       sending = rw is-berth (record { may = may-send; size = refl })
 
   -- ---- a turn

@@ -3,11 +3,12 @@ use mathlib.Core.Path.{_≡_, refl, ap, ap₂, _∙_}
 use Prim.Native.Nat.{ℕ, _*_, _≤_, _<_}
 use native.Mathlib.Omega.{arith}
 use mathlib.Core.Bool.{true, false}
-use mathlib.Core.List.{List, [], _∷_, _++_}
+use mathlib.Core.List.{List, [], _∷_, _++_, map}
 use lib.ListN.{length, take, set, replicate}
 use lib.Dec.{lit<, lit≤}
 use Rattle.rules.specs.Tests.{all, each, firstUnmet}
-use Rattle.rules.specs.Numbers.{berthCount, N-TIMEOUT-A, N-TIMEOUT-Cr}
+use Rattle.rules.specs.Numbers.{berthCount, theLaptop, N-TIMEOUT-A, N-TIMEOUT-Cr}
+use Rattle.rules.specs.Parties.{scheduler, reporting}
 use Rattle.rules.specs.Nodes.{freshWith, fresh, withRx, withTx, berthAt, Held, withBerth}
 use Rattle.rules.specs.Ranges.{InOrder, settingsAllowed, inBlock, takingInRange, sendingInRange, berthInOrder, inOrder}
 use Rattle.rules.specs.Frames.{kind, low, singleFits, shortLength, escapeLength, announced, firstFits, consecutiveFits, flowFits, padded, singleFrame, firstFrame, consecutiveFrame, goFrame, firstSn, nextSn, counted, fillsBlock, ticksMeant, gapOf, share}
@@ -20,11 +21,12 @@ use Rattle.rules.specs.Answers.{refused, heard, codes, sent, handed, shown, cha
 use Rattle.rules.specs.Cards.{rightCards, addedAt, tickedCards, zeroCard, cardAt, frozen, raised, added, isSingle, frameAdds, tickAdds, turnAdds, adds}
 use Rattle.rules.specs.Events.{Call, frame, tick, send, turn, show, change, Event, arrives, ticks, sends, turns, changes}
 use Rattle.rules.specs.Refusals.{needs, refusal, setUpRefusal}
-use Rattle.rules.specs.Calls.{showable, shownLength, showing, afterFrame, afterTurn, done, reply, written, refusedOutcome, outcome, setUpOutcome, answers, final}
+use Rattle.rules.specs.Calls.{showable, shownLength, showing, afterFrame, afterTurn, done, reply, written, refusedOutcome, outcome, setUpOutcome, outcomes, answers, final}
 use Rattle.rules.specs.Alone.{partOf, Part, withCard, Says, hears, expires, accepts, hands, stateAfter, partAfter, alone}
 use Rattle.rules.specs.Clocks.{Idle, timeLeft, mostTime, endCode}
 use Rattle.rules.specs.declared.Settings.{Settings}
 use Rattle.rules.specs.declared.BerthSettings.{BerthSettings}
+use Rattle.rules.specs.declared.Party.{Party}
 use Rattle.rules.specs.declared.Choice.{Choice}
 use Rattle.rules.specs.declared.Taking.{Taking}
 use Rattle.rules.specs.declared.Sending.{Sending}
@@ -33,7 +35,7 @@ use Rattle.rules.specs.declared.Tx.{Tx}
 use Rattle.rules.specs.declared.Berth.{Berth}
 use Rattle.rules.specs.declared.Card.{Card}
 use Rattle.rules.specs.declared.Codes.{Codes}
-use Rattle.rules.specs.declared.Word.the-variants.{Delivered, Ignored, Going}
+use Rattle.rules.specs.declared.Word.the-variants.{Delivered, Failed, Ignored, Going}
 use Rattle.rules.proofs.Ranges.{in-order-range}
 use Rattle.laws.specs.Own.{over, only, ownDone, own, owns, saysOf, ofBerth, Sound, setUp, freshPart, Alone}
 use Rattle.laws.specs.Histories.{Moment, history, moments, historyOf, howMany}
@@ -43,10 +45,12 @@ use Rattle.laws.specs.Rounds.{served, turnOf, StaysDue, Fair}
 use Rattle.laws.specs.Sides.{frameSide, ofSide, handedSide, framesBy}
 use Rattle.laws.specs.Line.{there, back, deliveredIn, begunIn, World, leftA, leftB, carriedA, carriedB, Deed, atA, atB, setUpB, carryA, carryB, acts, living, spares, AllApart, AtRest, begin, MayBegin, Arrived, blank}
 use Rattle.laws.specs.Changes.{settingsAfter}
+use Rattle.laws.specs.Parties.{NamesLast, unnamedHeld, unnamedOutcome}
 use Rattle.laws.specs.Free.{clockAt, reportsIn, cardAfter, LeftAlone, ComesFree, AllComeFree}
 use Rattle.laws.proofs.Isolation.{owns-append}
 use Rattle.laws.proofs.SetUp.{each-alone, each-alone-after-set-up, sound-run}
 use Rattle.laws.proofs.Changes.{run-settings}
+use Rattle.laws.proofs.Parties.{run-names, names-after-set-up, parties-apart}
 use Rattle.laws.proofs.Cards.{card-tallies, frozen-stays, tallies-after-set-up}
 use Rattle.laws.proofs.Gaps.{run-spaced}
 use Rattle.laws.proofs.Fairness.{fair}
@@ -56,7 +60,7 @@ use Rattle.laws.proofs.Free.{ticks-owned, run-left-alone, run-comes-fre
 -- ---- each berth alone: berth 3 awaits and times out, berth 5 sends and receives
 
 abbrev pairOf : ℕ → ℕ → Codes
-pairOf r s = record { receive = r; send = s }
+pairOf r s = record { receive = r; send = s; party = scheduler }
 
 -- BS 2, STmin 0
 abbrev pub twoOwn : BerthSettings
@@ -78,7 +82,7 @@ two =
 -- frame, the tick that ends berth 3's reception
 abbrev pub twoRun : List Call
 twoRun =
-    send 5 (1 ∷ 2 ∷ 3 ∷ []) ∷ change 3 1 4 ∷ change 5 0 20 ∷ frame 0x643 (0x70 ∷ []) ∷ turn (0 ∷ []) ∷ tick ∷ turn blank
+    send 5 0 (1 ∷ 2 ∷ 3 ∷ []) ∷ change 3 1 4 ∷ change 5 0 20 ∷ frame 0x643 (0x70 ∷ []) ∷ turn (0 ∷ []) ∷ tick ∷ turn blank
     ∷ frame 0x645 (0x02 ∷ 0xAA ∷ 0xBB ∷ []) ∷ tick ∷ show 5 Choice.Arrived ∷ []
 
 pub two-sound : Sound two
@@ -88,11 +92,11 @@ two-sound = record { order = in-order-range (two .node) tt; incoming = refl; out
 -- the answers; what is berth 3's own, and what is berth 5's: the refused calls are in neither
 pub two-computed : (answers two twoRun
     ≡ sent 5 ∷ refused 15 ∷ changed 5 ∷ heard 3 0 (Ignored 2) ∷ refused 9 ∷ codes (replicate 10 (pairOf 0 0))
-    ∷ handed 0x665 (0x03 ∷ 1 ∷ 2 ∷ 3 ∷ 0xCC ∷ 0xCC ∷ 0xCC ∷ 0xCC ∷ []) 1 5 ∷ heard 5 0 (Delivered 2)
+    ∷ handed 0x665 (0x03 ∷ 1 ∷ 2 ∷ 3 ∷ 0xCC ∷ 0xCC ∷ 0xCC ∷ 0xCC ∷ []) 1 5 scheduler ∷ heard 5 0 (Delivered 2)
     ∷ codes (set (replicate 10 (pairOf 0 0)) 3 (pairOf 4 0)) ∷ shown (0xAA ∷ 0xBB ∷ []) ∷ [])
     × (owns 3 two twoRun ≡ arrives (0x70 ∷ []) ∷ ticks ∷ ticks ∷ [])
-    × (owns 5 two twoRun ≡ sends (1 ∷ 2 ∷ 3 ∷ []) ∷ changes 0 20 ∷ ticks ∷ turns ∷ arrives (0x02 ∷ 0xAA ∷ 0xBB ∷ []) ∷ ticks ∷ [])
-unfolding owns own ownDone answers final done reply written outcome refusedOutcome refusal needs firstUnmet rightStore rightCards addedAt tickedCards berthAt inOrder all each berthInOrder takingInRange sendingInRange inBlock afterFrame afterTurn cameAt frameCame byKind kind low heardBy toldBy ignored singleCame singleFits withBerth stored tickedNode ticked ran codesOf sentBerth beginsWith passedOver leastDistance distance due reached servedNode handedAt handOver areaOf singleFrame padded showing showable shownLength valueAllowed changedSettings changedBerth
+    × (owns 5 two twoRun ≡ sends scheduler (1 ∷ 2 ∷ 3 ∷ []) ∷ changes 0 20 ∷ ticks ∷ turns ∷ arrives (0x02 ∷ 0xAA ∷ 0xBB ∷ []) ∷ ticks ∷ [])
+unfolding owns own ownDone answers final done reply written outcome refusedOutcome refusal needs firstUnmet rightStore rightCards addedAt tickedCards berthAt inOrder all each berthInOrder takingInRange sendingInRange inBlock afterFrame afterTurn cameAt frameCame byKind kind low heardBy toldBy ignored singleCame singleFits withBerth stored tickedNode ticked ran codesOf sentBerth beginsWith passedOver leastDistance distance due reached servedNode handedAt handOver reporting areaOf singleFrame padded showing showable shownLength valueAllowed changedSettings changedBerth
 two-computed = (refl, refl, refl)
 
 -- so each is as it would be alone
@@ -108,9 +112,9 @@ afresh = setUp two (two .node .settings) twoOwn
 pub afresh-computed : (setUpRefusal 8 2 0 ≡ 0)
     × (answers afresh twoRun
     ≡ sent 5 ∷ changed 3 ∷ changed 5 ∷ heard 3 0 (Ignored 2) ∷ refused 9 ∷ codes (replicate 10 (pairOf 0 0))
-    ∷ handed 0x665 (0x03 ∷ 1 ∷ 2 ∷ 3 ∷ 0xCC ∷ 0xCC ∷ 0xCC ∷ 0xCC ∷ []) 1 5 ∷ heard 5 0 (Delivered 2)
+    ∷ handed 0x665 (0x03 ∷ 1 ∷ 2 ∷ 3 ∷ 0xCC ∷ 0xCC ∷ 0xCC ∷ 0xCC ∷ []) 1 5 scheduler ∷ heard 5 0 (Delivered 2)
     ∷ codes (replicate 10 (pairOf 0 0)) ∷ shown (0xAA ∷ 0xBB ∷ []) ∷ [])
-unfolding setUpRefusal setUpOutcome setUpNode answers final done reply written outcome refusedOutcome refusal needs firstUnmet rightStore rightCards addedAt tickedCards berthAt inOrder all each settingsAllowed berthInOrder takingInRange sendingInRange inBlock afterFrame afterTurn cameAt frameCame byKind kind low heardBy toldBy ignored singleCame singleFits withBerth stored tickedNode ticked ran codesOf sentBerth beginsWith passedOver leastDistance distance due reached servedNode handedAt handOver areaOf singleFrame padded showing showable shownLength valueAllowed changedSettings changedBerth
+unfolding setUpRefusal setUpOutcome setUpNode answers final done reply written outcome refusedOutcome refusal needs firstUnmet rightStore rightCards addedAt tickedCards berthAt inOrder all each settingsAllowed berthInOrder takingInRange sendingInRange inBlock afterFrame afterTurn cameAt frameCame byKind kind low heardBy toldBy ignored singleCame singleFits withBerth stored tickedNode ticked ran codesOf sentBerth beginsWith passedOver leastDistance distance due reached servedNode handedAt handOver reporting areaOf singleFrame padded showing showable shownLength valueAllowed changedSettings changedBerth
 afresh-computed = (refl, refl)
 
 -- so each is as it would be alone from fresh
@@ -121,7 +125,7 @@ afresh-alone k l = each-alone-after-set-up two (two .node .settings) twoOwn twoR
 pub afresh-settings : (berthAt (final afresh twoRun .node) 3 .settings ≡ record { block = 4; stmin = 0 })
     × (berthAt (final afresh twoRun .node) 5 .settings ≡ record { block = 2; stmin = 20 })
     × (berthAt (final afresh twoRun .node) 4 .settings ≡ twoOwn)
-unfolding owns own ownDone settingsAfter setUpRefusal setUpOutcome setUpNode answers final done reply written outcome refusedOutcome refusal needs firstUnmet rightStore rightCards addedAt tickedCards berthAt inOrder all each settingsAllowed berthInOrder takingInRange sendingInRange inBlock afterFrame afterTurn cameAt frameCame byKind kind low heardBy toldBy ignored singleCame singleFits withBerth stored tickedNode ticked ran codesOf sentBerth beginsWith passedOver leastDistance distance due reached servedNode handedAt handOver areaOf singleFrame padded showing showable shownLength valueAllowed changedSettings changedBerth
+unfolding owns own ownDone settingsAfter setUpRefusal setUpOutcome setUpNode answers final done reply written outcome refusedOutcome refusal needs firstUnmet rightStore rightCards addedAt tickedCards berthAt inOrder all each settingsAllowed berthInOrder takingInRange sendingInRange inBlock afterFrame afterTurn cameAt frameCame byKind kind low heardBy toldBy ignored singleCame singleFits withBerth stored tickedNode ticked ran codesOf sentBerth beginsWith passedOver leastDistance distance due reached servedNode handedAt handOver reporting areaOf singleFrame padded showing showable shownLength valueAllowed changedSettings changedBerth
 afresh-settings = (run-settings 3 afresh twoRun, run-settings 5 afresh twoRun, run-settings 4 afresh twoRun)
 
 -- ---- fairness: all ten are due, berth 4 was served last, and nine others are served before it
@@ -145,7 +149,7 @@ crowdRun = replicate 10 (turn blank)
 pub crowd-computed : (over turnOf (answers crowd crowdRun)
     ≡ served 5 ∷ served 6 ∷ served 7 ∷ served 8 ∷ served 9 ∷ served 0 ∷ served 1 ∷ served 2 ∷ served 3 ∷ served 4 ∷ [])
     × StaysDue 4 crowd crowdRun
-unfolding StaysDue over turnOf answers final done reply written outcome refusedOutcome refusal needs firstUnmet rightStore rightCards addedAt tickedCards berthAt inOrder all each berthInOrder takingInRange sendingInRange inBlock afterFrame afterTurn cameAt frameCame byKind kind low heardBy toldBy ignored singleCame singleFits withBerth stored tickedNode ticked ran codesOf sentBerth beginsWith passedOver leastDistance distance due reached servedNode handedAt handOver areaOf singleFrame padded showing showable shownLength
+unfolding StaysDue over turnOf answers final done reply written outcome refusedOutcome refusal needs firstUnmet rightStore rightCards addedAt tickedCards berthAt inOrder all each berthInOrder takingInRange sendingInRange inBlock afterFrame afterTurn cameAt frameCame byKind kind low heardBy toldBy ignored singleCame singleFits withBerth stored tickedNode ticked ran codesOf sentBerth beginsWith passedOver leastDistance distance due reached servedNode handedAt handOver reporting areaOf singleFrame padded showing showable shownLength
 crowd-computed = (refl, ((λ e. tt), ((λ e. tt), ((λ e. tt), ((λ e. tt), ((λ e. tt), ((λ e. tt), ((λ e. tt), ((λ e. tt), ((λ e. tt), ((λ e. tt), tt)))))))))))
 
 pub crowd-fair : Fair 4 (over turnOf (answers crowd crowdRun))
@@ -163,8 +167,8 @@ nodeOf a bs stmin =
       cards = zeroCards;
     }
 
-abbrev pub scheduler : Held
-scheduler = nodeOf 36 8 0
+abbrev pub harbour : Held
+harbour = nodeOf 36 8 0
 
 abbrev mast : Held
 mast = nodeOf 40 2 1
@@ -176,31 +180,33 @@ programme =
 
 abbrev deeds : List Deed
 deeds =
-    setUpB 7 0 0 ∷ atA (send 6 (9 ∷ [])) ∷ atA (turn blank) ∷ carryB ∷ atB (frame 0x647 (0x50 ∷ 1 ∷ [])) ∷ atB (send 7 (5 ∷ [])) ∷
+    setUpB 7 0 0 ∷ atA (send 6 1 (9 ∷ [])) ∷ atA (turn blank) ∷ carryB ∷ atB (frame 0x647 (0x50 ∷ 1 ∷ [])) ∷ atB (send 7 0 (5 ∷ [])) ∷
     atB (turn blank) ∷ atB (turn blank) ∷ carryA ∷ atA (turn blank) ∷ atA (turn blank) ∷ carryB ∷ atA tick ∷
     atB tick ∷ atA tick ∷ atB tick ∷ atA (turn blank) ∷ carryB ∷ atB (turn blank) ∷ carryA ∷ atA (turn blank) ∷
     carryB ∷ atA tick ∷ atB tick ∷ atA tick ∷ atB tick ∷ atA (turn blank) ∷ carryB ∷ atB (turn blank) ∷ carryA ∷
     atA (turn blank) ∷ carryB ∷ []
 
-may-begin : MayBegin 2 7 programme scheduler mast
+-- either party may send
+may-begin : (party : ℕ) → party ≤ theLaptop → MayBegin 2 7 party programme harbour mast
 unfolding setUpNode berthAt inOrder all each berthInOrder
-may-begin =
+may-begin party allowed =
     record {
       small-i = lit< tt;
       small-j = lit< tt;
-      sound-a = record { order = in-order-range (scheduler .node) tt; incoming = refl; outgoing = refl; ten = refl };
+      sound-a = record { order = in-order-range (harbour .node) tt; incoming = refl; outgoing = refl; ten = refl };
       sound-b = record { order = in-order-range (mast .node) tt; incoming = refl; outgoing = refl; ten = refl };
       idle-a = refl;
       idle-b = refl;
+      allowed = allowed;
       some = lit≤ tt;
       fits-a = lit≤ tt;
       fits-b = lit≤ tt;
     }
 
 -- the deeds keep apart, they end at rest, and this was handed over
-pub deeds-computed : AllApart 2 7 (begin 2 programme scheduler mast) deeds
-    × AtRest 2 7 (living 2 7 (begin 2 programme scheduler mast) deeds)
-    × (living 2 7 (begin 2 programme scheduler mast) deeds .log
+pub deeds-computed : AllApart 2 7 (begin 2 0 programme harbour mast) deeds
+    × AtRest 2 7 (living 2 7 (begin 2 0 programme harbour mast) deeds)
+    × (living 2 7 (begin 2 0 programme harbour mast) deeds .log
     ≡ there (0x10 ∷ 36 ∷ 1 ∷ 2 ∷ 3 ∷ 4 ∷ 5 ∷ 6 ∷ [])
     ∷ back (0x30 ∷ 2 ∷ 1 ∷ 0xCC ∷ 0xCC ∷ 0xCC ∷ 0xCC ∷ 0xCC ∷ [])
     ∷ there (0x21 ∷ 7 ∷ 8 ∷ 9 ∷ 10 ∷ 11 ∷ 12 ∷ 13 ∷ [])
@@ -211,18 +217,19 @@ pub deeds-computed : AllApart 2 7 (begin 2 programme scheduler mast) deeds
     ∷ back (0x30 ∷ 2 ∷ 1 ∷ 0xCC ∷ 0xCC ∷ 0xCC ∷ 0xCC ∷ 0xCC ∷ [])
     ∷ there (0x25 ∷ 35 ∷ 36 ∷ 0xCC ∷ 0xCC ∷ 0xCC ∷ 0xCC ∷ 0xCC ∷ [])
     ∷ [])
-unfolding AllApart spares frameSide living acts leftA leftB carriedA carriedB framesBy handedSide ofSide ofBerth only reports reported wordReports codesReports failedSide saysOf deliveredIn over answers final done reply written outcome refusedOutcome refusal needs firstUnmet rightStore rightCards addedAt tickedCards berthAt inOrder all each settingsAllowed berthInOrder takingInRange sendingInRange inBlock afterFrame afterTurn cameAt frameCame byKind kind low heardBy toldBy ignored singleCame singleFits withBerth stored tickedNode ticked ran codesOf sentBerth beginsWith passedOver leastDistance distance due reached servedNode handedAt handOver areaOf singleFrame padded showing showable shownLength setUpNode firstCame shortLength escapeLength announced firstFits begun awaitedCame consecutiveFits piece grown completed afterTook took wrongSn counted fillsBlock nextSn share flowFits byStatus granted ticksMeant gapOf goFrame firstFrame consecutiveFrame moved afterConsecutive setUpOutcome setUpRefusal
+unfolding AllApart spares frameSide living acts leftA leftB carriedA carriedB framesBy handedSide ofSide ofBerth only reports reported wordReports codesReports failedSide saysOf deliveredIn over answers final done reply written outcome refusedOutcome refusal needs firstUnmet rightStore rightCards addedAt tickedCards berthAt inOrder all each settingsAllowed berthInOrder takingInRange sendingInRange inBlock afterFrame afterTurn cameAt frameCame byKind kind low heardBy toldBy ignored singleCame singleFits withBerth stored tickedNode ticked ran codesOf sentBerth beginsWith passedOver leastDistance distance due reached servedNode handedAt handOver reporting areaOf singleFrame padded showing showable shownLength setUpNode firstCame shortLength escapeLength announced firstFits begun awaitedCame consecutiveFits piece grown completed afterTook took wrongSn counted fillsBlock nextSn share flowFits byStatus granted ticksMeant gapOf goFrame firstFrame consecutiveFrame moved afterConsecutive setUpOutcome setUpRefusal
 deeds-computed = (
   (lit< tt, ((λ e. tt), ((λ e. tt), (tt, ((λ e. tt), ((λ e. tt), ((λ e. tt), ((λ e. tt), (tt, ((λ e. tt), ((λ e. tt), (tt, ((λ e. tt), ((λ e. tt), ((λ e. tt), ((λ e. tt), ((λ e. tt), (tt, ((λ e. tt), (tt, ((λ e. tt), (tt, ((λ e. tt), ((λ e. tt), ((λ e. tt), ((λ e. tt), ((λ e. tt), (tt, ((λ e. tt), (tt, ((λ e. tt), (tt, tt)))))))))))))))))))))))))))))))),
   record { none-there = refl; none-back = refl; none-due = refl; no-gap = refl; no-flow = refl },
   refl,
 )
 
-pub programme-arrived : Arrived 2 7 programme (living 2 7 (begin 2 programme scheduler mast) deeds)
-programme-arrived = line-law 2 7 programme scheduler mast may-begin deeds (deeds-computed .0) (deeds-computed .1)
+pub programme-arrived : Arrived 2 7 0 programme (living 2 7 (begin 2 0 programme harbour mast) deeds)
+programme-arrived = line-law 2 7 0 programme harbour mast (may-begin 0 (lit≤ tt)) deeds (deeds-computed .0) (deeds-computed .1)
 
--- ---- the same message, and the taker's berth is changed to BS 4 and STmin 0 after the first frame was handed over and before it comes in: two
--- blocks, and no gap. From Begun on a change of it is refused with 15, and after Delivered answered; the sender's berth is changed under way
+-- ---- the same message by the laptop, and the taker's berth is changed to BS 4 and STmin 0 after the first frame was handed over and before it
+-- comes in: two blocks, and no gap. From Begun on a change of it is refused with 15, and after Delivered answered; the sender's berth is changed
+-- under way
 
 abbrev toBegun : List Deed
 toBegun = atA (turn blank) ∷ atB (change 7 1 4) ∷ atB (change 7 0 0) ∷ carryB ∷ []
@@ -233,9 +240,9 @@ fromBegun =
     atA (turn blank) ∷ carryB ∷ atA (turn blank) ∷ carryB ∷ atB (turn blank) ∷ carryA ∷ atA (turn blank) ∷ carryB ∷ atB (change 7 1 1) ∷ []
 
 abbrev changing : List Deed → World
-changing ds = living 2 7 (begin 2 programme scheduler mast) ds
+changing ds = living 2 7 (begin 2 1 programme harbour mast) ds
 
-pub changes-computed : AllApart 2 7 (begin 2 programme scheduler mast) (toBegun ++ fromBegun)
+pub changes-computed : AllApart 2 7 (begin 2 1 programme harbour mast) (toBegun ++ fromBegun)
     × AtRest 2 7 (changing (toBegun ++ fromBegun))
     × (refusal (changing toBegun .b) (change 7 1 1) ≡ 15)
     × (changing (toBegun ++ fromBegun) .begun ≡ record { block = 4; stmin = 0 } ∷ [])
@@ -254,7 +261,7 @@ unfolding
     AllApart spares living acts leftA leftB carriedA carriedB framesBy handedSide ofSide ofBerth only reports reported wordReports saysOf
     deliveredIn begunIn over done reply outcome refusedOutcome refusal needs firstUnmet rightStore rightCards addedAt berthAt inOrder all each
     berthInOrder takingInRange sendingInRange inBlock afterFrame afterTurn cameAt frameCame byKind kind low heardBy toldBy withBerth stored
-    sentBerth beginsWith passedOver leastDistance distance due reached servedNode handedAt handOver areaOf padded setUpNode firstCame
+    sentBerth beginsWith passedOver leastDistance distance due reached servedNode handedAt handOver reporting areaOf padded setUpNode firstCame
     shortLength escapeLength announced firstFits begun awaitedCame consecutiveFits piece grown completed afterTook took counted fillsBlock
     nextSn share flowFits byStatus granted ticksMeant gapOf goFrame firstFrame consecutiveFrame moved afterConsecutive valueAllowed
     changedSettings changedBerth
@@ -267,8 +274,8 @@ changes-computed = (
   refl,
 )
 
-pub changed-arrived : Arrived 2 7 programme (changing (toBegun ++ fromBegun))
-changed-arrived = line-law 2 7 programme scheduler mast may-begin (toBegun ++ fromBegun) (changes-computed .0) (changes-computed .1)
+pub changed-arrived : Arrived 2 7 1 programme (changing (toBegun ++ fromBegun))
+changed-arrived = line-law 2 7 1 programme harbour mast (may-begin 1 (lit≤ tt)) (toBegun ++ fromBegun) (changes-computed .0) (changes-computed .1)
 
 -- ---- the law of the gaps: berth 6 asks for 5 ms, and a frame is called for after each tick
 
@@ -277,36 +284,36 @@ asksFive = 0x30 ∷ 0 ∷ 5 ∷ []
 
 abbrev pub toSix : List Call
 toSix =
-    send 6 (take 20 programme) ∷ turn blank ∷ frame 0x646 asksFive ∷ turn blank ∷ tick ∷ turn blank ∷ tick ∷ turn blank ∷ tick ∷ turn blank ∷
+    send 6 0 (take 20 programme) ∷ turn blank ∷ frame 0x646 asksFive ∷ turn blank ∷ tick ∷ turn blank ∷ tick ∷ turn blank ∷ tick ∷ turn blank ∷
     tick ∷ turn blank ∷ tick ∷ turn blank ∷ tick ∷ turn blank ∷ []
 
 abbrev moment : Event → Says → Moment
 moment e x = record { before = Rx.Idle; event = e; said = x }
 
 abbrev quietTick : Moment
-quietTick = moment ticks (expires 0 0)
+quietTick = moment ticks (expires 0 0 scheduler)
 
 abbrev beforeGoing : List Moment
-beforeGoing = moment (sends (take 20 programme)) accepts ∷ moment turns (hands (0x10 ∷ 20 ∷ 1 ∷ 2 ∷ 3 ∷ 4 ∷ 5 ∷ 6 ∷ []) 0) ∷ []
+beforeGoing = moment (sends scheduler (take 20 programme)) accepts ∷ moment turns (hands (0x10 ∷ 20 ∷ 1 ∷ 2 ∷ 3 ∷ 4 ∷ 5 ∷ 6 ∷ []) 0 scheduler) ∷ []
 
 abbrev firstOfTwo : Moment
-firstOfTwo = moment turns (hands (0x21 ∷ 7 ∷ 8 ∷ 9 ∷ 10 ∷ 11 ∷ 12 ∷ 13 ∷ []) 0)
+firstOfTwo = moment turns (hands (0x21 ∷ 7 ∷ 8 ∷ 9 ∷ 10 ∷ 11 ∷ 12 ∷ 13 ∷ []) 0 scheduler)
 
 abbrev secondOfTwo : Moment
-secondOfTwo = moment turns (hands (0x22 ∷ 14 ∷ 15 ∷ 16 ∷ 17 ∷ 18 ∷ 19 ∷ 20 ∷ []) 1)
+secondOfTwo = moment turns (hands (0x22 ∷ 14 ∷ 15 ∷ 16 ∷ 17 ∷ 18 ∷ 19 ∷ 20 ∷ []) 1 scheduler)
 
 -- the turns after each of the first five ticks answer None, the one after the sixth is berth 6's
-pub to-six-computed : historyOf 6 scheduler toSix
+pub to-six-computed : historyOf 6 harbour toSix
     ≡ beforeGoing ++ (moment (arrives asksFive) (hears 0 Going) ∷ [] ++ (firstOfTwo ∷ replicate 6 quietTick ++ secondOfTwo ∷ []))
 unfolding
     historyOf moments own ownDone saysOf outcome done reply refusal needs firstUnmet rightStore rightCards addedAt tickedCards
     berthAt inOrder all each berthInOrder sendingInRange inBlock afterFrame afterTurn cameAt frameCame byKind kind low
     toldBy withBerth stored tickedNode ticked ran codesOf sentBerth beginsWith passedOver leastDistance distance due reached servedNode
-    handedAt handOver areaOf padded setUpNode flowFits byStatus granted ticksMeant gapOf firstFrame consecutiveFrame counted fillsBlock
+    handedAt handOver reporting areaOf padded setUpNode flowFits byStatus granted ticksMeant gapOf firstFrame consecutiveFrame counted fillsBlock
     nextSn share moved afterConsecutive
 to-six-computed = refl
 
-pub sixFrames : TwoFrames (historyOf 6 scheduler toSix)
+pub sixFrames : TwoFrames (historyOf 6 harbour toSix)
 unfolding kind howMany
 sixFrames =
     record {
@@ -326,7 +333,7 @@ sixFrames =
     }
 
 pub six-spaced : Spaced sixFrames
-six-spaced = run-spaced 6 scheduler toSix sixFrames
+six-spaced = run-spaced 6 harbour toSix sixFrames
 
 -- so 5 ms pass between the two, by ticks 1,000 microseconds apart
 pub six-in-time : (end : ℕ) (times : List ℕ) → length times ≡ 6 → Ticking 1000 0 end times → 5000 ≤ end
@@ -373,10 +380,10 @@ unknown = arrives (0x35 ∷ 0 ∷ 0 ∷ [])
 
 -- sends of one byte and of eight; the ticks that end a side whose timer is 0
 abbrev short : Event
-short = sends (9 ∷ [])
+short = sends scheduler (9 ∷ [])
 
 abbrev long : Event
-long = sends (1 ∷ 2 ∷ 3 ∷ 4 ∷ 5 ∷ 6 ∷ 7 ∷ 8 ∷ [])
+long = sends scheduler (1 ∷ 2 ∷ 3 ∷ 4 ∷ 5 ∷ 6 ∷ 7 ∷ 8 ∷ [])
 
 abbrev thousand : List Event
 thousand = replicate 1000 ticks
@@ -399,7 +406,7 @@ pub all-ends-computed : (frozen (alone eight newPart allEnds .card) ≡ false)
 unfolding
     kind low singleFits shortLength escapeLength announced firstFits consecutiveFits flowFits padded singleFrame firstFrame goFrame
     share ignored singleCame begun firstCame turnedAway piece completed wrongSn awaitedCame byStatus heardBy toldBy byKind frameCame
-    ran ticked handOver beginsWith sentBerth frozen added isSingle frameAdds tickAdds turnAdds adds stateAfter partAfter alone
+    ran ticked handOver reporting beginsWith sentBerth frozen added isSingle frameAdds tickAdds turnAdds adds stateAfter partAfter alone
 all-ends-computed = (refl, refl)
 
 -- so these are the counts of its history, and the ten begun are three delivered, six failed and the one under way
@@ -415,7 +422,7 @@ unfolding
     setUpRefusal setUpOutcome setUpNode final done outcome refusedOutcome refusal needs firstUnmet rightStore rightCards addedAt
     tickedCards berthAt inOrder all each settingsAllowed berthInOrder takingInRange sendingInRange inBlock afterFrame
     afterTurn cameAt frameCame byKind kind low heardBy toldBy ignored singleCame singleFits withBerth stored tickedNode ticked ran
-    sentBerth beginsWith passedOver leastDistance distance due reached servedNode handedAt handOver areaOf singleFrame padded cardAt
+    sentBerth beginsWith passedOver leastDistance distance due reached servedNode handedAt handOver reporting areaOf singleFrame padded cardAt
     frozen added isSingle frameAdds tickAdds turnAdds valueAllowed changedSettings changedBerth
 afresh-cards = (refl, refl)
 
@@ -435,14 +442,14 @@ pub edge-computed : (frozen (partWith 4294967294 4294967293 .card) ≡ false)
     × (alone eight (partWith 4294967294 4294967293) (single ∷ single ∷ tooLong ∷ turns ∷ short ∷ turns ∷ []) .card ≡ partWith 4294967295 4294967294 .card)
 unfolding
     kind low singleFits shortLength escapeLength announced firstFits singleCame firstCame turnedAway heardBy byKind frameCame
-    handOver beginsWith sentBerth frozen added isSingle frameAdds turnAdds adds stateAfter partAfter alone
+    handOver reporting beginsWith sentBerth frozen added isSingle frameAdds turnAdds adds stateAfter partAfter alone
 edge-computed = (refl, refl, refl, refl)
 
 -- and so do any events
 pub edge-frozen : (es : List Event) → alone eight (partWith 4294967295 4294967294) es .card ≡ partWith 4294967295 4294967294 .card
 edge-frozen es = frozen-stays eight (partWith 4294967295 4294967294) es (edge-computed .2)
 
--- ---- every berth comes free: a node with every state of a side, A 8, BS 2, STmin 0
+-- ---- every berth comes free: a node with every state of a side, A 8, BS 2, STmin 0; berth 6 sends for the laptop
 
 abbrev taking : ℕ → Taking
 taking taken = record { total = 8; got = 6; sn = firstSn; taken = taken }
@@ -453,6 +460,9 @@ sending left = record { length = 8; position = 6; sn = firstSn; block = 0; sent 
 abbrev berthOf : Rx → ℕ → Tx → Berth
 berthOf rx last tx = record { settings = twoOwn; rx = rx; last = last; tx = tx }
 
+abbrev pub laptop : Party
+laptop = record { 0 = theLaptop }
+
 abbrev pub stuck : Held
 stuck =
     record {
@@ -462,7 +472,7 @@ stuck =
         berths =
             berthOf (Rx.OwesOverflow 999) 5 Tx.Idle ∷ berthOf (Rx.OwesGo (taking 0) 0) 0 (Tx.SingleDue scheduler 3 999)
             ∷ berthOf (Rx.Awaits (taking 1) 400) 0 (Tx.FirstDue scheduler 8 0) ∷ berthOf Rx.Idle 8 (Tx.AwaitsFlow scheduler (sending 0) 998) ∷ freshWith twoOwn
-            ∷ berthOf Rx.Idle 0 (Tx.Consecutive scheduler (sending 0) 500) ∷ berthOf (Rx.Awaits (taking 0) 0) 0 (Tx.Consecutive scheduler (sending 128) 0)
+            ∷ berthOf Rx.Idle 0 (Tx.Consecutive scheduler (sending 0) 500) ∷ berthOf (Rx.Awaits (taking 0) 0) 0 (Tx.Consecutive laptop (sending 128) 0)
             ∷ replicate 3 (freshWith twoOwn);
       };
       incoming = replicate 80 1;
@@ -484,8 +494,8 @@ unfolding berthAt
 stuck-six = (refl, refl, refl, refl)
 
 -- so it reports these
-pub stuck-reports : (reportsIn receive 6 (answers stuck (replicate mostTime tick)) ≡ record { berth = 6; side = receive; code = 4 } ∷ [])
-    × (reportsIn sendSide 6 (answers stuck (replicate mostTime tick)) ≡ record { berth = 6; side = sendSide; code = 2 } ∷ [])
+pub stuck-reports : (reportsIn receive 6 (answers stuck (replicate mostTime tick)) ≡ record { berth = 6; side = receive; code = 4; party = scheduler } ∷ [])
+    × (reportsIn sendSide 6 (answers stuck (replicate mostTime tick)) ≡ record { berth = 6; side = sendSide; code = 2; party = laptop } ∷ [])
 unfolding berthAt
 stuck-reports = (
   stuck-free .each 6 (lit< tt) .one-code receive (λ e. let z : _≡_ {A = ℕ} 0 1 = cc in omega arith),
@@ -514,18 +524,18 @@ stuck-grown = stuck-free .each 6 (lit< tt) .grown (ap frozen stuck-counted)
 -- the others are live: berth 8 hears a single frame, a message is sent to berth 9, and berth 5 has a turn; of these calls the tick alone is
 -- berth 6's own
 abbrev pub live : List Call
-live = frame 0x648 (0x02 ∷ 0xAA ∷ 0xBB ∷ []) ∷ send 9 (1 ∷ 2 ∷ 3 ∷ []) ∷ tick ∷ turn blank ∷ []
+live = frame 0x648 (0x02 ∷ 0xAA ∷ 0xBB ∷ []) ∷ send 9 1 (1 ∷ 2 ∷ 3 ∷ []) ∷ tick ∷ turn blank ∷ []
 
 live-computed : (answers stuck live
     ≡ heard 8 0 (Delivered 2) ∷ sent 9
     ∷ codes (pairOf 2 0 ∷ pairOf 0 2 ∷ replicate 8 (pairOf 0 0))
-    ∷ handed 0x665 (0x21 ∷ 2 ∷ 2 ∷ 0xCC ∷ 0xCC ∷ 0xCC ∷ 0xCC ∷ 0xCC ∷ []) 1 1 ∷ [])
+    ∷ handed 0x665 (0x21 ∷ 2 ∷ 2 ∷ 0xCC ∷ 0xCC ∷ 0xCC ∷ 0xCC ∷ 0xCC ∷ []) 1 1 scheduler ∷ [])
     × (owns 6 stuck live ≡ ticks ∷ [])
 unfolding
     owns own ownDone answers done reply outcome refusal needs firstUnmet rightStore rightCards addedAt tickedCards berthAt inOrder all each
     berthInOrder takingInRange sendingInRange inBlock afterFrame afterTurn cameAt frameCame byKind kind low heardBy singleCame
     singleFits withBerth stored tickedNode ticked ran codesOf sentBerth beginsWith passedOver leastDistance distance due reached servedNode
-    handedAt handOver areaOf consecutiveFrame share padded
+    handedAt handOver reporting areaOf consecutiveFrame share padded
 live-computed = (refl, refl)
 
 pub live-owned : owns 6 stuck (live ++ replicate 1127 tick) ≡ replicate mostTime ticks
@@ -544,21 +554,21 @@ live-free = run-comes-free mostTime 6 stuck (live ++ replicate 1127 tick) (stuck
 -- handed over
 
 abbrev pub dip : List Call
-dip = send 6 (take 20 programme) ∷ turn blank ∷ frame 0x646 (0x30 ∷ 0 ∷ 0x7F ∷ []) ∷ turn blank ∷ []
+dip = send 6 1 (take 20 programme) ∷ turn blank ∷ frame 0x646 (0x30 ∷ 0 ∷ 0x7F ∷ []) ∷ turn blank ∷ []
 
-dipped-time : timeLeft (clockAt sendSide 6 (final scheduler dip)) ≡ mostTime
+dipped-time : timeLeft (clockAt sendSide 6 (final harbour dip)) ≡ mostTime
 unfolding
     final outcome done reply refusal needs firstUnmet rightStore rightCards addedAt tickedCards berthAt inOrder all each
     berthInOrder sendingInRange inBlock afterFrame afterTurn cameAt frameCame byKind kind low toldBy withBerth stored sentBerth beginsWith
-    passedOver leastDistance distance due reached servedNode handedAt handOver areaOf padded setUpNode flowFits byStatus granted
+    passedOver leastDistance distance due reached servedNode handedAt handOver reporting areaOf padded setUpNode flowFits byStatus granted
     ticksMeant gapOf firstFrame consecutiveFrame counted fillsBlock nextSn share moved afterConsecutive
 dipped-time = refl
 
 abbrev pub dipped : Held
-dipped = final scheduler dip
+dipped = final harbour dip
 
 pub dipped-sound : Sound dipped
-dipped-sound = sound-run scheduler dip (may-begin .sound-a)
+dipped-sound = sound-run harbour dip (may-begin 0 (lit≤ tt) .sound-a)
 
 -- IT IS IN ORDER, AND NO FEWER THAN 1,128 TICKS FREE IT
 pub sharp : InOrder (dipped .node) × ((n : ℕ) → n < mostTime → Idle sendSide (berthAt (final dipped (replicate n tick) .node) 6) → ⊥)
@@ -570,3 +580,74 @@ sharp = (
       let none : timeLeft (clockAt sendSide 6 (final dipped (replicate n tick))) ≡ 0 = rw idle in
       omega (arith, left, none, dipped-time),
 )
+
+-- ---- the service laptop: after a set-up with A 8 and BS 2 one party sends three bytes to berth 3 and the other eight to berth 4, and then each to
+-- the other's berth
+
+abbrev pub shared : (one other : ℕ) → List Call
+shared one other =
+    send 3 one (1 ∷ 2 ∷ 3 ∷ []) ∷ send 4 other (replicate 8 5) ∷ send 3 other (9 ∷ []) ∷ send 4 2 (9 ∷ []) ∷ turn blank ∷ turn blank
+    ∷ frame 0x644 (0x32 ∷ 0 ∷ 0 ∷ []) ∷ send 3 other (9 ∷ []) ∷ send 4 one (replicate 8 5) ∷ turn blank ∷ turn blank ∷ frame 0x644 (0x35 ∷ 0 ∷ 0 ∷ []) ∷ []
+
+-- the laptop's to berth 3 first: while it is being sent the scheduler's is refused with 8, and a third party with 18; each report names the
+-- party of the last answered send
+pub shared-computed : (answers afresh (shared 1 0)
+    ≡ sent 3 ∷ sent 4 ∷ refused 8 ∷ refused 18
+    ∷ handed 0x663 (0x03 ∷ 1 ∷ 2 ∷ 3 ∷ 0xCC ∷ 0xCC ∷ 0xCC ∷ 0xCC ∷ []) 1 3 laptop
+    ∷ handed 0x664 (0x10 ∷ 8 ∷ 5 ∷ 5 ∷ 5 ∷ 5 ∷ 5 ∷ 5 ∷ []) 0 0 scheduler
+    ∷ heard 4 0 (Failed 9 scheduler) ∷ sent 3 ∷ sent 4
+    ∷ handed 0x663 (0x01 ∷ 9 ∷ 0xCC ∷ 0xCC ∷ 0xCC ∷ 0xCC ∷ 0xCC ∷ 0xCC ∷ []) 1 8 scheduler
+    ∷ handed 0x664 (0x10 ∷ 8 ∷ 5 ∷ 5 ∷ 5 ∷ 5 ∷ 5 ∷ 5 ∷ []) 0 0 scheduler
+    ∷ heard 4 0 (Failed 6 laptop) ∷ [])
+    × (over reports (answers afresh (shared 1 0))
+    ≡ record { berth = 3; side = sendSide; code = 1; party = laptop } ∷ record { berth = 4; side = sendSide; code = 9; party = scheduler }
+    ∷ record { berth = 3; side = sendSide; code = 1; party = scheduler } ∷ record { berth = 4; side = sendSide; code = 6; party = laptop } ∷ [])
+unfolding
+    over reports reported wordReports failedSide setUpRefusal setUpOutcome setUpNode answers done reply outcome refusedOutcome refusal needs firstUnmet rightStore
+    rightCards addedAt berthAt inOrder all each settingsAllowed berthInOrder sendingInRange inBlock afterFrame afterTurn cameAt frameCame byKind kind low
+    toldBy withBerth stored sentBerth beginsWith passedOver leastDistance distance due reached servedNode handedAt handOver reporting
+    areaOf singleFrame firstFrame padded flowFits byStatus
+shared-computed = (refl, refl)
+
+pub shared-names : (k : ℕ) → k < berthCount → (last : Party) → NamesLast k last afresh (shared 1 0)
+shared-names k l last = names-after-set-up two (two .node .settings) twoOwn (shared 1 0) k l (afresh-computed .0) last
+
+-- the other way round: the same without the names
+pub shared-apart : (map unnamedOutcome (outcomes afresh (shared 1 0)) ≡ map unnamedOutcome (outcomes afresh (shared 0 1)))
+    × (unnamedHeld (final afresh (shared 1 0)) ≡ unnamedHeld (final afresh (shared 0 1)))
+shared-apart = parties-apart afresh afresh (shared 1 0) (shared 0 1) (record { start = refl; calls = refl })
+
+-- a tick ends a message of each at these berths: one awaits flow control, the other a turn
+abbrev pub late : (one other : Party) → Held
+late one other =
+    record {
+      node = record {
+        settings = record { area = 8 };
+        served = 9;
+        berths = set (set (replicate berthCount (freshWith twoOwn)) 3 (berthOf Rx.Idle 0 (Tx.AwaitsFlow one (sending 0) 999))) 4 (berthOf Rx.Idle 0 (Tx.SingleDue other 1 999));
+      };
+      incoming = replicate 80 0;
+      outgoing = replicate 80 0;
+      cards = zeroCards;
+    }
+
+-- then the other party sends to berth 3
+abbrev pub lateRun : (other : ℕ) → List Call
+lateRun other = tick ∷ send 3 other (7 ∷ []) ∷ turn blank ∷ []
+
+pub late-computed : answers (late laptop scheduler) (lateRun 0)
+    ≡ codes (set (set (replicate 10 (pairOf 0 0)) 3 (record { receive = 0; send = 3; party = laptop })) 4 (pairOf 0 2)) ∷ sent 3
+    ∷ handed 0x663 (0x01 ∷ 7 ∷ 0xCC ∷ 0xCC ∷ 0xCC ∷ 0xCC ∷ 0xCC ∷ 0xCC ∷ []) 1 3 scheduler ∷ []
+unfolding
+    answers done reply outcome refusal needs firstUnmet rightStore rightCards addedAt tickedCards berthAt inOrder all each berthInOrder sendingInRange
+    inBlock afterTurn withBerth stored tickedNode ticked ran codesOf sentBerth beginsWith passedOver leastDistance distance due reached servedNode
+    handedAt handOver reporting areaOf singleFrame padded
+late-computed = refl
+
+pub late-names : NamesLast 3 laptop (late laptop scheduler) (lateRun 0) × NamesLast 4 scheduler (late laptop scheduler) (lateRun 0)
+unfolding berthAt
+late-names = (run-names 3 laptop (late laptop scheduler) (lateRun 0) refl, run-names 4 scheduler (late laptop scheduler) (lateRun 0) refl)
+
+pub late-apart : (map unnamedOutcome (outcomes (late laptop scheduler) (lateRun 0)) ≡ map unnamedOutcome (outcomes (late scheduler laptop) (lateRun 1)))
+    × (unnamedHeld (final (late laptop scheduler) (lateRun 0)) ≡ unnamedHeld (final (late scheduler laptop) (lateRun 1)))
+late-apart = parties-apart (late laptop scheduler) (late scheduler laptop) (lateRun 0) (lateRun 1) (record { start = refl; calls = refl })

@@ -11,9 +11,10 @@ use lib.ListN.{length, getD, replicate}
 use lib.Dec.{T, eqb}
 use Rattle.rules.specs.Tests.{unless}
 use Rattle.rules.specs.Numbers.{berthCount, N-TIMEOUT-A, N-TIMEOUT-Cr}
+use Rattle.rules.specs.Parties.{scheduler, partyOf, reporting}
 use Rattle.rules.specs.Nodes.{berthAt, Held}
 use Rattle.rules.specs.Ranges.{InOrder}
-use Rattle.rules.specs.Ticks.{rxCode, rxTicked, txCode, ticked}
+use Rattle.rules.specs.Ticks.{rxCode, rxTicked, txCode, txTicked, txParty, ticked}
 use Rattle.rules.specs.Stores.{areaOf, tickedNode}
 use Rattle.rules.specs.Answers.{refused, Side, receive, send, Report, reported}
 use Rattle.rules.specs.Events.{Call, tick, Event, ticks}
@@ -21,11 +22,13 @@ use Rattle.rules.specs.Cards.{cardAt, frozen, plus, raised, added, underWay, ti
 use Rattle.rules.specs.Refusals.{refusal}
 use Rattle.rules.specs.Calls.{done, reply, written, bufferOf, refusedOutcome, outcome, answers, final}
 use Rattle.rules.specs.Alone.{Part, partOf, Says, expires, accepts, stateAfter, partAfter, says, alone, saysAll}
-use Rattle.rules.specs.Clocks.{still, clockOf, timeLeft, mostTime, endCode, tickCode, codeAt, codeWithin}
+use Rattle.rules.specs.Clocks.{still, txClock, clockOf, timeLeft, mostTime, endCode, tickCode, sideParty, codeAt, codeWithin}
 use Rattle.rules.specs.declared.Settings.{Settings}
+use Rattle.rules.specs.declared.Party.{Party}
 use Rattle.rules.specs.declared.Berth.{Berth}
 use Rattle.rules.specs.declared.Card.{Card}
 use Rattle.rules.proofs.Cases.{split, pick-either, and-false}
+use Rattle.rules.proofs.Parties.{kept-own, kept-ticked, named-alike, kept-reporting}
 use Rattle.rules.proofs.Order.{order-kept, run-in-order}
 use Rattle.rules.proofs.Clocks.{InTime, Tick, goes-on, ends, rests, side-tick, still-silent, silent-after, Within, is-now, is-later, one-more-tick, stays-in-time, time-ticked, code-first, code-next, code-within, in-time, time-most, none-within, all-within, over-idle, one-report, no-report, under-way-stays}
 use Rattle.laws.specs.Own.{over, only, ownDone, own, owns, saysOf, saidReports}
@@ -46,10 +49,17 @@ timely-on : (b : Berth) → Timely b → Timely (ticked b)
 timely-on b t s = stays-in-time s b (t s)
 
 -- two codes of one side, of which one at most is not 0, are reported as one
-reported-both : (k : ℕ) (s : Side) (now later both : ℕ) → Within now later both → reported k s now ++ reported k s later ≡ reported k s both
+reported-both : (k : ℕ) (s : Side) (party : Party) (now later both : ℕ) → Within now later both
+    → reported k s now party ++ reported k s later party ≡ reported k s both party
 unfolding reported
-reported-both k s now later both (is-now none same) = rw (none, same) (append-nil (reported k s now))
-reported-both k s now later both (is-later none same) = rw (none, same)
+reported-both k s party now later both (is-now none same) = rw (none, same) (append-nil (reported k s now party))
+reported-both k s party now later both (is-later none same) = rw (none, same)
+
+-- whatever a side still reports after a tick it reports for the same party
+party-stays : (s : Side) (b : Berth) (c : ℕ) → (clockOf s (ticked b) ≡ still → c ≡ 0) → reporting c (sideParty s (ticked b)) ≡ reporting c (sideParty s b)
+unfolding ticked
+party-stays receive b c none = refl
+party-stays send b c none = kept-reporting (partyOf (b .tx)) (txTicked (b .tx)) c (kept-ticked (partyOf (b .tx)) (b .tx) (kept-own (b .tx))) (λ e. none (ap txClock e))
 
 module _ (set : Settings) where
   abbrev aged : ℕ → Part → Part
@@ -83,22 +93,32 @@ module _ (set : Settings) where
   told-length (suc n) p = ap suc (told-length n (partAfter set p ticks))
 
   told-at : (n : ℕ) (p : Part) → Timely (p .berth) → (i : ℕ) → i < n
-      → getD (told n p) i accepts ≡ expires (codeAt (suc i) (clockOf receive (p .berth))) (codeAt (suc i) (clockOf send (p .berth)))
+      → getD (told n p) i accepts
+      ≡ expires (codeAt (suc i) (clockOf receive (p .berth))) (codeAt (suc i) (clockOf send (p .berth)))
+      (reporting (codeAt (suc i) (clockOf send (p .berth))) (sideParty send (p .berth)))
   unfolding saysAll says partAfter stateAfter
   told-at zero p t i l = absurd (omega arith)
-  told-at (suc n) p t zero l = ap₂ expires (code-first receive (p .berth) (t receive)) (code-first send (p .berth) (t send))
+  told-at (suc n) p t zero l = ap₂ (λ (r s : ℕ). expires r s (reporting s (sideParty send (p .berth)))) (code-first receive (p .berth) (t receive)) (code-first send (p .berth) (t send))
   told-at (suc n) p t (suc i) l =
       told-at n (partAfter set p ticks) (timely-on (p .berth) t) i (omega arith)
-      ∙ sym (ap₂ expires (code-next receive (p .berth) (t receive) i) (code-next send (p .berth) (t send) i))
+      ∙ ap (expires (codeAt (suc i) (clockOf receive (ticked (p .berth)))) (codeAt (suc i) (clockOf send (ticked (p .berth)))))
+      (party-stays send (p .berth) (codeAt (suc i) (clockOf send (ticked (p .berth)))) (λ z. rw z (still-silent (suc i))))
+      ∙ sym (ap₂ (λ (r s : ℕ). expires r s (reporting s (sideParty send (p .berth)))) (code-next receive (p .berth) (t receive) i) (code-next send (p .berth) (t send) i))
 
   told-reports : (k : ℕ) (s : Side) (n : ℕ) (p : Part) → Timely (p .berth)
-      → ofSide s (over (saidReports k) (told n p)) ≡ reported k s (codeWithin n (clockOf s (p .berth)))
+      → ofSide s (over (saidReports k) (told n p)) ≡ reported k s (codeWithin n (clockOf s (p .berth))) (sideParty s (p .berth))
   unfolding saysAll says partAfter stateAfter over saidReports
   told-reports k s zero p t = rw (none-within (clockOf s (p .berth)) (t s)) (unfold ofSide only reported in refl)
   told-reports k s (suc n) p t =
-      of-side-append s (reported k receive (rxCode (p .berth .rx)) ++ reported k send (txCode (p .berth .tx))) (over (saidReports k) (told n (partAfter set p ticks)))
-      ∙ ap₂ (λ (x y : List Report). x ++ y) (tick-reported k (p .berth) s) (told-reports k s n (partAfter set p ticks) (timely-on (p .berth) t))
-      ∙ reported-both k s _ _ _ (code-within s (p .berth) (t s) n)
+      of-side-append s (reported k receive (rxCode (p .berth .rx)) scheduler ++ reported k send (txCode (p .berth .tx)) (txParty (p .berth .tx))) (over (saidReports k) (told n (partAfter set p ticks)))
+      ∙ ap₂ (λ (x y : List Report). x ++ y) (tick-reported k (p .berth) s) (told-reports k s n (partAfter set p ticks) (timely-on (p .berth) t) ∙ same)
+      ∙ reported-both k s (sideParty s (p .berth)) _ _ _ (code-within s (p .berth) (t s) n)
+    where
+      later : ℕ
+      later = codeWithin n (clockOf s (ticked (p .berth)))
+
+      same : reported k s later (sideParty s (ticked (p .berth))) ≡ reported k s later (sideParty s (p .berth))
+      same = named-alike k s later _ _ (party-stays s (p .berth) later (λ z. rw z (all-within still n (omega arith))))
 
 -- ---- its card
 
@@ -277,8 +297,8 @@ module _ (n k : ℕ) (h : Held) (cs : List Call) (order : InOrder (h .node)) (sm
       let all : (s : Side) → codeWithin n (clockAt s k h) ≡ endCode (clockAt s k h) = λ s. all-within (clockAt s k h) n (over s) in
       record {
         idle = λ s. alone .idle s (over s);
-        one-code = λ s some. alone .in-all s ∙ ap (reported k s) (all s) ∙ one-report k s (berthAt (h .node) k) some;
-        no-code = λ s none. alone .in-all s ∙ ap (reported k s) (all s) ∙ no-report k s (berthAt (h .node) k) none;
+        one-code = λ s some. alone .in-all s ∙ ap (λ (c : ℕ). reported k s c (sideParty s (berthAt (h .node) k))) (all s) ∙ one-report k s (berthAt (h .node) k) (sideParty s (berthAt (h .node) k)) some;
+        no-code = λ s none. alone .in-all s ∙ ap (λ (c : ℕ). reported k s c (sideParty s (berthAt (h .node) k))) (all s) ∙ no-report k s (berthAt (h .node) k) (sideParty s (berthAt (h .node) k)) none;
         card = alone .card ∙ card-still n mostTime (berthAt (h .node) k) (cardAt (h .cards) k) (λ s. time-most (clockAt s k h) (timely s)) enough;
         grown = λ f. alone .card ∙ card-grown n (berthAt (h .node) k) (cardAt (h .cards) k) timely (ap frozen (sym (alone .card)) ∙ f)
             ∙ ap₂ (λ (r s : ℕ). raised (cardAt (h .cards) k) (tickAdds (underWay (berthAt (h .node) k .rx)) r s)) (all receive) (all send);

@@ -38,7 +38,7 @@ module _ (s : Settings) (p : Part) where
   unfolding says partAfter stateAfter ticked sent
   paced-after g m n (arrives d) small t q = rw zero-add (frame-paced g m n s (p .berth) d t q)
   paced-after g m n ticks small t q = subst (λ (l : ℕ). Paced g m l (txTicked (p .berth .tx))) (omega arith) (tick-paced g m n (p .berth .tx) q)
-  paced-after g m n (sends l) small t q = rw zero-add (begins-paced g m n (length l))
+  paced-after g m n (sends party l) small t q = rw zero-add (begins-paced g m n (length l) party)
   paced-after g m n turns small t q = rw zero-add (turn-paced g m n (p .berth) (p .outgoing) small q)
   paced-after g m n (changes parameter value) small t q = unfold changed in (rw zero-add q)
 
@@ -57,7 +57,7 @@ module _ (s : Settings) (p : Part) where
   unfolding says partAfter stateAfter
   paced-frame g m n (arrives d) r t q = absurd t
   paced-frame g m n ticks r t q = absurd t
-  paced-frame g m n (sends l) r t q = absurd t
+  paced-frame g m n (sends party l) r t q = absurd t
   paced-frame g m n turns r t q = consecutive-paced g m n s (p .berth) (p .outgoing) (r .small) (r .range) (r .is-due) (eqb-yes t) q
   paced-frame g m n (changes parameter value) r t q = absurd t
 
@@ -123,7 +123,7 @@ module _ (s : Settings) where
       not-sent (changes parameter value) u r none = refl
       not-sent (sends party m) u r none =
           let g = howMany ticksAt ms + 1 in
-          let begun : Paced g g 0 (partAfter s p (sends party m) .berth .tx) = unfold partAfter stateAfter sent in (begins-paced g g 0 (length m)) in
+          let begun : Paced g g 0 (partAfter s p (sends party m) .berth .tx) = unfold partAfter stateAfter sent in (begins-paced g g 0 (length m) party) in
           let (most, after) = to-frame g g 0 ms x later (omega arith) (record { part = partAfter s p (sends party m); events = es; served = u; told = r; paced = begun }) none t in
           absurd (omega (arith, most))
 

@@ -62,7 +62,7 @@ own-either P k h c none some = go (refusal h c) refl
     its : (c : Call) → refusal h c ≡ 0 → P (ownDone k h c)
     its (frame id d) e = pick-either P (eqb (senderOf id) k) _ _ (λ t. some (arrives d) tt) (λ t. none)
     its tick e = some ticks tt
-    its (send j party m) e = pick-either P (eqb j k) _ _ (λ t. some (sends party m) tt) (λ t. none)
+    its (send j party m) e = pick-either P (eqb j k) _ _ (λ t. some (sends (record { 0 = party }) m) tt) (λ t. none)
     its (turn buffer) e =
         pick-either P (ltb (passedOver (h .node)) berthCount && eqb (reached (h .node)) k) _ _ (λ t. some turns (turned buffer e t)) (λ t. none)
     its (show j choice) e = none

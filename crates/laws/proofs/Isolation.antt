@@ -11,6 +11,7 @@ use lib.Dec.{T, eqb, ltb, leb}
 use mir.Facts.{eqb-yes, yes-eqb}
 use Rattle.rules.specs.Tests.{unless}
 use Rattle.rules.specs.Numbers.{berthCount, toBerth}
+use Rattle.rules.specs.Parties.{reporting}
 use Rattle.rules.specs.Nodes.{fresh, berthAt, Held, withBerth}
 use Rattle.rules.specs.Ranges.{inOrder}
 use Rattle.rules.specs.Ticks.{codesOf}
@@ -74,7 +75,7 @@ card-mine k cards j a l h e = rw e (card-same cards k a (omega arith))
 
 -- a fresh berth has no codes
 codes-fresh : codesOf fresh ≡ noCodes
-unfolding codesOf
+unfolding codesOf reporting
 codes-fresh = refl
 
 -- ---- berth k's part after an answered call
@@ -102,10 +103,10 @@ module _ (k : ℕ) where
           (area-other (h .node .settings .area) k (senderOf id) _ _ (h .incoming) (λ e. ne (sym e)) fits) refl
           (card-other (h .cards) (senderOf id) k _ ne))
 
-  part-send : (h : Held) (j : ℕ) (m : List ℕ) → SendAnswered h j m
+  part-send : (h : Held) (j party : ℕ) (m : List ℕ) → SendAnswered h j party m
       → partOf k (done h (send j party m)) ≡ alone (h .node .settings) (partOf k h) (ownDone k h (send j party m))
   unfolding partOf done withBerth berthAt alone stateAfter partAfter adds ownDone
-  part-send h j m ok = go (eqb-cases j k)
+  part-send h j party m ok = go (eqb-cases j k)
     where
       fits : 0 + length m ≤ h .node .settings .area
       fits = omega (arith, ok .fits)
@@ -113,10 +114,10 @@ module _ (k : ℕ) where
       go : Tested (eqb j k) (j ≡ k) (j ≡ k → ⊥)
           → partOf k (done h (send j party m)) ≡ alone (h .node .settings) (partOf k h) (ownDone k h (send j party m))
       go (holds t e) =
-          rw t (part-path (berth-same k (h .node) j (sentBerth (berthAt (h .node) j) (length m)) (ten (h .node) (ok .order)) (ok .mine) e ∙ rw e)
+          rw t (part-path (berth-same k (h .node) j (sentBerth (berthAt (h .node) j) (length m) (record { 0 = party })) (ten (h .node) (ok .order)) (ok .mine) e ∙ rw e)
           refl (rw e (area-same (h .node .settings .area) k 0 m (h .outgoing) fits)) (sym (added-nothing (cardAt (h .cards) k))))
       go (fails t ne) =
-          rw t (part-path (berth-other k (h .node) j (sentBerth (berthAt (h .node) j) (length m)) ne)
+          rw t (part-path (berth-other k (h .node) j (sentBerth (berthAt (h .node) j) (length m) (record { 0 = party })) ne)
           refl (area-other (h .node .settings .area) k j 0 m (h .outgoing) (λ e. ne (sym e)) fits) refl)
 
   part-tick : (h : Held) → TickAnswered h → partOf k (done h tick) ≡ alone (h .node .settings) (partOf k h) (ownDone k h tick)
@@ -154,7 +155,7 @@ module _ (k : ℕ) where
   pub part-done : (h : Held) (c : Call) → refusal h c ≡ 0 → partOf k (done h c) ≡ alone (h .node .settings) (partOf k h) (ownDone k h c)
   part-done h (frame id d) e = part-frame h id d e
   part-done h tick e = part-tick h (tick-answered h e)
-  part-done h (send j party m) e = part-send h j m (send-answered h j m e)
+  part-done h (send j party m) e = part-send h j party m (send-answered h j party m e)
   part-done h (turn buffer) e = part-turn h buffer (turn-answered h buffer e)
   part-done h (show j choice) e = unfold done ownDone alone in refl
   part-done h (change j parameter value) e = part-change h j parameter value (change-answered h j parameter value e)
@@ -174,7 +175,7 @@ module _ (k : ℕ) where
   says-tick : (h : Held) → saysOf k (reply h tick) ≡ saysAll (h .node .settings) (partOf k h) (ownDone k h tick)
   unfolding saysOf reply saysAll ownDone says partOf berthAt codesOf
   says-tick h =
-      ap {A = Codes} (λ p. expires (p .receive) (p .send) ∷ [])
+      ap {A = Codes} (λ p. expires (p .receive) (p .send) (p .party) ∷ [])
       (ap (getD (map codesOf (h .node .berths)) k) (sym codes-fresh) ∙ List·getD-map codesOf (h .node .berths) k fresh)
 
   pub says-done : (h : Held) (c : Call) → saysOf k (reply h c) ≡ saysAll (h .node .settings) (partOf k h) (ownDone k h c)

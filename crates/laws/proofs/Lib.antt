@@ -3,6 +3,7 @@ pub mod Isolation
 pub mod Reports
 pub mod SetUp
 pub mod Changes
+pub mod Parties
 pub mod Histories
 pub mod Cards
 pub mod Gaps

@@ -12,11 +12,12 @@ use lib.Seq.{sets, length-sets, length-take-le, append-snoc}
 use lib.Dec.{T, eqb, ltb, leb}
 use Rattle.rules.specs.Tests.{pick}
 use Rattle.rules.specs.Numbers.{timeout, flowKind, frameSize, singleMost, firstBytes, consecutiveMost, leastLong, shortMost, longestGap, N-OK}
+use Rattle.rules.specs.Parties.{scheduler, reporting}
 use Rattle.rules.specs.Nodes.{zeroSettings, freshWith, fresh, withRx, withTx}
 use Rattle.rules.specs.Frames.{kind, low, consecutiveFits, flowFits, padded, goFrame, nextSn, counted, fillsBlock, gapOf, share, framesOf}
 use Rattle.rules.specs.Arrivals.{Came, singleCame, firstCame, taking, begun, missing, piece, grown, completed, afterTook, took, awaitedCame, granted, byStatus, heardBy, toldBy, byKind, frameCame}
 use Rattle.rules.specs.Ticks.{ran, rxTicked, rxCode, closer, txTicked, txCode}
-use Rattle.rules.specs.Turns.{flowDue, messageDue, flowFrame, newBlock, afterFlow, toGo, messageFrame, messageCode, opened, moved, afterConsecutive, afterMessage, beginsWith}
+use Rattle.rules.specs.Turns.{flowDue, messageDue, flowFrame, newBlock, afterFlow, toGo, messageFrame, messageCode, messageParty, opened, moved, afterConsecutive, afterMessage, beginsWith}
 use Rattle.rules.specs.Answers.{receive, send, Report, reported, wordReports}
 use Rattle.rules.specs.Cards.{underWay}
 use Rattle.rules.specs.Alone.{hears}
@@ -26,6 +27,7 @@ use Rattle.rules.specs.declared.BerthSettings.{BerthSettings}
 use Rattle.rules.specs.declared.Sn.{Sn}
 use Rattle.rules.specs.declared.Taking.{Taking}
 use Rattle.rules.specs.declared.Sending.{Sending}
+use Rattle.rules.specs.declared.Party.{Party}
 use Rattle.rules.specs.declared.Rx.{Rx}
 use Rattle.rules.specs.declared.Tx.{Tx}
 use Rattle.rules.specs.declared.Berth.{Berth}
@@ -87,7 +89,7 @@ pub record Ahead (n k l : ℕ) : Type 0 where
 abbrev pub pace : ℕ
 pace = longestGap + 10
 
-module _ (i j : ℕ) (set : Settings) (n : ℕ) (out : List ℕ) (E : BerthSettings → List Handed) where
+module _ (i j : ℕ) (set : Settings) (party : Party) (n : ℕ) (out : List ℕ) (E : BerthSettings → List Handed) where
   -- neither side has reported yet, and where a reception is under way the taker's settings are still those of Begun; the sender has; both have
   abbrev pub under-way : BerthSettings → Tx → List (List ℕ) → List (List ℕ) → List Handed → Rx → ℕ → List ℕ → Line
   under-way own tx toR toS log rx last ina =
@@ -107,10 +109,10 @@ module _ (i j : ℕ) (set : Settings) (n : ℕ) (out : List ℕ) (E : BerthSetti
       }
 
   abbrev pub all-sent : BerthSettings → List (List ℕ) → List Handed → Rx → ℕ → List ℕ → Line
-  all-sent own toR log rx last ina = atSender (under-way own Tx.Idle toR [] log rx last ina) Tx.Idle toR [] log (reported i send N-OK)
+  all-sent own toR log rx last ina = atSender (under-way own Tx.Idle toR [] log rx last ina) Tx.Idle toR [] log (reported i send N-OK party)
 
   abbrev pub all-there : BerthSettings → List BerthSettings → List Handed → List ℕ → Line
-  all-there own begun log ina = atTaker (all-sent own [] log Rx.Idle n ina) own Rx.Idle n ina [] [] log (reported j receive N-OK) begun (n ∷ [])
+  all-there own begun log ina = atTaker (all-sent own [] log Rx.Idle n ina) own Rx.Idle n ina [] [] log (reported j receive N-OK scheduler) begun (n ∷ [])
 
   -- what is still to be handed over from frame k on, with so many frames of the block gone
   abbrev rest : BerthSettings → ℕ → ℕ → ℕ → List Handed
@@ -194,7 +196,7 @@ module _ (i j : ℕ) (set : Settings) (n : ℕ) (out : List ℕ) (E : BerthSetti
   abbrev pub handS : Line → Line
   handS l =
       atSender l (afterMessage (l .tx)) (l .toR ++ (messageFrame (l .tx) out ∷ [])) (l .toS) (l .log ++ (there (messageFrame (l .tx) out) ∷ []))
-      (l .said ++ reported i send (messageCode (l .tx)))
+      (l .said ++ reported i send (messageCode (l .tx)) (messageParty (l .tx)))
 
   -- flow control is handed over
   abbrev pub handR : Line → Line
@@ -217,7 +219,7 @@ module _ (i j : ℕ) (set : Settings) (n : ℕ) (out : List ℕ) (E : BerthSetti
   unfoldable pub tookR : Line → List (List ℕ) → Came → Line
   tookR l q c =
       atTaker l (c .berth .settings) (c .berth .rx) (c .berth .last) (sets (l .ina) (c .place) (c .bytes)) q (l .toS) (l .log)
-      (l .heard ++ (reported j receive (c .old) ++ wordReports j (c .word)))
+      (l .heard ++ (reported j receive (c .old) scheduler ++ wordReports j (c .word)))
       (l .begun ++ begunIn (c .berth .settings) (hears (c .old) (c .word))) (l .delivered ++ deliveredIn (hears (c .old) (c .word)))
 
   abbrev pub takerBerth : Line → Berth
@@ -225,7 +227,7 @@ module _ (i j : ℕ) (set : Settings) (n : ℕ) (out : List ℕ) (E : BerthSetti
 
   unfoldable pub tookS : Line → List (List ℕ) → Came → Line
   tookS l q c =
-      atSender l (c .berth .tx) (l .toR) q (l .log) (l .said ++ (reported i receive (c .old) ++ wordReports i (c .word)))
+      atSender l (c .berth .tx) (l .toR) q (l .log) (l .said ++ (reported i receive (c .old) scheduler ++ wordReports i (c .word)))
 
   abbrev pub senderBerth : Line → Berth
   senderBerth l = withTx fresh (l .tx)
@@ -351,7 +353,7 @@ module _ (i j : ℕ) (set : Settings) (n : ℕ) (out : List ℕ) (E : BerthSetti
   hand-on : {own : BerthSettings} (o : Sending) (t : ℕ) (q : List (List ℕ)) (p : Taking) (u last : ℕ) (ina : List ℕ) (k c l : ℕ) (g : List Handed)
       → InBlock own q o p ina k c l g
       → Nearer (pace * suc l + (o .left + c)) (handS (under-way own (Tx.Consecutive party o t) q [] g (Rx.Awaits p u) last ina))
-  unfolding afterConsecutive reported moved
+  unfolding afterConsecutive reported reporting moved
   hand-on {own = own} o t q p u last ina k c zero g r =
       let d : leb (toGo o) consecutiveMost ≡ true = leb-is (toGo o) consecutiveMost (unfold posAt in (omega (arith, to-go o (k + c) (r .sender), r .ahead .last))) in
       let log : g ++ (there (messageFrame (Tx.Consecutive party o t) out) ∷ []) ≡ E own =
@@ -431,7 +433,7 @@ module _ (i j : ℕ) (set : Settings) (n : ℕ) (out : List ℕ) (E : BerthSetti
 
   pub hands-S : (l : Line) (m : ℕ) → T (messageDue (l .tx)) → Phase l m → Nearer m (handS l)
   hands-S l m t (single-ready u last ina a b e) =
-      unfold singleOf in (nearer (single-sent last ina _ a b e) (omega arith))
+      unfold singleOf reporting in (nearer (single-sent last ina _ a b e) (omega arith))
   hands-S l m t (single-sent last ina g a b e) = absurd t
   hands-S l m t (first-ready u last ina h a b c e) =
       unfold reported firstOf in (nearer (first-sent (opened n) 0 last ina h _ a b (open-at a) c e) (omega arith))
@@ -570,7 +572,7 @@ module _ (i j : ℕ) (set : Settings) (n : ℕ) (out : List ℕ) (E : BerthSetti
 
     pub took-last : (l : Line) (q : List (List ℕ)) (p : Taking) (u k : ℕ) → l .rx ≡ Rx.Awaits p u → TakeAt n out p k (l .ina) → n ≤ posAt (suc k)
         → tookR l q (frameCame set (takerBerth l) (frameAt n out k))
-        ≡ atTaker l (l .own) Rx.Idle n (sets (l .ina) (posAt k) (partAt n out k)) q (l .toS) (l .log) (l .heard ++ reported j receive N-OK) (l .begun ++ []) (l .delivered ++ (n ∷ []))
+        ≡ atTaker l (l .own) Rx.Idle n (sets (l .ina) (posAt k) (partAt n out k)) q (l .toS) (l .log) (l .heard ++ reported j receive N-OK scheduler) (l .begun ++ []) (l .delivered ++ (n ∷ []))
     unfolding tookR heardBy completed wordReports deliveredIn begunIn
     took-last l q p u k e r m =
         let g : leb (missing p) consecutiveMost ≡ true = leb-is (missing p) consecutiveMost (unfold posAt in (omega (arith, m, missing-at p k (l .ina) r))) in
@@ -733,11 +735,11 @@ module _ (i j : ℕ) (set : Settings) (n : ℕ) (out : List ℕ) (E : BerthSetti
       -- ---- the start
 
       pub starts : ((any : BerthSettings) → exchanged any (framesOf (take n out)) ≡ E any) → (own : BerthSettings) (last : ℕ) (ina : List ℕ) → n ≤ length ina
-          → (m : ℕ) × Phase (under-way own (beginsWith n) [] [] [] Rx.Idle last ina) m
+          → (m : ℕ) × Phase (under-way own (beginsWith n party) [] [] [] Rx.Idle last ina) m
       unfolding beginsWith exchanged span
       starts w own last ina h = go (leb-cases n singleMost)
         where
-          go : Tested (leb n singleMost) (n ≤ singleMost) (singleMost < n) → (m : ℕ) × Phase (under-way own (beginsWith n) [] [] [] Rx.Idle last ina) m
+          go : Tested (leb n singleMost) (n ≤ singleMost) (singleMost < n) → (m : ℕ) × Phase (under-way own (beginsWith n party) [] [] [] Rx.Idle last ina) m
           go (holds e a) = rw e (2, single-ready 0 last ina a h (λ any. ap (exchanged any) (sym (frames-single n out fit a)) ∙ w any))
           go (fails e a) =
               let more : posAt ((n - suc firstBytes) / consecutiveMost) < n = unfold posAt in (omega arith) in
@@ -754,8 +756,8 @@ module _ (i j : ℕ) (set : Settings) (n : ℕ) (out : List ℕ) (E : BerthSetti
   pub record Landed (l : Line) : Type 0 where
     pub bytes : take n (l .ina) ≡ take n out
     pub last : l .last ≡ n
-    pub said : l .said ≡ reported i send N-OK
-    pub heard : l .heard ≡ reported j receive N-OK
+    pub said : l .said ≡ reported i send N-OK party
+    pub heard : l .heard ≡ reported j receive N-OK scheduler
     pub begun : length (l .begun) ≡ pick (leb n singleMost) 0 1
     pub delivered : l .delivered ≡ n ∷ []
     pub log : l .log ≡ E (getD (l .begun) 0 zeroSettings)

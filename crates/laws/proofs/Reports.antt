@@ -10,6 +10,7 @@ use lib.Dec.{T, eqb, ltb, leb}
 use mir.Facts.{yes-eqb, yes-ltb, yes-and}
 use Rattle.rules.specs.Tests.{pick}
 use Rattle.rules.specs.Numbers.{berthCount, toBerth, N-OK}
+use Rattle.rules.specs.Parties.{scheduler}
 use Rattle.rules.specs.Nodes.{berthAt, Held}
 use Rattle.rules.specs.Ranges.{inOrder}
 use Rattle.rules.specs.Turns.{lengthSending}
@@ -18,6 +19,7 @@ use Rattle.rules.specs.Answers.{Answer, refused, ready, heard, codes, sent, han
 use Rattle.rules.specs.Events.{Call}
 use Rattle.rules.specs.Calls.{answers, showable, chosen, shownLength, showing}
 use Rattle.rules.specs.Alone.{Says, partOf, saysAll}
+use Rattle.rules.specs.declared.Party.{Party}
 use Rattle.rules.specs.declared.Choice.{Choice}
 use Rattle.rules.specs.declared.Codes.{Codes}
 use Rattle.rules.specs.declared.Word.{Word}
@@ -53,16 +55,16 @@ module _ (k j : ℕ) where
   none-either true = refl
   none-either false = refl
 
-  reported-of : (side : Side) (c : ℕ) → ofBerth k (reported j side c) ≡ pick (eqb j k) (reported j side c) []
+  reported-of : (side : Side) (c : ℕ) (party : Party) → ofBerth k (reported j side c party) ≡ pick (eqb j k) (reported j side c party) []
   unfolding ofBerth only reported
-  reported-of side zero = none-either (eqb j k)
-  reported-of side (suc c) = refl
+  reported-of side zero party = none-either (eqb j k)
+  reported-of side (suc c) party = refl
 
   word-of : (w : Word) → ofBerth k (wordReports j w) ≡ pick (eqb j k) (wordReports j w) []
   unfolding wordReports ofBerth only
-  word-of (Delivered n) = reported-of receive N-OK
+  word-of (Delivered n) = reported-of receive N-OK scheduler
   word-of (Begun n) = none-either (eqb j k)
-  word-of (Failed c party) = reported-of (failedSide c) c
+  word-of (Failed c party) = reported-of (failedSide c) c party
   word-of (Ignored i) = none-either (eqb j k)
   word-of TooLong = none-either (eqb j k)
   word-of Took = none-either (eqb j k)
@@ -77,19 +79,19 @@ module _ (k : ℕ) where
   codes-past [] i h = unfold ofBerth only in refl
   codes-past (c ∷ cs) i h =
       let e : eqb i k ≡ false = eqb-not i k (λ q. omega arith) in
-      rw (of-append, reported-of k i receive (c .receive), of-append, reported-of k i send (c .send), e) (codes-past cs (suc i) (omega arith))
+      rw (of-append, reported-of k i receive (c .receive) scheduler, of-append, reported-of k i send (c .send) (c .party), e) (codes-past cs (suc i) (omega arith))
 
   codes-at : (cs : List Codes) (n i : ℕ) → k ≡ i + n
-      → ofBerth k (codesReports i cs) ≡ reported k receive (getD cs n noCodes .receive) ++ reported k send (getD cs n noCodes .send)
+      → ofBerth k (codesReports i cs) ≡ reported k receive (getD cs n noCodes .receive) scheduler ++ reported k send (getD cs n noCodes .send) (getD cs n noCodes .party)
   unfolding codesReports
   codes-at [] n i e = unfold ofBerth only reported in refl
   codes-at (c ∷ cs) zero i e =
       let q : i ≡ k = omega arith in
       let t : eqb i k ≡ true = eqb-is i k q in
-      rw (of-append, reported-of k i receive (c .receive), of-append, reported-of k i send (c .send), t, codes-past cs (suc i) (omega arith), append-nil, q)
+      rw (of-append, reported-of k i receive (c .receive) scheduler, of-append, reported-of k i send (c .send) (c .party), t, codes-past cs (suc i) (omega arith), append-nil, q)
   codes-at (c ∷ cs) (suc n) i e =
       let t : eqb i k ≡ false = eqb-not i k (λ q. omega arith) in
-      rw (of-append, reported-of k i receive (c .receive), of-append, reported-of k i send (c .send), t) (codes-at cs n (suc i) (omega arith))
+      rw (of-append, reported-of k i receive (c .receive) scheduler, of-append, reported-of k i send (c .send) (c .party), t) (codes-at cs n (suc i) (omega arith))
 
   -- ---- one answer
 
@@ -100,16 +102,16 @@ module _ (k : ℕ) where
   reports-of (heard j old w) = go (eqb-cases j k)
     where
       go : Tested (eqb j k) (j ≡ k) (j ≡ k → ⊥) → ofBerth k (reports (heard j old w)) ≡ over (saidReports k) (saysOf k (heard j old w))
-      go (holds t e) = rw (of-append, reported-of k j receive old, word-of k j w, t, append-nil, e)
-      go (fails t e) = rw (of-append, reported-of k j receive old, word-of k j w, t)
+      go (holds t e) = rw (of-append, reported-of k j receive old scheduler, word-of k j w, t, append-nil, e)
+      go (fails t e) = rw (of-append, reported-of k j receive old scheduler, word-of k j w, t)
   reports-of (codes cs) = codes-at cs k 0 (omega arith) ∙ sym (append-nil _)
   reports-of (sent j) = pick-either (λ (xs : List Says). [] ≡ over (saidReports k) xs) (eqb j k) _ _ (λ t. refl) (λ t. refl)
   reports-of (handed id f c passed party) = go (leb-cases toBerth id) (eqb-cases (id - toBerth) k)
     where
       go : Tested (leb toBerth id) (toBerth ≤ id) (id < toBerth) → Tested (eqb (id - toBerth) k) (id - toBerth ≡ k) (id - toBerth ≡ k → ⊥)
           → ofBerth k (reports (handed id f c passed party)) ≡ over (saidReports k) (saysOf k (handed id f c passed party))
-      go (holds l u) (holds t e) = rw (l, reported-of k (id - toBerth) send c, t, append-nil, e)
-      go (holds l u) (fails t e) = rw (l, reported-of k (id - toBerth) send c, t)
+      go (holds l u) (holds t e) = rw (l, reported-of k (id - toBerth) send c party, t, append-nil, e)
+      go (holds l u) (fails t e) = rw (l, reported-of k (id - toBerth) send c party, t)
       go (fails l u) t = rw l
   reports-of (none passed) = refl
   reports-of (shown part) = refl

@@ -23,6 +23,7 @@ use Rattle.rules.specs.Calls.{afterTurn, done, outcome}
 use Rattle.rules.specs.Alone.{Part, partOf, stateAfter, partAfter, alone}
 use Rattle.rules.specs.declared.Settings.{Settings}
 use Rattle.rules.specs.declared.BerthSettings.{BerthSettings}
+use Rattle.rules.specs.declared.Party.{Party}
 use Rattle.rules.specs.declared.Rx.{Rx}
 use Rattle.rules.proofs.Cases.{Tested, holds, fails, test-cases, eqb-cases, ltb-is, is-true}
 use Rattle.rules.proofs.Ranges.{range-in-order}
@@ -35,7 +36,7 @@ use Rattle.laws.proofs.SetUp.{sound-step}
 use Rattle.laws.proofs.Round.{some-reached, nearer}
 use Rattle.laws.proofs.Touch.{SparedBy, TurnOf, whole-heard, own-is, held-is, own-k, turn-of-side, turn-of-other, other-berth, touch-tick, neither-said, all-met, tick-met}
 use Rattle.laws.proofs.Line.{Line, Phase, Nearer, tickS, tickR, hands-S, hands-R, there-whole, back-whole}
-use Rattle.laws.proofs.World.{lineIn, Alive, after-A, after-B, alive-carriedA, alive-carriedB, spared-A, tick-A, turn-A, spared-B, tick-B, turn-B, took-A, took-B, outA, setB, expected, fit-a, small-b, begun-alive, line-law}
+use Rattle.laws.proofs.World.{lineIn, Alive, after-A, after-B, alive-carriedA, alive-carriedB, spared-A, tick-A, turn-A, spared-B, tick-B, turn-B, took-A, took-B, theParty, outA, setB, expected, fit-a, small-b, begun-alive, line-law}
 use Rattle.laws.proofs.Onward.{Young, young-start, young-handed, young-flow, young-there, young-back, Next, bring-there, bring-back, hand-message, hand-flow, wait, at-end, next}
 
 -- ---- a call for a frame is answered by a sound node
@@ -135,10 +136,10 @@ module _ (s : Side) (k : ℕ) (h : Held) (sound : Sound h) (small : k < berthCou
           ap (λ (p : Part). pick (sameSide s (turnSide p)) 0 berthCount) part in
           inr (other-berth k h sound small s blank met some ne, omega arith)
 
-module _ (i j : ℕ) (small-i : i < berthCount) (small-j : j < berthCount) (set : Settings) (n : ℕ) (out : List ℕ) (E : BerthSettings → List Handed)
+module _ (i j : ℕ) (small-i : i < berthCount) (small-j : j < berthCount) (set : Settings) (party : Party) (n : ℕ) (out : List ℕ) (E : BerthSettings → List Handed)
     (fit : n ≤ length out) (some-bytes : 1 ≤ n) (in-area : n ≤ set .area) (small : set .area ≤ shortMost) where
   abbrev Lives : World → Type 0
-  Lives w = Alive i j small-i small-j set n out E w
+  Lives w = Alive i j small-i small-j set party n out E w
 
   -- how far it is to the end: the steps to come, each after at most so many turns of others
   unfoldable far : World → ℕ → ℕ
@@ -160,11 +161,11 @@ module _ (i j : ℕ) (small-i : i < berthCount) (small-j : j < berthCount) (set 
   unfolding acts
   onto-there w s d q e =
       let z : w .toB ≡ d ∷ q = unfold lineIn in e in
-      let g = alive-carriedB i j small-i small-j set n out E fit some-bytes in-area small w d q z s in
-      let (l, k) = there-whole i j set n out E fit some-bytes in-area small (lineIn i j w) (s .steps) d q e (s .phase) in
-      let line = took-B i j small-i small-j set n out E w d q (s .sound-b) (s .settings-b) (omega (arith, whole-heard)) k in
+      let g = alive-carriedB i j small-i small-j set party n out E fit some-bytes in-area small w d q z s in
+      let (l, k) = there-whole i j set party n out E fit some-bytes in-area small (lineIn i j w) (s .steps) d q e (s .phase) in
+      let line = took-B i j small-i small-j set party n out E w d q (s .sound-b) (s .settings-b) (omega (arith, whole-heard)) k in
       let y : Young (lineIn i j (carriedB j w (d ∷ q))) =
-      subst (λ (x : Line). Young x) (sym line) (young-there i j set n out E fit some-bytes in-area small (lineIn i j w) (s .steps) d q e (s .phase)) in
+      subst (λ (x : Line). Young x) (sym line) (young-there i j set party n out E fit some-bytes in-area small (lineIn i j w) (s .steps) d q e (s .phase)) in
       subst (λ (x : List (List ℕ)). Onto w (s .steps) (carriedB j w x)) (sym z)
       (record { alive = g .alive; young = y; less = fewer-steps w (carriedB j w (d ∷ q)) (s .steps) (g .alive .steps) (g .fewer) })
 
@@ -172,11 +173,11 @@ module _ (i j : ℕ) (small-i : i < berthCount) (small-j : j < berthCount) (set 
   unfolding acts
   onto-back w s young d q e =
       let z : w .toA ≡ d ∷ q = unfold lineIn in e in
-      let g = alive-carriedA i j small-i small-j set n out E fit some-bytes in-area small w d q z s in
-      let (l, k) = back-whole i j set n out E fit some-bytes in-area small (lineIn i j w) (s .steps) d q e (s .phase) in
-      let (line, o) = took-A i j small-i small-j set n out E w d q (s .sound-a) (omega (arith, whole-heard)) k in
+      let g = alive-carriedA i j small-i small-j set party n out E fit some-bytes in-area small w d q z s in
+      let (l, k) = back-whole i j set party n out E fit some-bytes in-area small (lineIn i j w) (s .steps) d q e (s .phase) in
+      let (line, o) = took-A i j small-i small-j set party n out E w d q (s .sound-a) (omega (arith, whole-heard)) k in
       let y : Young (lineIn i j (carriedA i w (d ∷ q))) =
-      subst (λ (x : Line). Young x) (sym line) (young-back i j set n out E fit some-bytes in-area small (w .a .node .settings) (lineIn i j w) (s .steps) d q e (s .phase) young) in
+      subst (λ (x : Line). Young x) (sym line) (young-back i j set party n out E fit some-bytes in-area small (w .a .node .settings) (lineIn i j w) (s .steps) d q e (s .phase) young) in
       subst (λ (x : List (List ℕ)). Onto w (s .steps) (carriedA i w x)) (sym z)
       (record { alive = g .alive; young = y; less = fewer-steps w (carriedA i w (d ∷ q)) (s .steps) (g .alive .steps) (g .fewer) })
 
@@ -201,17 +202,17 @@ module _ (i j : ℕ) (small-i : i < berthCount) (small-j : j < berthCount) (set 
   onto-message w s young t =
       ⊎-elim
       (λ x.
-      let (d, line, o) = turn-A i j small-i small-j set n out E w (turn blank) (s .kept) x in
-      let (m, h, ph) = hands-S i j set n out E (lineIn i j w) (s .steps) t (s .phase) in
+      let (d, line, o) = turn-A i j small-i small-j set party n out E w (turn blank) (s .kept) x in
+      let (m, h, ph) = hands-S i j set party n out E (lineIn i j w) (s .steps) t (s .phase) in
       record {
-        alive = after-A i j small-i small-j set n out E w (turn blank) s m (subst (λ (l : Line). Phase i j set n out E l m) (sym line) ph) o;
-        young = subst (λ (l : Line). Young l) (sym line) (young-handed i j set n out E (lineIn i j w));
+        alive = after-A i j small-i small-j set party n out E w (turn blank) s m (subst (λ (l : Line). Phase i j set party n out E l m) (sym line) ph) o;
+        young = subst (λ (l : Line). Young l) (sym line) (young-handed i j set party n out E (lineIn i j w));
         less = fewer-steps w (callA i w (turn blank)) (s .steps) m h;
       })
       (λ x.
-      let (line, o) = spared-A i j small-i small-j set n out E w (turn blank) (s .kept) (x .0) in
+      let (line, o) = spared-A i j small-i small-j set party n out E w (turn blank) (s .kept) (x .0) in
       record {
-        alive = after-A i j small-i small-j set n out E w (turn blank) s (s .steps) (subst (λ (l : Line). Phase i j set n out E l (s .steps)) (sym line) (s .phase)) o;
+        alive = after-A i j small-i small-j set party n out E w (turn blank) s (s .steps) (subst (λ (l : Line). Phase i j set party n out E l (s .steps)) (sym line) (s .phase)) o;
         young = subst (λ (l : Line). Young l) (sym line) young;
         less = shorter-A w (turn blank) (s .steps) (x .1);
       })
@@ -227,17 +228,17 @@ module _ (i j : ℕ) (small-i : i < berthCount) (small-j : j < berthCount) (set 
       let none = neither-said j (w .b) (s .sound-b) small-j (turn blank) (free-turn j receive (w .b)) in
       ⊎-elim
       (λ x.
-      let (d, line) = turn-B i j small-i small-j set n out E w (turn blank) none x in
-      let (m, h, ph) = hands-R i j set n out E (lineIn i j w) (s .steps) t (s .phase) in
+      let (d, line) = turn-B i j small-i small-j set party n out E w (turn blank) none x in
+      let (m, h, ph) = hands-R i j set party n out E (lineIn i j w) (s .steps) t (s .phase) in
       record {
-        alive = after-B i j small-i small-j set n out E w (turn blank) s m (subst (λ (l : Line). Phase i j set n out E l m) (sym line) ph);
-        young = subst (λ (l : Line). Young l) (sym line) (young-flow i j set n out E (lineIn i j w) (s .steps) (s .phase) t);
+        alive = after-B i j small-i small-j set party n out E w (turn blank) s m (subst (λ (l : Line). Phase i j set party n out E l m) (sym line) ph);
+        young = subst (λ (l : Line). Young l) (sym line) (young-flow i j set party n out E (lineIn i j w) (s .steps) (s .phase) t);
         less = fewer-steps w (callB j w (turn blank)) (s .steps) m h;
       })
       (λ x.
-      let line = spared-B i j small-i small-j set n out E w (turn blank) none (x .0) in
+      let line = spared-B i j small-i small-j set party n out E w (turn blank) none (x .0) in
       record {
-        alive = after-B i j small-i small-j set n out E w (turn blank) s (s .steps) (subst (λ (l : Line). Phase i j set n out E l (s .steps)) (sym line) (s .phase));
+        alive = after-B i j small-i small-j set party n out E w (turn blank) s (s .steps) (subst (λ (l : Line). Phase i j set party n out E l (s .steps)) (sym line) (s .phase));
         young = subst (λ (l : Line). Young l) (sym line) young;
         less = shorter-B w (turn blank) (s .steps) (x .1);
       })
@@ -256,15 +257,15 @@ module _ (i j : ℕ) (small-i : i < berthCount) (small-j : j < berthCount) (set 
   code-B w z = yes-eqb z
 
   onto-tick : (w : World) (s : Lives w) → txCode (lineIn i j w .tx) ≡ 0 → rxCode (lineIn i j w .rx) ≡ 0
-      → Nearer i j set n out E (s .steps) (tickR i j set n out E (tickS i j set n out E (lineIn i j w)))
-      → Young (tickR i j set n out E (tickS i j set n out E (lineIn i j w))) → Onto w (s .steps) (ticked-both w)
+      → Nearer i j set party n out E (s .steps) (tickR i j set party n out E (tickS i j set party n out E (lineIn i j w)))
+      → Young (tickR i j set party n out E (tickS i j set party n out E (lineIn i j w))) → Onto w (s .steps) (ticked-both w)
   unfolding leftA leftB
   onto-tick w s za zb near young =
       let v : World = callA i w tick in
-      let (x, line-a, o) = tick-A i j small-i small-j set n out E w tick (s .kept) (touch-tick i (w .a) sendSide (tick-met (w .a) (s .sound-a .order) (s .sound-a .ten)) (code-A w za)) in
+      let (x, line-a, o) = tick-A i j small-i small-j set party n out E w tick (s .kept) (touch-tick i (w .a) sendSide (tick-met (w .a) (s .sound-a .order) (s .sound-a .ten)) (code-A w za)) in
       let none = neither-said j (w .b) (s .sound-b) small-j tick (λ e. code-B w zb) in
-      let (y, line-b) = tick-B i j small-i small-j set n out E (callA i w tick) tick none (touch-tick j (w .b) receive (tick-met (w .b) (s .sound-b .order) (s .sound-b .ten)) (code-B w zb)) in
-      let line : lineIn i j (ticked-both w) ≡ tickR i j set n out E (tickS i j set n out E (lineIn i j w)) = line-b ∙ ap (tickR i j set n out E) line-a in
+      let (y, line-b) = tick-B i j small-i small-j set party n out E (callA i w tick) tick none (touch-tick j (w .b) receive (tick-met (w .b) (s .sound-b .order) (s .sound-b .ten)) (code-B w zb)) in
+      let line : lineIn i j (ticked-both w) ≡ tickR i j set party n out E (tickS i j set party n out E (lineIn i j w)) = line-b ∙ ap (tickR i j set party n out E) line-a in
       let (m, h, ph) = near in
       record {
         alive = record {
@@ -273,7 +274,7 @@ module _ (i j : ℕ) (small-i : i < berthCount) (small-j : j < berthCount) (set 
           settings-b = settings-step (w .b) tick ∙ s .settings-b;
           kept = o;
           steps = m;
-          phase = subst (λ (l : Line). Phase i j set n out E l m) (sym line) ph;
+          phase = subst (λ (l : Line). Phase i j set party n out E l m) (sym line) ph;
         };
         young = subst (λ (l : Line). Young l) (sym line) young;
         less = fewer-steps w (ticked-both w) (s .steps) m h;
@@ -300,10 +301,10 @@ module _ (i j : ℕ) (small-i : i < berthCount) (small-j : j < berthCount) (set 
 
   finish : (fuel : ℕ) (w : World) (s : Lives w) → Young (lineIn i j w) → far w (s .steps) < fuel → Ends w
   finish zero w s young h = absurd (omega arith)
-  finish (suc fuel) w s young h = go (next i j set n out E fit some-bytes in-area small (lineIn i j w) (s .steps) (s .phase) young)
+  finish (suc fuel) w s young h = go (next i j set party n out E fit some-bytes in-area small (lineIn i j w) (s .steps) (s .phase) young)
       (λ w′ o. finish fuel w′ (o .alive) (o .young) (omega (arith, o .less)))
     where
-      go : Next i j set n out E fit some-bytes in-area small (lineIn i j w) (s .steps) → ((w′ : World) → Onto w (s .steps) w′ → Ends w′) → Ends w
+      go : Next i j set party n out E fit some-bytes in-area small (lineIn i j w) (s .steps) → ((w′ : World) → Onto w (s .steps) w′ → Ends w′) → Ends w
       go (bring-there d q e) on = let (r, f) = on (acts i j w carryB) (onto-there w s d q e) in (bringB ∷ r, before w bringB carryB r (unfold deedsOf in refl) tt f)
       go (bring-back d q e) on = let (r, f) = on (acts i j w carryA) (onto-back w s young d q e) in (bringA ∷ r, before w bringA carryA r (unfold deedsOf in refl) tt f)
       go (hand-message t) on =
@@ -317,20 +318,20 @@ module _ (i j : ℕ) (small-i : i < berthCount) (small-j : j < berthCount) (set 
           (tickBoth ∷ r, before-tick w r (λ e. code-A w a) (λ e. code-B w b) f)
       go (at-end a b c d e) on = ([], record { apart = unfold over AllApart in tt; rest = unfold over living lineIn in (record { none-there = a; none-back = b; none-due = c; no-gap = d; no-flow = e }) })
 
--- THE LINE'S LAW IS NOT EMPTY. For every message, both areas, block sizes and STmin, from every start that the law allows (other berths
--- due included), there is a schedule in which every tick falls on both nodes, nothing touches the two sides, no timer of theirs
--- reaches 1,000, and which ends at rest; so by the law the message has arrived.
-pub schedule-exists : (i j : ℕ) (m : List ℕ) (a b : Held) → MayBegin i j m a b
-    → (schedule : List Act) × Finishes i j (begin i m a b) schedule × Arrived i j m (living i j (begin i m a b) (over deedsOf schedule))
-schedule-exists i j m a b may =
-    let s = begun-alive i j m a b may in
-    let idle : lineIn i j (begin i m a b) .rx ≡ Rx.Idle = unfold lineIn in (may .idle-b) in
+-- THE LINE'S LAW IS NOT EMPTY. For either party, every message, both areas, block sizes and STmin, from every start that the law allows
+-- (other berths due included), there is a schedule in which every tick falls on both nodes, nothing touches the two sides, no timer of
+-- theirs reaches 1,000, and which ends at rest; so by the law the message has arrived.
+pub schedule-exists : (i j party : ℕ) (m : List ℕ) (a b : Held) → MayBegin i j party m a b
+    → (schedule : List Act) × Finishes i j (begin i party m a b) schedule × Arrived i j party m (living i j (begin i party m a b) (over deedsOf schedule))
+schedule-exists i j party m a b may =
+    let s = begun-alive i j party m a b may in
+    let idle : lineIn i j (begin i party m a b) .rx ≡ Rx.Idle = unfold lineIn in (may .idle-b) in
     let (schedule, f) =
-    finish i j (may .small-i) (may .small-j) (setB i j m a b may) (length m) (outA i j m a b may) (expected i j m a b may)
-    (fit-a i j m a b may) (may .some) (may .fits-b) (small-b i j m a b may)
-    (suc (far i j (may .small-i) (may .small-j) (setB i j m a b may) (length m) (outA i j m a b may) (expected i j m a b may)
-    (fit-a i j m a b may) (may .some) (may .fits-b) (small-b i j m a b may) (begin i m a b) (s .steps)))
-    (begin i m a b) s
-    (young-start (lineIn i j (begin i m a b)) idle)
+    finish i j (may .small-i) (may .small-j) (setB i j party m a b may) (theParty i j party m a b may) (length m) (outA i j party m a b may) (expected i j party m a b may)
+    (fit-a i j party m a b may) (may .some) (may .fits-b) (small-b i j party m a b may)
+    (suc (far i j (may .small-i) (may .small-j) (setB i j party m a b may) (theParty i j party m a b may) (length m) (outA i j party m a b may) (expected i j party m a b may)
+    (fit-a i j party m a b may) (may .some) (may .fits-b) (small-b i j party m a b may) (begin i party m a b) (s .steps)))
+    (begin i party m a b) s
+    (young-start (lineIn i j (begin i party m a b)) idle)
     (omega arith) in
-    (schedule, f, line-law i j m a b may (over deedsOf schedule) (f .apart) (f .rest))
+    (schedule, f, line-law i j party m a b may (over deedsOf schedule) (f .apart) (f .rest))

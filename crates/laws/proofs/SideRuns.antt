@@ -65,7 +65,7 @@ module _ (s : Side) (k : ℕ) where
     said-done (frame id d) e =
         pick-either (SaidAlike (frame id d)) (eqb (senderOf id) k) (arrives d ∷ []) [] (λ t. alike (sameSide s (frameSide d)) _ (arrives d)) (λ t. refl)
     said-done tick e = refl
-    said-done (send j party m) e = pick-either (SaidAlike (send j party m)) (eqb j k) (sends party m ∷ []) [] (λ t. alike (sameSide s sendSide) _ (sends party m)) (λ t. refl)
+    said-done (send j party m) e = pick-either (SaidAlike (send j party m)) (eqb j k) (sends (record { 0 = party }) m ∷ []) [] (λ t. alike (sameSide s sendSide) _ (sends (record { 0 = party }) m)) (λ t. refl)
     said-done (turn buffer) e =
         let b = ltb (passedOver (h .node)) berthCount in
         let c = eqb (reached (h .node)) k in
@@ -109,7 +109,7 @@ module _ (s : Side) (k : ℕ) where
             → Tested (eqb (reached (h .node)) k) (reached (h .node) ≡ k) (reached (h .node) ≡ k → ⊥) → FramesAlike (turn buffer) (reply h (turn buffer))
         go (holds u l) (holds t e) = simp (u, said-to, t) (by (sameSide s (handedSide f)))
           where
-            by : (b : Bool) → pick b (f ∷ []) [] ≡ over handedIn (pick b (hands f (handedAt h (reached (h .node)) .code) ∷ []) [] ++ [])
+            by : (b : Bool) → pick b (f ∷ []) [] ≡ over handedIn (pick b (hands f (handedAt h (reached (h .node)) .code) (handedAt h (reached (h .node)) .party) ∷ []) [] ++ [])
             by true = refl
             by false = refl
         go (holds u l) (fails t ne) = simp (u, said-to, t)

@@ -10,22 +10,25 @@ use lib.Seq.{sets}
 use lib.Dec.{eqb}
 use Rattle.rules.specs.Tests.{pick}
 use Rattle.rules.specs.Numbers.{singleKind, firstKind, consecutiveKind, flowKind, goStatus, waitStatus, overflowStatus, noData, otherKind}
+use Rattle.rules.specs.Parties.{scheduler, partyOf, reporting}
 use Rattle.rules.specs.Nodes.{withTx}
 use Rattle.rules.specs.Frames.{kind, low, singleFits, announced, firstFits, flowFits}
 use Rattle.rules.specs.Arrivals.{Heard, Told, Came, ignored, singleCame, firstCame, aboveArea, turnedAway, begun, completed, took, wrongSn, consecutiveCame, byStatus, flowIgnored, flowCame, heardBy, toldBy, byKind, frameCame}
-use Rattle.rules.specs.Ticks.{ticked, rxCode, txCode}
+use Rattle.rules.specs.Ticks.{ticked, rxCode, txCode, txParty}
 use Rattle.rules.specs.Turns.{flowDue, handOver, sent}
 use Rattle.rules.specs.Changes.{changed}
 use Rattle.rules.specs.Answers.{Side, receive, send, Report, reported, failedSide, wordReports}
 use Rattle.rules.specs.Cards.{zeroCard}
 use Rattle.rules.specs.Events.{Event, arrives, ticks, sends, turns, changes}
 use Rattle.rules.specs.Alone.{Part, Says, hears, hands, stateAfter, partAfter, says, alone, saysAll}
-use Rattle.rules.specs.Clocks.{tickCode}
+use Rattle.rules.specs.Clocks.{tickCode, sideParty}
 use Rattle.rules.specs.declared.Settings.{Settings}
+use Rattle.rules.specs.declared.Party.{Party}
 use Rattle.rules.specs.declared.Rx.{Rx}
 use Rattle.rules.specs.declared.Tx.{Tx}
 use Rattle.rules.specs.declared.Berth.{Berth}
 use Rattle.rules.proofs.Cases.{Tested, holds, fails, eqb-cases, eqb-not, pick-either}
+use Rattle.rules.proofs.Parties.{reporting-named}
 use Rattle.rules.proofs.Facts.{consecutive-either}
 use Rattle.laws.specs.Own.{over, only, saidReports}
 use Rattle.laws.specs.Sides.{sameSide, uncounted, sideOf, frameSide, turnSide, forSide, sideEvents, onlySide, sideSays, ofSide}
@@ -85,16 +88,16 @@ module _ (k : ℕ) where
   no-reports send receive = refl
   no-reports send send = refl
 
-  reported-all : (side : Side) (c : ℕ) → AllOf side (reported k side c)
+  pub reported-all : (side : Side) (c : ℕ) (party : Party) → AllOf side (reported k side c party)
   unfolding reported ofSide only
-  reported-all receive zero receive = refl
-  reported-all receive zero send = refl
-  reported-all receive (suc c) receive = refl
-  reported-all receive (suc c) send = refl
-  reported-all send zero receive = refl
-  reported-all send zero send = refl
-  reported-all send (suc c) receive = refl
-  reported-all send (suc c) send = refl
+  reported-all receive zero party receive = refl
+  reported-all receive zero party send = refl
+  reported-all receive (suc c) party receive = refl
+  reported-all receive (suc c) party send = refl
+  reported-all send zero party receive = refl
+  reported-all send zero party send = refl
+  reported-all send (suc c) party receive = refl
+  reported-all send (suc c) party send = refl
 
   both-all : (side : Side) (rs qs : List Report) → AllOf side rs → AllOf side qs → AllOf side (rs ++ qs)
   both-all side rs qs a b s = of-side-append s rs qs ∙ ap₂ (λ (x y : List Report). x ++ y) (a s) (b s) ∙ go (sameSide s side)
@@ -103,16 +106,19 @@ module _ (k : ℕ) where
       go true = refl
       go false = refl
 
-  -- of a tick's reports each side has its own code
-  pub tick-reported : (b : Berth) (s : Side) → ofSide s (reported k receive (rxCode (b .rx)) ++ reported k send (txCode (b .tx))) ≡ reported k s (tickCode s b)
+  -- of a tick's reports each side has its own code, and the send side its party
+  pub tick-reported : (b : Berth) (s : Side)
+      → ofSide s (reported k receive (rxCode (b .rx)) scheduler ++ reported k send (txCode (b .tx)) (txParty (b .tx))) ≡ reported k s (tickCode s b) (sideParty s b)
   tick-reported b s =
-      of-side-append s (reported k receive (rxCode (b .rx))) (reported k send (txCode (b .tx)))
-      ∙ ap₂ (λ (x y : List Report). x ++ y) (reported-all receive (rxCode (b .rx)) s) (reported-all send (txCode (b .tx)) s)
+      of-side-append s (reported k receive (rxCode (b .rx)) scheduler) (reported k send (txCode (b .tx)) (txParty (b .tx)))
+      ∙ ap₂ (λ (x y : List Report). x ++ y) (reported-all receive (rxCode (b .rx)) scheduler s) (reported-all send (txCode (b .tx)) (txParty (b .tx)) s)
       ∙ go s
     where
-      go : (s : Side) → pick (sameSide s receive) (reported k receive (rxCode (b .rx))) [] ++ pick (sameSide s send) (reported k send (txCode (b .tx))) [] ≡ reported k s (tickCode s b)
+      go : (s : Side)
+          → pick (sameSide s receive) (reported k receive (rxCode (b .rx)) scheduler) [] ++ pick (sameSide s send) (reported k send (txCode (b .tx)) (txParty (b .tx))) []
+          ≡ reported k s (tickCode s b) (sideParty s b)
       go receive = append-nil _
-      go send = refl
+      go send = reporting-named k send (txCode (b .tx)) (partyOf (b .tx))
 
   abbrev HeardAll : Heard → Type 0
   HeardAll h = AllOf receive (wordReports k (h .word))
@@ -123,7 +129,7 @@ module _ (k : ℕ) where
 
   single-all : (rx : Rx) (last : ℕ) (d : List ℕ) → HeardAll (singleCame rx last d)
   unfolding singleCame wordReports
-  single-all rx last d = pick-either HeardAll (singleFits d) _ _ (λ t. reported-all receive 1) (λ t. ignored-all 3 rx last)
+  single-all rx last d = pick-either HeardAll (singleFits d) _ _ (λ t. reported-all receive 1 scheduler) (λ t. ignored-all 3 rx last)
 
   first-all : (set : Settings) (rx : Rx) (last : ℕ) (d : List ℕ) → HeardAll (firstCame set rx last d)
   unfolding firstCame turnedAway begun wordReports
@@ -135,7 +141,7 @@ module _ (k : ℕ) where
   consecutive-all : (bs : ℕ) (rx : Rx) (last : ℕ) (d : List ℕ) → HeardAll (consecutiveCame bs rx last d)
   unfolding completed took wrongSn wordReports failedSide
   consecutive-all bs rx last d =
-      consecutive-either HeardAll bs rx last d (λ why. ignored-all why rx last) (λ p. reported-all receive 1) (λ p. no-reports receive) (reported-all receive 5)
+      consecutive-either HeardAll bs rx last d (λ why. ignored-all why rx last) (λ p. reported-all receive 1 scheduler) (λ p. no-reports receive) (reported-all receive 5 scheduler)
 
   abbrev ToldAll : Told → Type 0
   ToldAll t = AllOf send (wordReports k (t .word))
@@ -149,16 +155,16 @@ module _ (k : ℕ) where
       pick-either ToldAll (flowFits d) _ _
       (λ u. pick-either ToldAll (eqb (low d) goStatus) _ _ (λ v. no-reports send)
       (λ v. pick-either ToldAll (eqb (low d) waitStatus) _ _ (λ w. no-reports send)
-      (λ w. pick-either ToldAll (eqb (low d) overflowStatus) _ _ (λ x. reported-all send 9) (λ x. reported-all send 6))))
+      (λ w. pick-either ToldAll (eqb (low d) overflowStatus) _ _ (λ x. reported-all send 9 party) (λ x. reported-all send 6 party))))
       (λ u. no-reports send)
   flow-all (Tx.Consecutive party o t) d = no-reports send
 
   abbrev CameAll : Side → Came → Type 0
-  CameAll side c = AllOf side (reported k receive (c .old) ++ wordReports k (c .word))
+  CameAll side c = AllOf side (reported k receive (c .old) scheduler ++ wordReports k (c .word))
 
   heard-all : (b : Berth) (h : Heard) → HeardAll h → CameAll receive (heardBy b h)
   unfolding heardBy
-  heard-all b h a = both-all receive (reported k receive (h .old)) (wordReports k (h .word)) (reported-all receive (h .old)) a
+  heard-all b h a = both-all receive (reported k receive (h .old) scheduler) (wordReports k (h .word)) (reported-all receive (h .old) scheduler) a
 
   received-all : (set : Settings) (b : Berth) (d : List ℕ) → (kind d ≡ flowKind → ⊥) → CameAll receive (frameCame set b d)
   unfolding frameCame byKind
@@ -170,7 +176,7 @@ module _ (k : ℕ) where
       (λ w. pick-either (CameAll receive) (eqb (kind d) consecutiveKind) _ _ (λ x. heard-all b _ (consecutive-all (b .settings .block) (b .rx) (b .last) d))
       (λ x. heard-all b _ (ignored-all 2 (b .rx) (b .last)))))))
 
-  frame-all : (set : Settings) (b : Berth) (d : List ℕ) → CameAll (frameSide d) (frameCame set b d)
+  pub frame-all : (set : Settings) (b : Berth) (d : List ℕ) → CameAll (frameSide d) (frameCame set b d)
   unfolding frameSide
   frame-all set b d = go (eqb-cases (kind d) flowKind)
     where
@@ -261,7 +267,7 @@ module _ (set : Settings) where
   -- what the berth says of it, for that side
   side-said : (s : Side) (p : Part) (e : Event)
       → map (λ x. onlySide s (says set p e)) (forSide s p e) ≡ saysAll set (sideOf s p) (forSide s p e)
-  unfolding sideOf saysAll says forSide frameSide turnSide onlySide
+  unfolding sideOf saysAll says forSide frameSide turnSide onlySide reporting
   side-said s p (arrives d) = go s (eqb-cases (kind d) flowKind)
     where
       go : (s : Side) → Tested (eqb (kind d) flowKind) (kind d ≡ flowKind) (kind d ≡ flowKind → ⊥)
@@ -320,7 +326,7 @@ module _ (set : Settings) where
       frame-all k set (p .berth) d s ∙ go (sameSide s (frameSide d))
     where
       rs : List Report
-      rs = reported k receive (frameCame set (p .berth) d .old) ++ wordReports k (frameCame set (p .berth) d .word)
+      rs = reported k receive (frameCame set (p .berth) d .old) scheduler ++ wordReports k (frameCame set (p .berth) d .word)
 
       go : (b : Bool)
           → pick b rs []
@@ -328,18 +334,21 @@ module _ (set : Settings) where
       go true = sym (append-nil rs)
       go false = refl
   side-reported k receive p ticks = tick-reported k (p .berth) receive ∙ unfold reported in (sym (append-nil _ ∙ append-nil _))
-  side-reported k send p ticks = tick-reported k (p .berth) send ∙ unfold reported in (sym (append-nil _))
+  side-reported k send p ticks =
+      tick-reported k (p .berth) send
+      ∙ sym (reporting-named k send (txCode (p .berth .tx)) (partyOf (p .berth .tx)))
+      ∙ unfold reported in (sym (append-nil _))
   side-reported k receive p (sends party m) = unfold ofSide only in refl
   side-reported k send p (sends party m) = unfold ofSide only in refl
   side-reported k s p turns = unfold handOver turnSide in (go s (flowDue (p .berth .rx)) refl)
     where
       go : (s : Side) (b : Bool) → flowDue (p .berth .rx) ≡ b
-          → ofSide s (reported k send (handOver (p .berth) (p .outgoing) .code))
-          ≡ over (saidReports k) (map (λ x. hands (handOver (p .berth) (p .outgoing) .frame) (handOver (p .berth) (p .outgoing) .code)) (pick (sameSide s (pick b receive send)) (turns ∷ []) []))
+          → ofSide s (reported k send (handOver (p .berth) (p .outgoing) .code) (handOver (p .berth) (p .outgoing) .party))
+          ≡ over (saidReports k) (map (λ x. hands (handOver (p .berth) (p .outgoing) .frame) (handOver (p .berth) (p .outgoing) .code) (handOver (p .berth) (p .outgoing) .party)) (pick (sameSide s (pick b receive send)) (turns ∷ []) []))
       go receive true e = unfold handOver in (rw e (unfold reported ofSide only in refl))
       go send true e = unfold handOver in (rw e (unfold reported ofSide only in refl))
-      go receive false e = reported-all k send (handOver (p .berth) (p .outgoing) .code) receive
-      go send false e = reported-all k send (handOver (p .berth) (p .outgoing) .code) send ∙ sym (append-nil _)
+      go receive false e = reported-all k send (handOver (p .berth) (p .outgoing) .code) (handOver (p .berth) (p .outgoing) .party) receive
+      go send false e = reported-all k send (handOver (p .berth) (p .outgoing) .code) (handOver (p .berth) (p .outgoing) .party) send ∙ sym (append-nil _)
   side-reported k receive p (changes parameter value) = unfold ofSide only in refl
   side-reported k send p (changes parameter value) = unfold ofSide only in refl
 

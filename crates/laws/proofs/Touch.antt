@@ -12,6 +12,7 @@ use lib.Dec.{T, eqb, ltb, leb, le→leb, lt→ltb}
 use mir.Facts.{eqb-yes, yes-eqb, yes-leb, yes-and}
 use Rattle.rules.specs.Tests.{pick, Need, firstUnmet}
 use Rattle.rules.specs.Numbers.{berthCount, fromBerth, frameSize, mostData, singleKind, firstKind, consecutiveKind, flowKind, shortMost}
+use Rattle.rules.specs.Parties.{scheduler}
 use Rattle.rules.specs.Nodes.{berthAt, Held}
 use Rattle.rules.specs.Ranges.{BerthRange, InOrder}
 use Rattle.rules.specs.Frames.{kind, singleFits, announced, firstFits}
@@ -130,7 +131,7 @@ NeitherTold t = (old : ℕ) → Neither (hears old (t .word) ∷ [])
 flow-neither : (tx : Tx) (d : List ℕ) → NeitherTold (flowCame tx d)
 unfolding flowIgnored over deliveredIn begunIn
 flow-neither tx d =
-    told-either NeitherTold tx d (λ why old. (refl, λ any. refl)) (λ o old. (refl, λ any. refl)) (λ o old. (refl, λ any. refl)) (λ code old. (refl, λ any. refl))
+    told-either NeitherTold tx d (λ why old. (refl, λ any. refl)) (λ o party old. (refl, λ any. refl)) (λ o party old. (refl, λ any. refl)) (λ code party old. (refl, λ any. refl))
 
 -- ---- the frame handed over says whose turn it was
 
@@ -237,7 +238,7 @@ module _ (k : ℕ) (h : Held) where
   ignored-said d t =
       let (x, y, z) = frame-nothing (berthAt (h .node) k) set d t in
       append-nil _
-      ∙ ap₂ (λ (m : ℕ) (rs : List Report). reported k receive m ++ rs) y (ignored-reports k (frameCame set (berthAt (h .node) k) d .word) t)
+      ∙ ap₂ (λ (m : ℕ) (rs : List Report). reported k receive m scheduler ++ rs) y (ignored-reports k (frameCame set (berthAt (h .node) k) d .word) t)
 
   passed-by : (s : Side) (c : Call) (d : List ℕ) → own k h c ≡ arrives d ∷ [] → T (isIgnored (cameAt h k d .word))
       → (sideOf s (partOf k (outcome h c .held)) ≡ sideOf s (partOf k h)) × (reportsBy s k (outcome h c .answer) ≡ [])
@@ -315,21 +316,21 @@ module _ (k : ℕ) (h : Held) where
           by (inl v) = let (x, y) = passed-by s (frame id d) d (done-as true u) v in spared (record { part = x; reported = y; frames = fs })
           by (inr v) = let (x, y) = untouched s (frame id d) (arrives d ∷ []) (done-as true u) (not-its v) in spared (record { part = x; reported = y; frames = fs })
 
-  touch-send : (s : Side) (j : ℕ) (m : List ℕ) → refusal h (send j party m) ≡ 0 → T (spares s k h (send j party m)) → TouchedBy s (send j party m)
+  touch-send : (s : Side) (j party : ℕ) (m : List ℕ) → refusal h (send j party m) ≡ 0 → T (spares s k h (send j party m)) → TouchedBy s (send j party m)
   unfolding spares
-  touch-send s j m e t = go (eqb-cases j k)
+  touch-send s j party m e t = go (eqb-cases j k)
     where
       fs : framesBy s k (outcome h (send j party m) .answer) ≡ []
       fs = ap (framesBy s k) (answer-is (send j party m) e) ∙ unfold reply framesBy in refl
 
-      done-as : (b : Bool) → eqb j k ≡ b → own k h (send j party m) ≡ pick b (sends party m ∷ []) []
+      done-as : (b : Bool) → eqb j k ≡ b → own k h (send j party m) ≡ pick b (sends (record { 0 = party }) m ∷ []) []
       done-as b u = own-is (send j party m) e ∙ unfold ownDone in (rw u)
 
-      not-its : T (not (sameSide s sendSide)) → sideEvents s set (partOf k h) (sends party m ∷ []) ≡ []
+      not-its : T (not (sameSide s sendSide)) → sideEvents s set (partOf k h) (sends (record { 0 = party }) m ∷ []) ≡ []
       not-its u = unfold sideEvents forSide in (rw (is-false (sameSide s sendSide) u))
 
       go : Tested (eqb j k) (j ≡ k) (j ≡ k → ⊥) → TouchedBy s (send j party m)
-      go (holds u q) = let (x, y) = untouched s (send j party m) (sends party m ∷ []) (done-as true u) (not-its (rw u at t)) in spared (record { part = x; reported = y; frames = fs })
+      go (holds u q) = let (x, y) = untouched s (send j party m) (sends (record { 0 = party }) m ∷ []) (done-as true u) (not-its (rw u at t)) in spared (record { part = x; reported = y; frames = fs })
       go (fails u q) = let (x, y) = untouched s (send j party m) [] (done-as false u) (unfold sideEvents in refl) in spared (record { part = x; reported = y; frames = fs })
 
   touch-change : (s : Side) (j parameter value : ℕ) → refusal h (change j parameter value) ≡ 0 → TouchedBy s (change j parameter value)
@@ -488,7 +489,7 @@ module _ (k : ℕ) (h : Held) where
     touch-answered : (s : Side) (c : Call) → refusal h c ≡ 0 → T (spares s k h c) → TouchedBy s c
     touch-answered s (frame id d) e t = touch-frame s id d e t
     touch-answered s tick e t = clocked (touch-tick s e t)
-    touch-answered s (send j party m) e t = touch-send s j m e t
+    touch-answered s (send j party m) e t = touch-send s j party m e t
     touch-answered s (turn buffer) e t = touch-turn s buffer e
     touch-answered s (show j choice) e t =
         let (x, y) = untouched s (show j choice) [] (own-is (show j choice) e ∙ unfold ownDone in refl) (unfold sideEvents in refl) in
@@ -578,7 +579,7 @@ module _ (k : ℕ) (h : Held) where
         (λ u. frame-neither d (rw (is-true (eqb (senderOf id) k) u) at t)) (λ u. (refl, λ any. refl))
     neither-done tick t = (refl, λ any. refl)
     neither-done (send j party m) t =
-        pick-either (λ es. Neither (saysAll set (partOf k h) es)) (eqb j k) (sends party m ∷ []) [] (λ u. (refl, λ any. refl)) (λ u. (refl, λ any. refl))
+        pick-either (λ es. Neither (saysAll set (partOf k h) es)) (eqb j k) (sends (record { 0 = party }) m ∷ []) [] (λ u. (refl, λ any. refl)) (λ u. (refl, λ any. refl))
     neither-done (turn buffer) t =
         pick-either (λ es. Neither (saysAll set (partOf k h) es)) (ltb (passedOver (h .node)) berthCount && eqb (reached (h .node)) k) (turns ∷ []) []
         (λ u. (refl, λ any. refl)) (λ u. (refl, λ any. refl))

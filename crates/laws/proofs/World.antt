@@ -12,13 +12,14 @@ use lib.ListN.{length, take}
 use lib.Seq.{sets, length-sets}
 use lib.Dec.{T}
 use mir.Facts.{yes-eqb, yes-leb, yes-ltb}
-use Rattle.rules.specs.Numbers.{berthCount, fromBerth, mostData, flowKind, shortMost}
+use Rattle.rules.specs.Numbers.{berthCount, fromBerth, mostData, flowKind, shortMost, theLaptop}
+use Rattle.rules.specs.Parties.{scheduler}
 use Rattle.rules.specs.Nodes.{fresh, withTx, berthAt, Held}
 use Rattle.rules.specs.Ranges.{inOrder}
 use Rattle.rules.specs.Frames.{kind, framesOf}
 use Rattle.rules.specs.Arrivals.{Came, frameCame}
-use Rattle.rules.specs.Ticks.{rxTicked, rxCode, txTicked, txCode, ticked}
-use Rattle.rules.specs.Turns.{flowDue, messageDue, due, flowFrame, afterFlow, messageFrame, messageCode, afterMessage, handOver, beginsWith, sent as sentBerth, busy}
+use Rattle.rules.specs.Ticks.{rxTicked, rxCode, txTicked, txCode, txParty, ticked}
+use Rattle.rules.specs.Turns.{flowDue, messageDue, due, flowFrame, afterFlow, messageFrame, messageCode, messageParty, afterMessage, handOver, beginsWith, sent as sentBerth, busy}
 use Rattle.rules.specs.Changes.{changed as changedBerth}
 use Rattle.rules.specs.Stores.{rightStore, areaOf}
 use Rattle.rules.specs.Cards.{underWay}
@@ -31,6 +32,7 @@ use Rattle.rules.specs.Clocks.{tickCode}
 use Rattle.rules.specs.declared.Settings.{Settings}
 use Rattle.rules.specs.declared.BerthSettings.{BerthSettings}
 use Rattle.rules.specs.declared.Choice.{Choice}
+use Rattle.rules.specs.declared.Party.{Party}
 use Rattle.rules.specs.declared.Rx.{Rx}
 use Rattle.rules.specs.declared.Tx.{Tx}
 use Rattle.rules.specs.declared.Berth.{Berth}
@@ -101,19 +103,19 @@ unfolding fromB
 flow-B l rx f =
     λ i. atTaker l (l .own) rx (l .last) (l .ina) (l .toR) (l .toS ++ (f ∷ [])) (l .log ++ (back f ∷ [])) (append-nil (l .heard) i) (append-nil (l .begun) i) (append-nil (l .delivered) i)
 
-module _ (i j : ℕ) (small-i : i < berthCount) (small-j : j < berthCount) (set : Settings) (n : ℕ) (out : List ℕ) (E : BerthSettings → List Handed) where
+module _ (i j : ℕ) (small-i : i < berthCount) (small-j : j < berthCount) (set : Settings) (party : Party) (n : ℕ) (out : List ℕ) (E : BerthSettings → List Handed) where
   -- ---- what a step is for the line
 
   data StepS (l l′ : Line) : Type 0 where
     idle-S : l′ ≡ l → StepS l l′
-    tick-S : txCode (l .tx) ≡ 0 → l′ ≡ tickS i j set n out E l → StepS l l′
-    hand-S : T (messageDue (l .tx)) → l′ ≡ handS i j set n out E l → StepS l l′
+    tick-S : txCode (l .tx) ≡ 0 → l′ ≡ tickS i j set party n out E l → StepS l l′
+    hand-S : T (messageDue (l .tx)) → l′ ≡ handS i j set party n out E l → StepS l l′
 
   data StepR (l l′ : Line) : Type 0 where
     idle-R : l′ ≡ l → StepR l l′
-    tick-R : rxCode (l .rx) ≡ 0 → l′ ≡ tickR i j set n out E l → StepR l l′
-    hand-R : T (flowDue (l .rx)) → l′ ≡ handR i j set n out E l → StepR l l′
-    change-R : (own : BerthSettings) → T (not (underWay (l .rx))) → l′ ≡ changeR i j set n out E l own → StepR l l′
+    tick-R : rxCode (l .rx) ≡ 0 → l′ ≡ tickR i j set party n out E l → StepR l l′
+    hand-R : T (flowDue (l .rx)) → l′ ≡ handR i j set party n out E l → StepR l l′
+    change-R : (own : BerthSettings) → T (not (underWay (l .rx))) → l′ ≡ changeR i j set party n out E l own → StepR l l′
 
   -- the send side of berth i in a node
   abbrev sideA : Held → Part
@@ -149,14 +151,14 @@ module _ (i j : ℕ) (small-i : i < berthCount) (small-j : j < berthCount) (set 
   -- a tick and a turn of the send side alone
   ticked-A : (h : Held) → (stateAfter (h .node .settings) (sideA h) ticks .berth .tx ≡ txTicked (berthAt (h .node) i .tx))
       × (stateAfter (h .node .settings) (sideA h) ticks .outgoing ≡ partOf i h .outgoing)
-      × (saidReports i (says (h .node .settings) (sideA h) ticks) ≡ reported i sendSide (txCode (berthAt (h .node) i .tx)))
+      × (saidReports i (says (h .node .settings) (sideA h) ticks) ≡ reported i sendSide (txCode (berthAt (h .node) i .tx)) (txParty (berthAt (h .node) i .tx)))
       × (tickCode sendSide (sideA h .berth) ≡ txCode (berthAt (h .node) i .tx))
   unfolding stateAfter sideOf partOf ticked says saidReports reported
   ticked-A h = (refl, refl, refl, refl)
 
   turned-A : (h : Held) → (stateAfter (h .node .settings) (sideA h) turns .berth .tx ≡ afterMessage (berthAt (h .node) i .tx))
       × (stateAfter (h .node .settings) (sideA h) turns .outgoing ≡ partOf i h .outgoing)
-      × (saidReports i (says (h .node .settings) (sideA h) turns) ≡ reported i sendSide (messageCode (berthAt (h .node) i .tx)))
+      × (saidReports i (says (h .node .settings) (sideA h) turns) ≡ reported i sendSide (messageCode (berthAt (h .node) i .tx)) (messageParty (berthAt (h .node) i .tx)))
       × (handedIn (says (h .node .settings) (sideA h) turns) ≡ messageFrame (berthAt (h .node) i .tx) (partOf i h .outgoing) ∷ [])
   unfolding stateAfter sideOf partOf handOver says saidReports handedIn
   turned-A h = (refl, refl, refl, refl)
@@ -177,17 +179,17 @@ module _ (i j : ℕ) (small-i : i < berthCount) (small-j : j < berthCount) (set 
       (line-A w c ∙ path-A (lineIn i j w) tx (s .frames) (s .reported) ∙ only-A (lineIn i j w) (lineIn i j w .tx), o ∙ kept)
 
   pub tick-A : (w : World) (c : Call) → partOf i (w .a) .outgoing ≡ out → TickOf i (w .a) sendSide c
-      → (txCode (lineIn i j w .tx) ≡ 0) × (lineIn i j (callA i w c) ≡ tickS i j set n out E (lineIn i j w)) × KeptA w c
+      → (txCode (lineIn i j w .tx) ≡ 0) × (lineIn i j (callA i w c) ≡ tickS i j set party n out E (lineIn i j w)) × KeptA w c
   unfolding lineIn sideOf partOf
   tick-A w c kept s =
       let (tx, o) = tx-of (outcome (w .a) c .held) (stateAfter (w .a .node .settings) (sideA (w .a)) ticks) (s .part) in
       let (a, b, r, d) = ticked-A (w .a) in
       let code : txCode (berthAt (w .a .node) i .tx) ≡ 0 = sym d ∙ s .none in
-      let none : reported i sendSide (txCode (berthAt (w .a .node) i .tx)) ≡ [] = ap (reported i sendSide) code ∙ unfold reported in refl in
+      let none : reported i sendSide (txCode (berthAt (w .a .node) i .tx)) (txParty (berthAt (w .a .node) i .tx)) ≡ [] = ap (λ (m : ℕ). reported i sendSide m (txParty (berthAt (w .a .node) i .tx))) code ∙ unfold reported in refl in
       (code, line-A w c ∙ path-A (lineIn i j w) (tx ∙ a) (s .frames) (s .reported ∙ r ∙ none) ∙ only-A (lineIn i j w) (txTicked (lineIn i j w .tx)), o ∙ b ∙ kept)
 
   pub turn-A : (w : World) (c : Call) → partOf i (w .a) .outgoing ≡ out → TurnOf i (w .a) sendSide c
-      → T (messageDue (lineIn i j w .tx)) × (lineIn i j (callA i w c) ≡ handS i j set n out E (lineIn i j w)) × KeptA w c
+      → T (messageDue (lineIn i j w .tx)) × (lineIn i j (callA i w c) ≡ handS i j set party n out E (lineIn i j w)) × KeptA w c
   unfolding lineIn sideOf partOf
   turn-A w c kept s =
       let (tx, o) = tx-of (outcome (w .a) c .held) (stateAfter (w .a .node .settings) (sideA (w .a)) turns) (s .part) in
@@ -208,7 +210,7 @@ module _ (i j : ℕ) (small-i : i < berthCount) (small-j : j < berthCount) (set 
       × (stateAfter (h .node .settings) (sideB h) ticks .berth .rx ≡ rxTicked (berthAt (h .node) j .rx))
       × (stateAfter (h .node .settings) (sideB h) ticks .berth .last ≡ berthAt (h .node) j .last)
       × (stateAfter (h .node .settings) (sideB h) ticks .incoming ≡ partOf j h .incoming)
-      × (saidReports j (says (h .node .settings) (sideB h) ticks) ≡ reported j receive (rxCode (berthAt (h .node) j .rx)) ++ [])
+      × (saidReports j (says (h .node .settings) (sideB h) ticks) ≡ reported j receive (rxCode (berthAt (h .node) j .rx)) scheduler ++ [])
       × (tickCode receive (sideB h .berth) ≡ rxCode (berthAt (h .node) j .rx))
   unfolding stateAfter sideOf partOf ticked says saidReports reported
   ticked-B h = (refl, refl, refl, refl, refl, refl)
@@ -246,20 +248,20 @@ module _ (i j : ℕ) (small-i : i < berthCount) (small-j : j < berthCount) (set 
       ∙ only-B (lineIn i j w) (lineIn i j w .own) (lineIn i j w .rx) (lineIn i j w .last) (lineIn i j w .ina)
 
   pub tick-B : (w : World) (c : Call) → NoneB w c → TickOf j (w .b) receive c
-      → (rxCode (lineIn i j w .rx) ≡ 0) × (lineIn i j (callB j w c) ≡ tickR i j set n out E (lineIn i j w))
+      → (rxCode (lineIn i j w .rx) ≡ 0) × (lineIn i j (callB j w c) ≡ tickR i j set party n out E (lineIn i j w))
   unfolding lineIn sideOf partOf
   tick-B w c (ds, bs) s =
       let (own, rx, last, ina) = rx-of (outcome (w .b) c .held) (stateAfter (w .b .node .settings) (sideB (w .b)) ticks) (s .part) in
       let (z, a, b, v, r, d) = ticked-B (w .b) in
       let code : rxCode (berthAt (w .b .node) j .rx) ≡ 0 = sym d ∙ s .none in
-      let none : reported j receive (rxCode (berthAt (w .b .node) j .rx)) ++ [] ≡ [] = ap (λ (m : ℕ). reported j receive m ++ []) code ∙ unfold reported in refl in (
+      let none : reported j receive (rxCode (berthAt (w .b .node) j .rx)) scheduler ++ [] ≡ [] = ap (λ (m : ℕ). reported j receive m scheduler ++ []) code ∙ unfold reported in refl in (
         code,
         line-B w c ∙ path-B (lineIn i j w) (own ∙ z) (rx ∙ a) (last ∙ b) (ina ∙ v) (s .frames) (s .reported ∙ r ∙ none) (bs _) ds
             ∙ only-B (lineIn i j w) (lineIn i j w .own) (rxTicked (lineIn i j w .rx)) (lineIn i j w .last) (lineIn i j w .ina),
       )
 
   pub turn-B : (w : World) (c : Call) → NoneB w c → TurnOf j (w .b) receive c
-      → T (flowDue (lineIn i j w .rx)) × (lineIn i j (callB j w c) ≡ handR i j set n out E (lineIn i j w))
+      → T (flowDue (lineIn i j w .rx)) × (lineIn i j (callB j w c) ≡ handR i j set party n out E (lineIn i j w))
   unfolding lineIn sideOf partOf
   turn-B w c (ds, bs) s =
       let (own, rx, last, ina) = rx-of (outcome (w .b) c .held) (stateAfter (w .b .node .settings) (sideB (w .b)) turns) (s .part) in
@@ -271,7 +273,7 @@ module _ (i j : ℕ) (small-i : i < berthCount) (small-j : j < berthCount) (set 
       )
 
   change-B : (w : World) (c : Call) → NoneB w c → ChangeOf j (w .b) receive c
-      → T (not (underWay (lineIn i j w .rx))) × (lineIn i j (callB j w c) ≡ changeR i j set n out E (lineIn i j w) (lineIn i j (callB j w c) .own))
+      → T (not (underWay (lineIn i j w .rx))) × (lineIn i j (callB j w c) ≡ changeR i j set party n out E (lineIn i j w) (lineIn i j (callB j w c) .own))
   unfolding lineIn sideOf partOf leftB
   change-B w c (ds, bs) s =
       let (own, rx, last, ina) = rx-of (outcome (w .b) c .held) (stateAfter (w .b .node .settings) (sideB (w .b)) (changes (s .parameter) (s .value))) (s .part) in
@@ -304,12 +306,12 @@ module _ (i j : ℕ) (small-i : i < berthCount) (small-j : j < berthCount) (set 
   came-A : (h : Held) (d : List ℕ)
       → (stateAfter (h .node .settings) (sideA h) (arrives d) .berth .tx ≡ cameA h d .berth .tx)
       × (stateAfter (h .node .settings) (sideA h) (arrives d) .outgoing ≡ partOf i h .outgoing)
-      × (saidReports i (says (h .node .settings) (sideA h) (arrives d)) ≡ reported i receive (cameA h d .old) ++ wordReports i (cameA h d .word))
+      × (saidReports i (says (h .node .settings) (sideA h) (arrives d)) ≡ reported i receive (cameA h d .old) scheduler ++ wordReports i (cameA h d .word))
   unfolding stateAfter sideOf partOf says saidReports
   came-A h d = (refl, refl, refl)
 
   pub took-A : (w : World) (d : List ℕ) (q : List (List ℕ)) → Sound (w .a) → length d ≤ mostData → kind d ≡ flowKind
-      → (lineIn i j (carriedA i w (d ∷ q)) ≡ tookS i j set n out E (lineIn i j w) q (frameCame (w .a .node .settings) (senderBerth i j set n out E (lineIn i j w)) d))
+      → (lineIn i j (carriedA i w (d ∷ q)) ≡ tookS i j set party n out E (lineIn i j w) q (frameCame (w .a .node .settings) (senderBerth i j set party n out E (lineIn i j w)) d))
       × (partOf i (outcome (w .a) (frame (fromBerth + i) d) .held) .outgoing ≡ partOf i (w .a) .outgoing)
   unfolding lineIn carriedA leftA tookS
   took-A w d q s l e =
@@ -334,7 +336,7 @@ module _ (i j : ℕ) (small-i : i < berthCount) (small-j : j < berthCount) (set 
   came-B h d = (refl, refl, refl)
 
   pub took-B : (w : World) (d : List ℕ) (q : List (List ℕ)) → Sound (w .b) → w .b .node .settings ≡ set → length d ≤ mostData → (kind d ≡ flowKind → ⊥)
-      → lineIn i j (carriedB j w (d ∷ q)) ≡ tookR i j set n out E (lineIn i j w) q (frameCame set (takerBerth i j set n out E (lineIn i j w)) d)
+      → lineIn i j (carriedB j w (d ∷ q)) ≡ tookR i j set party n out E (lineIn i j w) q (frameCame set (takerBerth i j set party n out E (lineIn i j w)) d)
   unfolding lineIn carriedB leftB tookR saidReports
   took-B w d q s same l ne =
       let r = carry j (w .b) s small-j receive d l (side-of-other d ne) in
@@ -348,7 +350,7 @@ module _ (i j : ℕ) (small-i : i < berthCount) (small-j : j < berthCount) (set 
       ((ap (λ (fs : List (List ℕ)). w .toA ++ fs) (r .frames) ∙ append-nil (w .toA)) k)
       ((ap (λ (fs : List (List ℕ)). w .log ++ map back fs) (r .frames) ∙ append-nil (w .log)) k)
       (w .heard ++ (r .reported ∙ ap (saidReports j) c) k) (w .begun ++ (bs ∙ ap₂ begunIn set-is c) k) (w .delivered ++ (ds ∙ ap deliveredIn c) k))
-      ∙ ap (λ (x : Settings). tookR i j set n out E (lineIn i j w) q (frameCame x (takerBerth i j set n out E (lineIn i j w)) d)) same
+      ∙ ap (λ (x : Settings). tookR i j set party n out E (lineIn i j w) q (frameCame x (takerBerth i j set party n out E (lineIn i j w)) d)) same
 
   -- ---- the two nodes stay sound, the message stays in its area, and the transfer is in one of its phases
 
@@ -358,15 +360,15 @@ module _ (i j : ℕ) (small-i : i < berthCount) (small-j : j < berthCount) (set 
     pub settings-b : w .b .node .settings ≡ set
     pub kept : partOf i (w .a) .outgoing ≡ out
     pub steps : ℕ
-    pub phase : Phase i j set n out E (lineIn i j w) steps
+    pub phase : Phase i j set party n out E (lineIn i j w) steps
 
   -- so they do after a call on either node that leaves the line in a phase
-  unfoldable pub after-A : (w : World) (c : Call) (s : Alive w) (m : ℕ) → Phase i j set n out E (lineIn i j (callA i w c)) m → KeptA w c → Alive (callA i w c)
+  unfoldable pub after-A : (w : World) (c : Call) (s : Alive w) (m : ℕ) → Phase i j set party n out E (lineIn i j (callA i w c)) m → KeptA w c → Alive (callA i w c)
   unfolding leftA
   after-A w c s m ph o =
       record { sound-a = sound-step (w .a) c (s .sound-a); sound-b = s .sound-b; settings-b = s .settings-b; kept = o; steps = m; phase = ph }
 
-  unfoldable pub after-B : (w : World) (c : Call) (s : Alive w) (m : ℕ) → Phase i j set n out E (lineIn i j (callB j w c)) m → Alive (callB j w c)
+  unfoldable pub after-B : (w : World) (c : Call) (s : Alive w) (m : ℕ) → Phase i j set party n out E (lineIn i j (callB j w c)) m → Alive (callB j w c)
   unfolding leftB
   after-B w c s m ph =
       record {
@@ -381,18 +383,18 @@ module _ (i j : ℕ) (small-i : i < berthCount) (small-j : j < berthCount) (set 
   module _ (fit : n ≤ length out) (some : 1 ≤ n) (in-area : n ≤ set .area) (small : set .area ≤ shortMost) where
     -- a phase, however many steps are to come
     abbrev Phased : Line → Type 0
-    Phased l = (m : ℕ) × Phase i j set n out E l m
+    Phased l = (m : ℕ) × Phase i j set party n out E l m
 
-    phased-S : (l l′ : Line) (m : ℕ) → StepS l l′ → Phase i j set n out E l m → Phased l′
+    phased-S : (l l′ : Line) (m : ℕ) → StepS l l′ → Phase i j set party n out E l m → Phased l′
     phased-S l l′ m (idle-S e) ph = rw e (m, ph)
-    phased-S l l′ m (tick-S k e) ph = let (m′, h, ph′) = ticks-S i j set n out E l m k ph in rw e (m′, ph′)
-    phased-S l l′ m (hand-S t e) ph = let (m′, h, ph′) = hands-S i j set n out E l m t ph in rw e (m′, ph′)
+    phased-S l l′ m (tick-S k e) ph = let (m′, h, ph′) = ticks-S i j set party n out E l m k ph in rw e (m′, ph′)
+    phased-S l l′ m (hand-S t e) ph = let (m′, h, ph′) = hands-S i j set party n out E l m t ph in rw e (m′, ph′)
 
-    phased-R : (l l′ : Line) (m : ℕ) → StepR l l′ → Phase i j set n out E l m → Phased l′
+    phased-R : (l l′ : Line) (m : ℕ) → StepR l l′ → Phase i j set party n out E l m → Phased l′
     phased-R l l′ m (idle-R e) ph = rw e (m, ph)
-    phased-R l l′ m (tick-R k e) ph = let (m′, h, ph′) = ticks-R i j set n out E l m k ph in rw e (m′, ph′)
-    phased-R l l′ m (hand-R t e) ph = let (m′, h, ph′) = hands-R i j set n out E l m t ph in rw e (m′, ph′)
-    phased-R l l′ m (change-R own t e) ph = rw e (m, changes-R i j set n out E l m own t ph)
+    phased-R l l′ m (tick-R k e) ph = let (m′, h, ph′) = ticks-R i j set party n out E l m k ph in rw e (m′, ph′)
+    phased-R l l′ m (hand-R t e) ph = let (m′, h, ph′) = hands-R i j set party n out E l m t ph in rw e (m′, ph′)
+    phased-R l l′ m (change-R own t e) ph = rw e (m, changes-R i j set party n out E l m own t ph)
 
     alive-A : (w : World) (c : Call) → Spares sendSide i (w .a) c → Alive w → Alive (callA i w c)
     alive-A w c t s =
@@ -415,9 +417,9 @@ module _ (i j : ℕ) (small-i : i < berthCount) (small-j : j < berthCount) (set 
     unfolding carriedA leftA
     alive-carriedA w d q z s =
         let e : lineIn i j w .toS ≡ d ∷ q = unfold lineIn in z in
-        let (l, k) = back-whole i j set n out E fit some in-area small (lineIn i j w) (s .steps) d q e (s .phase) in
+        let (l, k) = back-whole i j set party n out E fit some in-area small (lineIn i j w) (s .steps) d q e (s .phase) in
         let (line, o) = took-A w d q (s .sound-a) (omega (arith, whole-heard)) k in
-        let (m, h, ph) = carries-S i j set n out E (w .a .node .settings) (lineIn i j w) (s .steps) d q e (s .phase) in
+        let (m, h, ph) = carries-S i j set party n out E (w .a .node .settings) (lineIn i j w) (s .steps) d q e (s .phase) in
         record {
           alive = record {
             sound-a = sound-step (w .a) (frame (fromBerth + i) d) (s .sound-a);
@@ -425,7 +427,7 @@ module _ (i j : ℕ) (small-i : i < berthCount) (small-j : j < berthCount) (set 
             settings-b = s .settings-b;
             kept = o ∙ s .kept;
             steps = m;
-            phase = subst (λ (x : Line). Phase i j set n out E x m) (sym line) ph;
+            phase = subst (λ (x : Line). Phase i j set party n out E x m) (sym line) ph;
           };
           fewer = h;
         }
@@ -434,9 +436,9 @@ module _ (i j : ℕ) (small-i : i < berthCount) (small-j : j < berthCount) (set 
     unfolding carriedB leftB
     alive-carriedB w d q z s =
         let e : lineIn i j w .toR ≡ d ∷ q = unfold lineIn in z in
-        let (l, k) = there-whole i j set n out E fit some in-area small (lineIn i j w) (s .steps) d q e (s .phase) in
+        let (l, k) = there-whole i j set party n out E fit some in-area small (lineIn i j w) (s .steps) d q e (s .phase) in
         let line = took-B w d q (s .sound-b) (s .settings-b) (omega (arith, whole-heard)) k in
-        let (m, h, ph) = carries-R i j set n out E fit some in-area small (lineIn i j w) (s .steps) d q e (s .phase) in
+        let (m, h, ph) = carries-R i j set party n out E fit some in-area small (lineIn i j w) (s .steps) d q e (s .phase) in
         record {
           alive = record {
             sound-a = s .sound-a;
@@ -444,7 +446,7 @@ module _ (i j : ℕ) (small-i : i < berthCount) (small-j : j < berthCount) (set 
             settings-b = settings-step (w .b) (frame (fromBerth + j) d) ∙ s .settings-b;
             kept = s .kept;
             steps = m;
-            phase = subst (λ (x : Line). Phase i j set n out E x m) (sym line) ph;
+            phase = subst (λ (x : Line). Phase i j set party n out E x m) (sym line) ph;
           };
           fewer = h;
         }
@@ -491,20 +493,20 @@ module _ (i j : ℕ) (small-i : i < berthCount) (small-j : j < berthCount) (set 
 
 -- ---- the send
 
-send-met : (h : Held) (k : ℕ) (m : List ℕ) → k < berthCount → Sound h → busy (berthAt (h .node) k .tx) ≡ false → 1 ≤ length m
+send-met : (h : Held) (k party : ℕ) (m : List ℕ) → k < berthCount → Sound h → busy (berthAt (h .node) k .tx) ≡ false → party ≤ theLaptop → 1 ≤ length m
     → length m ≤ h .node .settings .area → refusal h (send k party m) ≡ 0
 unfolding refusal needs rightStore
-send-met h k m l s z a b =
+send-met h k party m l s z allowed a b =
     let free : T (not (busy (berthAt (h .node) k .tx))) = rw z tt in
-    all-met (needs h (send k party m)) (range-in-order (h .node) (s .order), (yes-eqb (s .outgoing), (yes-ltb l, (yes-ltb a, (yes-leb b, (free, tt))))))
+    all-met (needs h (send k party m)) (range-in-order (h .node) (s .order), (yes-eqb (s .outgoing), (yes-ltb l, (yes-leb allowed, (yes-ltb a, (yes-leb b, (free, tt)))))))
 
-sent-part : (h : Held) (k : ℕ) (m : List ℕ) → refusal h (send k party m) ≡ 0
-    → (berthAt (outcome h (send k party m) .held .node) k .tx ≡ beginsWith (length m))
+sent-part : (h : Held) (k party : ℕ) (m : List ℕ) → refusal h (send k party m) ≡ 0
+    → (berthAt (outcome h (send k party m) .held .node) k .tx ≡ beginsWith (length m) (record { 0 = party }))
     × (partOf k (outcome h (send k party m) .held) .outgoing ≡ sets (areaOf (h .node .settings .area) k (h .outgoing)) 0 m)
 unfolding ownDone alone stateAfter partAfter sentBerth partOf
-sent-part h k m e =
-    let own-k : own k h (send k party m) ≡ sends m ∷ [] = own-is k h (send k party m) e ∙ rw (eqb-is k k refl) in
-    let p : partOf k (outcome h (send k party m) .held) ≡ alone (h .node .settings) (partOf k h) (sends party m ∷ []) =
+sent-part h k party m e =
+    let own-k : own k h (send k party m) ≡ sends (record { 0 = party }) m ∷ [] = own-is k h (send k party m) e ∙ rw (eqb-is k k refl) in
+    let p : partOf k (outcome h (send k party m) .held) ≡ alone (h .node .settings) (partOf k h) (sends (record { 0 = party }) m ∷ []) =
     part-step k h (send k party m) ∙ ap (alone (h .node .settings) (partOf k h)) own-k in
     (ap (λ (x : Part). x .berth .tx) p, ap (λ (x : Part). x .outgoing) p)
 
@@ -513,10 +515,13 @@ sent-bytes l m out e h = rw e (rw (zero-add (length m)) at (extended l 0 m (leng
 
 -- ---- the law
 
-module _ (i j : ℕ) (m : List ℕ) (a b : Held) (may : MayBegin i j m a b) where
+module _ (i j party : ℕ) (m : List ℕ) (a b : Held) (may : MayBegin i j party m a b) where
+  abbrev pub theParty : Party
+  theParty = record { 0 = party }
+
   -- the area after the send
   abbrev pub outA : List ℕ
-  outA = partOf i (outcome a (send i m) .held) .outgoing
+  outA = partOf i (outcome a (send i party m) .held) .outgoing
 
   abbrev pub setB : Settings
   setB = b .node .settings
@@ -531,12 +536,12 @@ module _ (i j : ℕ) (m : List ℕ) (a b : Held) (may : MayBegin i j m a b) wher
   idle-free = rw (may .idle-a)
 
   -- the send is answered
-  pub taken : refusal a (send i m) ≡ 0
-  taken = send-met a i m (may .small-i) (may .sound-a) idle-free (may .some) (may .fits-a)
+  pub taken : refusal a (send i party m) ≡ 0
+  taken = send-met a i party m (may .small-i) (may .sound-a) idle-free (may .allowed) (may .some) (may .fits-a)
 
-  sent-facts : (berthAt (outcome a (send i m) .held .node) i .tx ≡ beginsWith (length m))
+  sent-facts : (berthAt (outcome a (send i party m) .held .node) i .tx ≡ beginsWith (length m) theParty)
       × (outA ≡ sets (areaOf (a .node .settings .area) i (a .outgoing)) 0 m)
-  sent-facts = sent-part a i m taken
+  sent-facts = sent-part a i party m taken
 
   area-a : length (areaOf (a .node .settings .area) i (a .outgoing)) ≡ a .node .settings .area
   area-a = area-length (a .node .settings .area) i (a .outgoing) (may .small-i) (may .sound-a .outgoing)
@@ -554,26 +559,26 @@ module _ (i j : ℕ) (m : List ℕ) (a b : Held) (may : MayBegin i j m a b) wher
   unfolding partOf
   room-b = omega (arith, area-length (setB .area) j (b .incoming) (may .small-j) (may .sound-b .incoming), may .fits-b)
 
-  first-line : lineIn i j (begin i m a b) ≡ under-way i j setB (length m) outA expected ownB (beginsWith (length m)) [] [] [] Rx.Idle (berthAt (b .node) j .last) (partOf j b .incoming)
+  first-line : lineIn i j (begin i party m a b) ≡ under-way i j setB theParty (length m) outA expected ownB (beginsWith (length m) theParty) [] [] [] Rx.Idle (berthAt (b .node) j .last) (partOf j b .incoming)
   unfolding lineIn
   first-line =
-      λ k. atTaker (under-way i j setB (length m) outA expected ownB (sent-facts .0 k) [] [] [] Rx.Idle (berthAt (b .node) j .last) (partOf j b .incoming))
+      λ k. atTaker (under-way i j setB theParty (length m) outA expected ownB (sent-facts .0 k) [] [] [] Rx.Idle (berthAt (b .node) j .last) (partOf j b .incoming))
       ownB (may .idle-b k) (berthAt (b .node) j .last) (partOf j b .incoming) [] [] [] [] [] []
 
-  pub begun-alive : Alive i j (may .small-i) (may .small-j) setB (length m) outA expected (begin i m a b)
+  pub begun-alive : Alive i j (may .small-i) (may .small-j) setB theParty (length m) outA expected (begin i party m a b)
   begun-alive =
-      let (k, ph) = starts i j setB (length m) outA expected fit-a (may .some) (may .fits-b) small-b (λ own. ap (λ (x : List ℕ). exchanged own (framesOf x)) message)
+      let (k, ph) = starts i j setB theParty (length m) outA expected fit-a (may .some) (may .fits-b) small-b (λ own. ap (λ (x : List ℕ). exchanged own (framesOf x)) message)
       ownB (berthAt (b .node) j .last) (partOf j b .incoming) room-b in
       record {
-        sound-a = sound-step a (send i m) (may .sound-a);
+        sound-a = sound-step a (send i party m) (may .sound-a);
         sound-b = may .sound-b;
         settings-b = refl;
         kept = refl;
         steps = k;
-        phase = subst (λ (x : Line). Phase i j setB (length m) outA expected x k) (sym first-line) ph;
+        phase = subst (λ (x : Line). Phase i j setB theParty (length m) outA expected x k) (sym first-line) ph;
       }
 
-  landed : (w : World) → Alive i j (may .small-i) (may .small-j) setB (length m) outA expected w → Landed i j setB (length m) outA expected (lineIn i j w) → Arrived i j m w
+  landed : (w : World) → Alive i j (may .small-i) (may .small-j) setB theParty (length m) outA expected w → Landed i j setB theParty (length m) outA expected (lineIn i j w) → Arrived i j party m w
   unfolding lineIn partOf partShown
   landed w s l =
       let o : T (inOrder (w .b .node)) = range-in-order (w .b .node) (s .sound-b .order) in
@@ -594,17 +599,17 @@ module _ (i j : ℕ) (m : List ℕ) (a b : Held) (may : MayBegin i j m a b) wher
         idle-b = l .rx;
       }
 
-  -- THE LINE'S LAW. Node A takes a message of 1 to A bytes for berth i; berth j of node B is idle and its area holds the message; both
-  -- nodes are in order, every store has its length and every list ten cards. Then any calls on both nodes, each node's own ticks too,
+  -- THE LINE'S LAW. Node A takes either party's message of 1 to A bytes for berth i; berth j of node B is idle and its area holds the
+  -- message; both nodes are in order, every store has its length and every list ten cards. Then any calls on both nodes, each node's own ticks too,
   -- with each frame of A's berth i carried to B's berth j and its flow control back, under the identifiers expected, once and in order.
   -- No other frame, send or set-up touches these two sides (one that is refused or ignored touches nothing), and no timer of theirs
   -- reaches 1,000; settings may be changed at any berth. When none is on the way and neither has one due or a gap left, the same bytes
   -- have arrived and the sender reports 1, and the frames both ways are those of the settings that the taker had at Begun.
-  pub line-law : (ds : List Deed) → AllApart i j (begin i m a b) ds → AtRest i j (living i j (begin i m a b) ds)
-      → Arrived i j m (living i j (begin i m a b) ds)
+  pub line-law : (ds : List Deed) → AllApart i j (begin i party m a b) ds → AtRest i j (living i j (begin i party m a b) ds)
+      → Arrived i j party m (living i j (begin i party m a b) ds)
   unfolding lineIn
   line-law ds apart rest =
-      let s = alive-on i j (may .small-i) (may .small-j) setB (length m) outA expected fit-a (may .some) (may .fits-b) small-b (begin i m a b) ds apart begun-alive in
-      landed (living i j (begin i m a b) ds) s
-      (at-rest i j setB (length m) outA expected (lineIn i j (living i j (begin i m a b) ds)) (s .steps) (s .phase)
+      let s = alive-on i j (may .small-i) (may .small-j) setB theParty (length m) outA expected fit-a (may .some) (may .fits-b) small-b (begin i party m a b) ds apart begun-alive in
+      landed (living i j (begin i party m a b) ds) s
+      (at-rest i j setB theParty (length m) outA expected (lineIn i j (living i j (begin i party m a b) ds)) (s .steps) (s .phase)
       (rest .none-there) (rest .none-back) (rest .none-due) (rest .no-gap) (rest .no-flow))

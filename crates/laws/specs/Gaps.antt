@@ -31,7 +31,7 @@ abbrev pub isConsecutive : Says → Bool
 isConsecutive (hears old w) = false
 isConsecutive (expires receive send party) = false
 isConsecutive accepts = false
-isConsecutive (hands f code) = eqb (kind f) consecutiveKind
+isConsecutive (hands f code party) = eqb (kind f) consecutiveKind
 isConsecutive adopts = false
 
 abbrev pub handsConsecutive : Moment → Bool

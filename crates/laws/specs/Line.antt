@@ -7,7 +7,8 @@ use mathlib.Core.List.{List, [], _∷_, _++_, map}
 use lib.ListN.{length, getD, take, replicate}
 use lib.Dec.{T, leb, eqb}
 use Rattle.rules.specs.Tests.{pick}
-use Rattle.rules.specs.Numbers.{berthCount, fromBerth, frameSize, singleMost, N-OK}
+use Rattle.rules.specs.Numbers.{berthCount, fromBerth, frameSize, singleMost, theLaptop, N-OK}
+use Rattle.rules.specs.Parties.{scheduler}
 use Rattle.rules.specs.Nodes.{zeroSettings, berthAt, Held}
 use Rattle.rules.specs.Frames.{counted, fillsBlock, goFrame, roundedUp, framesOf}
 use Rattle.rules.specs.Turns.{flowDue, messageDue}
@@ -227,19 +228,20 @@ blocks size count = pick (eqb count 0) 0 (pick (eqb size 0) 1 (roundedUp count s
 abbrev pub quiet : Held → Held → World
 quiet a b = record { a = a; b = b; toB = []; toA = []; log = []; said = []; heard = []; begun = []; delivered = [] }
 
--- node A has taken the message for berth i
-abbrev pub begin : ℕ → List ℕ → Held → Held → World
-begin i m a b = quiet (outcome a (send i m) .held) b
+-- node A has taken the party's message for berth i
+abbrev pub begin : (i party : ℕ) → List ℕ → Held → Held → World
+begin i party m a b = quiet (outcome a (send i party m) .held) b
 
 -- what the law wants of the two nodes: berth i's send side and berth j's receive side idle, both nodes in order with stores of the
--- right length and ten cards each, and a message of 1 to A bytes that the taker's area holds
-pub record MayBegin (i j : ℕ) (m : List ℕ) (a b : Held) : Type 0 where
+-- right length and ten cards each, one of the two parties, and a message of 1 to A bytes that the taker's area holds
+pub record MayBegin (i j party : ℕ) (m : List ℕ) (a b : Held) : Type 0 where
   pub small-i : i < berthCount
   pub small-j : j < berthCount
   pub sound-a : Sound a
   pub sound-b : Sound b
   pub idle-a : Idle sendSide (berthAt (a .node) i)
   pub idle-b : Idle receive (berthAt (b .node) j)
+  pub allowed : party ≤ theLaptop
   pub some : 1 ≤ length m
   pub fits-a : length m ≤ a .node .settings .area
   pub fits-b : length m ≤ b .node .settings .area
@@ -249,17 +251,17 @@ abbrev pub agreed : World → BerthSettings
 agreed w = getD (w .begun) 0 zeroSettings
 
 -- the same bytes have arrived in the taker's area and are shown; Begun was answered once, or never for a message in one frame, and
--- Delivered once, with the length, which is the last length; the sender has reported one code, 1, and so has the taker; the frames handed
--- over both ways, in order, are those of the settings that the taker had at Begun; the frames there are those of the message, and those back
--- one go for each block; both sides are idle again
-pub record Arrived (i j : ℕ) (m : List ℕ) (w : World) : Type 0 where
+-- Delivered once, with the length, which is the last length; the sender has reported one code, 1, and so has the taker, the sender for the
+-- party; the frames handed over both ways, in order, are those of the settings that the taker had at Begun; the frames there are those of the
+-- message, and those back one go for each block; both sides are idle again
+pub record Arrived (i j party : ℕ) (m : List ℕ) (w : World) : Type 0 where
   pub bytes : take (length m) (areaOf (w .b .node .settings .area) j (w .b .incoming)) ≡ m
   pub shown : showing (w .b) j Choice.Arrived ≡ m
   pub begun : length (w .begun) ≡ pick (leb (length m) singleMost) 0 1
   pub delivered : w .delivered ≡ length m ∷ []
   pub last : berthAt (w .b .node) j .last ≡ length m
-  pub sender : w .said ≡ record { berth = i; side = sendSide; code = N-OK } ∷ []
-  pub taker : w .heard ≡ record { berth = j; side = receive; code = N-OK } ∷ []
+  pub sender : w .said ≡ record { berth = i; side = sendSide; code = N-OK; party = record { 0 = party } } ∷ []
+  pub taker : w .heard ≡ record { berth = j; side = receive; code = N-OK; party = scheduler } ∷ []
   pub handed : w .log ≡ exchanged (agreed w) (framesOf m)
   pub frames : thereOf (w .log) ≡ framesOf m
   pub flow : backOf (w .log) ≡ replicate (blocks (agreed w .block) (length (framesOf m) - 1)) (goFrame (agreed w))

@@ -7,6 +7,7 @@ use lib.ListN.{length, getD, take}
 use lib.Dec.{ltb, eqb}
 use Rattle.rules.specs.Tests.{pick, unless}
 use Rattle.rules.specs.Numbers.{berthCount}
+use Rattle.rules.specs.Parties.{scheduler}
 use Rattle.rules.specs.Turns.{lengthSending}
 use Rattle.rules.specs.Nodes.{freshWith, Held}
 use Rattle.rules.specs.Ranges.{InOrder}
@@ -32,7 +33,7 @@ over f (x ∷ xs) = f x ++ over f xs
 unfoldable pub ownDone : ℕ → Held → Call → List Event
 ownDone k h (frame id d) = pick (eqb (senderOf id) k) (arrives d ∷ []) []
 ownDone k h tick = ticks ∷ []
-ownDone k h (send j party m) = pick (eqb j k) (sends party m ∷ []) []
+ownDone k h (send j party m) = pick (eqb j k) (sends (record { 0 = party }) m ∷ []) []
 ownDone k h (turn buffer) = pick (ltb (passedOver (h .node)) berthCount && eqb (reached (h .node)) k) (turns ∷ []) []
 ownDone k h (show j choice) = []
 ownDone k h (change j parameter value) = pick (eqb j k) (changes parameter value ∷ []) []
@@ -48,13 +49,13 @@ owns k h (c ∷ cs) = own k h c ++ owns k (outcome h c .held) cs
 -- ---- what an answer says of berth k
 
 abbrev pub noCodes : Codes
-noCodes = record { receive = 0; send = 0 }
+noCodes = record { receive = 0; send = 0; party = scheduler }
 
 unfoldable pub saysOf : ℕ → Answer → List Says
 saysOf k (refused n) = []
 saysOf k ready = []
 saysOf k (heard j old w) = pick (eqb j k) (hears old w ∷ []) []
-saysOf k (codes cs) = expires (getD cs k noCodes .receive) (getD cs k noCodes .send) ∷ []
+saysOf k (codes cs) = expires (getD cs k noCodes .receive) (getD cs k noCodes .send) (getD cs k noCodes .party) ∷ []
 saysOf k (sent j) = pick (eqb j k) (accepts ∷ []) []
 saysOf k (handed id f c passed party) = forTaker id (λ j. pick (eqb j k) (hands f c party ∷ []) []) []
 saysOf k (none passed) = []
@@ -74,10 +75,10 @@ ofBerth k rs = only (λ r. eqb (r .berth) k) rs
 
 -- those in what berth k says
 unfoldable pub saidReports : ℕ → Says → List Report
-saidReports k (hears old w) = reported k receive old ++ wordReports k w
-saidReports k (expires r s party) = reported k receive r ++ reported k sendSide s
+saidReports k (hears old w) = reported k receive old scheduler ++ wordReports k w
+saidReports k (expires r s party) = reported k receive r scheduler ++ reported k sendSide s party
 saidReports k accepts = []
-saidReports k (hands f c party) = reported k sendSide c
+saidReports k (hands f c party) = reported k sendSide c party
 saidReports k adopts = []
 
 -- ---- show, from a berth's own part: the last message arrived, or the message now being sent

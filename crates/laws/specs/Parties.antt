@@ -12,6 +12,7 @@ use Rattle.rules.specs.Calls.{Outcome, outcome}
 use Rattle.rules.specs.declared.Party.{Party}
 use Rattle.rules.specs.declared.Tx.{Tx}
 use Rattle.rules.specs.declared.Berth.{Berth}
+use Rattle.rules.specs.declared.Node.{Node}
 use Rattle.rules.specs.declared.Codes.{Codes}
 use Rattle.rules.specs.declared.Word.{Word}
 use Rattle.rules.specs.declared.Word.the-variants.{Delivered, Begun, Failed, Ignored, TooLong, Took, Going, Waiting}
@@ -48,7 +49,7 @@ unnamed party = pick (partyAllowed party) theScheduler party
 abbrev pub unnamedParty : Party → Party
 unnamedParty party = record { 0 = unnamed (party .0) }
 
--- a send side, a berth, and what is lent
+-- a send side, a berth, the node, and what is lent
 abbrev pub unnamedSide : Tx → Tx
 unnamedSide Tx.Idle = Tx.Idle
 unnamedSide (Tx.SingleDue party n t) = Tx.SingleDue (unnamedParty party) n t
@@ -59,8 +60,11 @@ unnamedSide (Tx.Consecutive party o t) = Tx.Consecutive (unnamedParty party) o t
 abbrev pub unnamedBerth : Berth → Berth
 unnamedBerth b = withTx b (unnamedSide (b .tx))
 
+abbrev pub unnamedNode : Node → Node
+unnamedNode n = withBerths n (map unnamedBerth (n .berths))
+
 abbrev pub unnamedHeld : Held → Held
-unnamedHeld h = withNode h (withBerths (h .node) (map unnamedBerth (h .node .berths)))
+unnamedHeld h = withNode h (unnamedNode (h .node))
 
 -- a call: a send names its party
 abbrev pub unnamedCall : Call → Call

@@ -7,6 +7,7 @@ use mathlib.Core.List.{List, [], _∷_, _++_, map}
 use lib.Dec.{eqb}
 use Rattle.rules.specs.Tests.{pick}
 use Rattle.rules.specs.Numbers.{flowKind}
+use Rattle.rules.specs.Parties.{scheduler}
 use Rattle.rules.specs.Nodes.{zeroSettings, withSettings, withRx, withTx, Held}
 use Rattle.rules.specs.Frames.{kind}
 use Rattle.rules.specs.Turns.{flowDue}
@@ -57,14 +58,14 @@ unfoldable pub sideEvents : Side → Settings → Part → List Event → List E
 sideEvents s set p [] = []
 sideEvents s set p (e ∷ es) = forSide s p e ++ sideEvents s set (partAfter set p e) es
 
--- ---- what a side says: of a tick its own code, of its other events all
+-- ---- what a side says: of a tick its own code, and the party with the send side's; of its other events all
 
 unfoldable pub onlySide : Side → Says → Says
 onlySide s (hears old w) = hears old w
-onlySide receive (expires r c party) = expires r 0
-onlySide send (expires r c party) = expires 0 c
+onlySide receive (expires r c party) = expires r 0 scheduler
+onlySide send (expires r c party) = expires 0 c party
 onlySide s accepts = accepts
-onlySide s (hands f c party) = hands f c
+onlySide s (hands f c party) = hands f c party
 onlySide s adopts = adopts
 
 unfoldable pub sideSays : Side → Settings → Part → List Event → List Says
@@ -115,7 +116,7 @@ handsFor s adopts = []
 unfoldable pub saysFor : Side → Call → Says → List Says
 saysFor s (frame id d) x = pick (sameSide s (frameSide d)) (x ∷ []) []
 saysFor s tick x = onlySide s x ∷ []
-saysFor s (sendTo j m) x = pick (sameSide s send) (x ∷ []) []
+saysFor s (sendTo j party m) x = pick (sameSide s send) (x ∷ []) []
 saysFor s (turn buffer) x = handsFor s x
 saysFor s (show j choice) x = []
 saysFor s (change j parameter value) x = pick (sameSide s receive) (x ∷ []) []

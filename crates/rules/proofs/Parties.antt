@@ -2,21 +2,21 @@
 -- in range, and a report names the party that was kept.
 use Prim.Native.Nat.{ℕ, zero, suc, _≤_}
 use native.Mathlib.Omega.{arith}
-use mathlib.Core.Path.{_≡_, refl, ap}
+use mathlib.Core.Path.{_≡_, refl, sym, ap, _∙_}
 use mathlib.Core.List.{List}
 use lib.Dec.{eqb, leb}
-use Rattle.rules.specs.Tests.{pick}
 use Rattle.rules.specs.Numbers.{theLaptop, singleMost, consecutiveMost, goStatus, waitStatus, overflowStatus}
-use Rattle.rules.specs.Parties.{scheduler, partyOf, Kept, reporting}
+use Rattle.rules.specs.Parties.{partyOf, Kept, reporting}
 use Rattle.rules.specs.Ranges.{PartyRange}
 use Rattle.rules.specs.Frames.{low, flowFits, fillsBlock}
 use Rattle.rules.specs.Arrivals.{Told, byStatus, flowIgnored, flowCame}
 use Rattle.rules.specs.Ticks.{txTicked}
 use Rattle.rules.specs.Turns.{toGo, afterConsecutive, afterMessage, beginsWith}
+use Rattle.rules.specs.Answers.{Side, reported}
 use Rattle.rules.specs.declared.Sending.{Sending}
 use Rattle.rules.specs.declared.Party.{Party}
 use Rattle.rules.specs.declared.Tx.{Tx}
-use Rattle.rules.proofs.Cases.{pick-either, ran-either}
+use Rattle.rules.proofs.Cases.{eqb-not, pick-either, ran-either}
 
 -- ---- a side keeps its own
 
@@ -82,6 +82,27 @@ pub stays-in-range : (tx tx′ : Tx) → Kept (partyOf tx) tx′ → PartyRange 
 stays-in-range tx tx′ e l = kept-in-range (partyOf tx) tx′ e l
 
 -- ---- a report names it
+
+pub reporting-named : (k : ℕ) (s : Side) (c : ℕ) (party : Party) → reported k s c (reporting c party) ≡ reported k s c party
+unfolding reported reporting
+reporting-named k s zero party = refl
+reporting-named k s (suc c) party = rw (eqb-not (suc c) 0 (λ e. omega arith))
+
+-- so what is reported for two parties is the same where they are named the same
+pub named-alike : (k : ℕ) (s : Side) (c : ℕ) (p q : Party) → reporting c p ≡ reporting c q → reported k s c p ≡ reported k s c q
+named-alike k s c p q e = sym (reporting-named k s c p) ∙ ap (reported k s c) e ∙ reporting-named k s c q
+
+-- the party that was kept is named, also after the message has ended, since then nothing is reported
+pub kept-reporting : (p : Party) (tx : Tx) (c : ℕ) → Kept p tx → (tx ≡ Tx.Idle → c ≡ 0) → reporting c (partyOf tx) ≡ reporting c p
+unfolding reporting
+kept-reporting p Tx.Idle c e none = rw (none refl)
+kept-reporting p (Tx.SingleDue party n t) c e none = ap (reporting c) e
+kept-reporting p (Tx.FirstDue party n t) c e none = ap (reporting c) e
+kept-reporting p (Tx.AwaitsFlow party o t) c e none = ap (reporting c) e
+kept-reporting p (Tx.Consecutive party o t) c e none = ap (reporting c) e
+
+pub kept-named : (k : ℕ) (s : Side) (p : Party) (tx : Tx) (c : ℕ) → Kept p tx → (tx ≡ Tx.Idle → c ≡ 0) → reported k s c (partyOf tx) ≡ reported k s c p
+kept-named k s p tx c e none = named-alike k s c (partyOf tx) p (kept-reporting p tx c e none)
 
 pub kept-is : (p : Party) (tx : Tx) → Kept p tx → (partyOf tx ≡ p → ⊥) → tx ≡ Tx.Idle
 kept-is p Tx.Idle e n = refl

@@ -4,7 +4,7 @@ use Prim.Native.Nat.{ℕ, zero, suc, _+_, _≤_, _<_}
 use native.Mathlib.Omega.{arith}
 use mathlib.Core.Path.{_≡_, refl, sym, ap, subst}
 use mathlib.Core.List.{List, [], _∷_, _++_, map}
-use lib.ListN.{drop, replicate}
+use lib.ListN.{drop}
 use lib.Seq.{take-at}
 use lib.Dec.{ltb}
 use Rattle.rules.specs.Tests.{firstUnmet}
@@ -27,7 +27,7 @@ use Rattle.rules.specs.declared.TurnAnswer.{TurnAnswer}
 use Rattle.rules.specs.declared.ChangeAnswer.{ChangeAnswer}
 use Rattle.rules.proofs.Cases.{Tested, holds, fails, ltb-cases}
 use Rattle.rules.proofs.Handed.{handed-fit}
-use Rattle.node.specs.Promises.{lent, left, SetUpPromise, startsAt}
+use Rattle.node.specs.Promises.{lent, left, SetUpPromise, tenZeros, startsAt}
 use Rattle.node.proofs.Outcomes.{agrees, refuses, does}
 use Rattle.runs.specs.Chains.{Step, frameStep, tickStep, sendStep, turnStep, showStep, changeStep, Chain, AfterSetUp, madeOf}
 use Rattle.runs.proofs.Runs.{step-is}
@@ -58,22 +58,22 @@ module _ (h : Held) where
           as-outcome (tickStep (record { refused = 0; codes = map codesOf (h .node .berths) }) (done h tick .node) (done h tick .cards)
           (record { agrees = λ incoming outgoing. does (lent (h .node) (h .cards) incoming outgoing) tick refl (sym e) refl; beside = tt }))
       go (suc number) e =
-          as-outcome (tickStep (record { refused = suc number; codes = replicate berthCount (record { receive = 0; send = 0 }) }) (h .node) (h .cards)
+          as-outcome (tickStep (record { refused = suc number; codes = tenZeros }) (h .node) (h .cards)
           (record {
             agrees = λ incoming outgoing. refuses (lent (h .node) (h .cards) incoming outgoing) tick (suc number) (λ z. omega arith) refl refl (sym e);
             beside = refl;
           }))
 
-  send-step : (k : ℕ) (m : List ℕ) → Step h (send k party m) (outcome h (send k party m))
+  send-step : (k party : ℕ) (m : List ℕ) → Step h (send k party m) (outcome h (send k party m))
   unfolding refusal needs sendSays reply done written
-  send-step k m = go (refusal h (send k party m)) refl
+  send-step k party m = go (refusal h (send k party m)) refl
     where
       go : (number : ℕ) → refusal h (send k party m) ≡ number → Step h (send k party m) (outcome h (send k party m))
       go zero e =
-          as-outcome (sendStep k m (SendAnswer.Sent k) (done h (send k party m) .node) (done h (send k party m) .outgoing)
+          as-outcome (sendStep k party m (SendAnswer.Sent k) (done h (send k party m) .node) (done h (send k party m) .outgoing)
           (λ cards incoming. does (lent (h .node) cards incoming (h .outgoing)) (send k party m) refl (sym e) refl))
       go (suc number) e =
-          as-outcome (sendStep k m (SendAnswer.Refused (suc number)) (h .node) (h .outgoing)
+          as-outcome (sendStep k party m (SendAnswer.Refused (suc number)) (h .node) (h .outgoing)
           (λ cards incoming. refuses (lent (h .node) cards incoming (h .outgoing)) (send k party m) (suc number) (λ z. omega arith) refl refl (sym e)))
 
   turn-step : (buffer : List ℕ) → Step h (turn buffer) (outcome h (turn buffer))
@@ -87,11 +87,11 @@ module _ (h : Held) where
           → Tested (ltb (passedOver (h .node)) berthCount) (passedOver (h .node) < berthCount) (berthCount ≤ passedOver (h .node))
           → Step h (turn buffer) (outcome h (turn buffer))
       go zero e (holds t l) =
-          let says : outcome h (turn buffer) .answer ≡ handed (toBerth + k) (handedAt h k .frame) (handedAt h k .code) (passedOver (h .node)) = rw (e, t) in
-          let eight = handed-fit h buffer _ _ _ _ says .0 .eight in
-          as-outcome (turnStep buffer (TurnAnswer.HandedOver (toBerth + k) (handedAt h k .code) (passedOver (h .node))) (servedNode (h .node) k (handedAt h k .berth)) (addedAt (h .cards) k (turnAdds (handedAt h k .code))) (handedAt h k .frame ++ drop frameSize buffer)
+          let says : outcome h (turn buffer) .answer ≡ handed (toBerth + k) (handedAt h k .frame) (handedAt h k .code) (passedOver (h .node)) (handedAt h k .party) = rw (e, t) in
+          let eight = handed-fit h buffer _ _ _ _ _ says .0 .eight in
+          as-outcome (turnStep buffer (TurnAnswer.HandedOver (toBerth + k) (handedAt h k .code) (passedOver (h .node)) (handedAt h k .party)) (servedNode (h .node) k (handedAt h k .berth)) (addedAt (h .cards) k (turnAdds (handedAt h k .code))) (handedAt h k .frame ++ drop frameSize buffer)
           (λ incoming. does (lent (h .node) (h .cards) incoming (h .outgoing)) (turn buffer) refl (sym e)
-          (rw t (ap (λ (f : List ℕ). left (handed (toBerth + k) f (handedAt h k .code) (passedOver (h .node))) (lent (servedNode (h .node) k (handedAt h k .berth)) (addedAt (h .cards) k (turnAdds (handedAt h k .code))) incoming (h .outgoing)) (handedAt h k .frame ++ drop frameSize buffer))
+          (rw t (ap (λ (f : List ℕ). left (handed (toBerth + k) f (handedAt h k .code) (passedOver (h .node)) (handedAt h k .party)) (lent (servedNode (h .node) k (handedAt h k .berth)) (addedAt (h .cards) k (turnAdds (handedAt h k .code))) incoming (h .outgoing)) (handedAt h k .frame ++ drop frameSize buffer))
           (take-at (handedAt h k .frame) (drop frameSize buffer) frameSize eight)))))
       go zero e (fails t l) =
           as-outcome (turnStep buffer (TurnAnswer.None berthCount) (h .node) (h .cards) buffer
@@ -117,7 +117,7 @@ module _ (h : Held) where
   unfolding showing shownLength showable
   every-step (frame id d) = frame-step id d
   every-step tick = tick-step
-  every-step (send k party m) = send-step k m
+  every-step (send k party m) = send-step k party m
   every-step (turn buffer) = turn-step buffer
   every-step (show k choice) =
       as-outcome (showStep k choice (showing h k choice) (0, 0) (0, 0) (startsAt h k choice (0, 0) (0, 0))

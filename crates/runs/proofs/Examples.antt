@@ -2,10 +2,12 @@
 use Prim.Native.Nat.{ℕ, _<_}
 use native.Mathlib.Omega.{arith}
 use mathlib.Core.Path.{_≡_, refl, sym, ap, _∙_, subst}
-use mathlib.Core.List.{List, [], _∷_, _++_}
+use mathlib.Core.List.{List, [], _∷_, _++_, map}
 use lib.ListN.{getD, replicate}
 use lib.Dec.{lit<, lit≤}
 use Rattle.rules.specs.Tests.{all, each, firstUnmet}
+use Rattle.rules.specs.Numbers.{berthCount}
+use Rattle.rules.specs.Parties.{scheduler}
 use Rattle.rules.specs.Nodes.{zeroSettings, berthAt, withBerth, Held, blankNode, withNode}
 use Rattle.rules.specs.Ranges.{settingsAllowed, inBlock, takingInRange, berthInOrder, inOrder}
 use Rattle.rules.specs.Frames.{kind, low, singleFits, shortLength, escapeLength, announced, firstFits, consecutiveFits, share}
@@ -23,6 +25,7 @@ use Rattle.rules.specs.Clocks.{Idle, mostTime}
 use Rattle.rules.specs.declared.Word.the-variants.{Delivered}
 use Rattle.rules.specs.declared.Settings.{Settings}
 use Rattle.rules.specs.declared.BerthSettings.{BerthSettings}
+use Rattle.rules.specs.declared.Party.{Party}
 use Rattle.rules.specs.declared.Tx.{Tx}
 use Rattle.laws.specs.Own.{ownDone, own, owns, over}
 use Rattle.laws.specs.Histories.{historyOf}
@@ -31,10 +34,11 @@ use Rattle.laws.specs.Gaps.{TwoFrames, Spaced}
 use Rattle.laws.specs.Changes.{ChangesOnly, settingsAfter}
 use Rattle.laws.specs.Free.{LeftAlone, ComesFree, AllComeFree}
 use Rattle.laws.specs.Rounds.{turnOf, StaysDue, Fair}
+use Rattle.laws.specs.Parties.{unnamedHeld, unnamedOutcome, PartiesApart}
 use Rattle.laws.specs.Line.{blank}
-use Rattle.laws.proofs.Examples.{two, twoOwn, twoRun, afresh-computed, afresh-cards, crowd, crowdRun, crowd-computed, scheduler, toSix, sixFrames, stuck, stuck-sound, live, live-owned, dipped, sharp}
-use Rattle.runs.specs.Chains.{Made, AfterSetUp, madeOf, callsOf, saidBy, leftBy, ownIn, DueIn, historyIn, EachAlone}
-use Rattle.runs.proofs.Runs.{chain-leaves, chain-owns, chain-history, chain-settings, step-change-only, chain-fair, chain-alone-after-set-up, chain-tallies-after-set-up, chain-spaced, chain-left-alone, chain-comes-free, chain-all-come-free, chain-free-after-set-up}
+use Rattle.laws.proofs.Examples.{two, twoOwn, twoRun, afresh-computed, afresh-cards, crowd, crowdRun, crowd-computed, harbour, toSix, sixFrames, shared, laptop, late, lateRun, stuck, stuck-sound, live, live-owned, dipped, sharp}
+use Rattle.runs.specs.Chains.{Made, AfterSetUp, madeOf, callsOf, outcomesBy, saidBy, leftBy, ownIn, DueIn, historyIn, NamesIn, EachAlone}
+use Rattle.runs.proofs.Runs.{chain-leaves, chain-owns, chain-history, chain-settings, step-change-only, chain-fair, chain-alone-after-set-up, chain-tallies-after-set-up, chain-spaced, chain-names, chain-names-after-set-up, chain-parties-apart, chain-left-alone, chain-comes-free, chain-all-come-free, chain-free-after-set-up}
 use Rattle.runs.proofs.Every.{every-step, every-chain, every-after-set-up}
 use Rattle.runs.proofs.PoorNodes.{one-more, refusing-again, idle-again-timers, idle-again-message, idle-again-settings, counting-again, fixed-again, fixed-again-bytes}
 
@@ -88,11 +92,36 @@ pub told-made : (k : ℕ) (h : Held) (cs : List Call) → historyIn k h (madeOf 
 told-made k h cs = chain-history k h (madeOf h cs) (every-chain h cs) ∙ ap (historyOf k h) (calls-made h cs)
 
 -- the same two frames, in the code's own answers
-abbrev pub framesHere : TwoFrames (historyIn 6 scheduler (madeOf scheduler toSix))
-framesHere = subst TwoFrames (sym (told-made 6 scheduler toSix)) sixFrames
+abbrev pub framesHere : TwoFrames (historyIn 6 harbour (madeOf harbour toSix))
+framesHere = subst TwoFrames (sym (told-made 6 harbour toSix)) sixFrames
 
 pub spaced-here : Spaced framesHere
-spaced-here = chain-spaced 6 scheduler (madeOf scheduler toSix) (every-chain scheduler toSix) framesHere
+spaced-here = chain-spaced 6 harbour (madeOf harbour toSix) (every-chain harbour toSix) framesHere
+
+-- ---- the service laptop: after the set-up, and from the node on which a tick ends a message of each party
+
+abbrev sharing : (one other : ℕ) → List Made
+sharing one other = madeOf start (shared one other)
+
+pub names-here : (k : ℕ) → k < berthCount → (last : Party) → NamesIn k last start (sharing 1 0)
+names-here =
+    chain-names-after-set-up two (two .node .settings) twoOwn (setUpNode (two .node .settings) twoOwn) (sharing 1 0)
+    (every-after-set-up two (two .node .settings) twoOwn (shared 1 0) (afresh-computed .0))
+
+pub late-names-here : NamesIn 3 laptop (late laptop scheduler) (madeOf (late laptop scheduler) (lateRun 0))
+unfolding berthAt
+late-names-here =
+    chain-names 3 laptop (late laptop scheduler) (madeOf (late laptop scheduler) (lateRun 0)) (every-chain (late laptop scheduler) (lateRun 0)) refl
+
+-- the same with the parties the other way round
+apart-made : (h h′ : Held) (cs cs′ : List Call) → PartiesApart h h′ cs cs′ → PartiesApart h h′ (callsOf (madeOf h cs)) (callsOf (madeOf h′ cs′))
+apart-made h h′ cs cs′ a = rw (calls-made h cs, calls-made h′ cs′) a
+
+pub parties-apart-here : (map unnamedOutcome (outcomesBy (sharing 1 0)) ≡ map unnamedOutcome (outcomesBy (sharing 0 1)))
+    × (unnamedHeld (leftBy start (sharing 1 0)) ≡ unnamedHeld (leftBy start (sharing 0 1)))
+parties-apart-here =
+    chain-parties-apart start start (sharing 1 0) (sharing 0 1) (every-chain start (shared 1 0)) (every-chain start (shared 0 1))
+    (apart-made start start (shared 1 0) (shared 0 1) (record { start = refl; calls = refl }))
 
 -- ---- every berth comes free: the node with every state of a side, and berth 6 of it while the others are live
 
@@ -174,7 +203,7 @@ fixed-bytes-here o q r x =
 
 -- doing nothing: a message was sent, and a tick leaves its berth as it was
 abbrev afterSend : List Made
-afterSend = madeOf (withNode unset (setUpNode eight zeroSettings)) (send 0 (1 ∷ []) ∷ [])
+afterSend = madeOf (withNode unset (setUpNode eight zeroSettings)) (send 0 0 (1 ∷ []) ∷ [])
 
 pub idle-here : (o : Outcome) → AfterSetUp unset eight zeroSettings (setUpNode eight zeroSettings) (afterSend ++ made tick o ∷ [])
     → partOf 0 (o .held) .berth ≡ partOf 0 (leftBy (withNode unset (setUpNode eight zeroSettings)) afterSend) .berth → ⊥
@@ -184,11 +213,11 @@ unfolding
 idle-here o r = idle-again-timers (one-more afterSend (made tick o) 0 ticks r (lit< tt) refl) (λ e. let f : Tx.SingleDue scheduler 1 0 ≡ Tx.Idle = e .1 in let z : _≡_ {A = ℕ} 0 1 = cc in omega arith)
 
 -- and a send leaves the outgoing area as it was
-pub idle-message-here : (o : Outcome) → AfterSetUp unset eight zeroSettings (setUpNode eight zeroSettings) (made (send 0 (1 ∷ [])) o ∷ [])
+pub idle-message-here : (o : Outcome) → AfterSetUp unset eight zeroSettings (setUpNode eight zeroSettings) (made (send 0 0 (1 ∷ [])) o ∷ [])
     → partOf 0 (o .held) .outgoing ≡ partOf 0 (withNode unset (setUpNode eight zeroSettings)) .outgoing → ⊥
 unfolding own ownDone leftBy refusal needs firstUnmet rightStore rightCards inOrder all each berthInOrder setUpNode berthAt partOf areaOf
 idle-message-here o r =
-    idle-again-message (1 ∷ []) (one-more [] (made (send 0 (1 ∷ [])) o) 0 (sends (1 ∷ [])) r (lit< tt) refl)
+    idle-again-message scheduler (1 ∷ []) (one-more [] (made (send 0 0 (1 ∷ [])) o) 0 (sends scheduler (1 ∷ [])) r (lit< tt) refl)
     (λ e. let z : _≡_ {A = ℕ} 0 1 = ap (λ (l : List ℕ). getD l 0 0) e in omega arith)
 
 -- and a change of the block size leaves the settings as they were

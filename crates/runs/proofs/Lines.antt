@@ -68,21 +68,21 @@ module _ (i j : ℕ) where
   every-along w [] t = ends
   every-along w (d ∷ ds) t = goes (every-deed w d) (t .0) (every-along (acts i j w d) ds (t .1))
 
-  module _ (m : List ℕ) (a b : Held) (may : MayBegin i j m a b) where
-    -- THE LINE'S LAW OF THE CODE. The code takes a message of 1 to A bytes on node A for berth i; berth j of node B is idle and its
+  module _ (party : ℕ) (m : List ℕ) (a b : Held) (may : MayBegin i j party m a b) where
+    -- THE LINE'S LAW OF THE CODE. The code takes either party's message of 1 to A bytes on node A for berth i; berth j of node B is idle and its
     -- area holds the message; both nodes are in order, every store has its length and every list ten cards. Then any calls of the code
     -- on both nodes, with each frame that the code handed over for berth i carried to B's berth j and its flow control back, under the
     -- identifiers expected, once and in order; each keeps apart. When none is on the way and neither has one due or a gap left, the
     -- same bytes have arrived and the sender has reported 1.
-    pub chain-line-law : {o : Outcome} {ds : List Deed} {w : World} → Step a (send i m) o → Along i j (quiet (o .held) b) ds w → AtRest i j w → Arrived i j m w
+    pub chain-line-law : {o : Outcome} {ds : List Deed} {w : World} → Step a (send i party m) o → Along i j (quiet (o .held) b) ds w → AtRest i j w → Arrived i j party m w
     chain-line-law {o} {ds} {w} s r rest =
-        let begun : quiet (o .held) b ≡ begin i m a b = ap (λ (x : Outcome). quiet (x .held) b) (step-is s) in
+        let begun : quiet (o .held) b ≡ begin i party m a b = ap (λ (x : Outcome). quiet (x .held) b) (step-is s) in
         let (e, apart) = along-is r in
-        let f : w ≡ living i j (begin i m a b) ds = e ∙ ap (λ (x : World). living i j x ds) begun in
-        rw f (line-law i j m a b may ds (rw begun at apart) (rw f at rest))
+        let f : w ≡ living i j (begin i party m a b) ds = e ∙ ap (λ (x : World). living i j x ds) begun in
+        rw f (line-law i j party m a b may ds (rw begun at apart) (rw f at rest))
 
     -- IT IS NOT EMPTY: from every such start there is a chain of the code that ends at rest.
-    pub chain-line-exists : (ds : List Deed) × (w : World) × Along i j (quiet (outcome a (send i m) .held) b) ds w × AtRest i j w
+    pub chain-line-exists : (ds : List Deed) × (w : World) × Along i j (quiet (outcome a (send i party m) .held) b) ds w × AtRest i j w
     chain-line-exists =
-        let (schedule, f, arrived) = schedule-exists i j m a b may in
-        (over deedsOf schedule, living i j (begin i m a b) (over deedsOf schedule), every-along (begin i m a b) (over deedsOf schedule) (f .apart), f .rest)
+        let (schedule, f, arrived) = schedule-exists i j party m a b may in
+        (over deedsOf schedule, living i j (begin i party m a b) (over deedsOf schedule), every-along (begin i party m a b) (over deedsOf schedule) (f .apart), f .rest)

@@ -21,6 +21,7 @@ use Rattle.rules.specs.Alone.{Part, partOf, Says, stateAfter, partAfter, says, 
 use Rattle.rules.specs.declared.Settings.{Settings}
 use Rattle.rules.specs.declared.BerthSettings.{BerthSettings}
 use Rattle.rules.specs.declared.Taking.{Taking}
+use Rattle.rules.specs.declared.Party.{Party}
 use Rattle.rules.specs.declared.Rx.{Rx}
 use Rattle.rules.specs.declared.Tx.{Tx}
 use Rattle.rules.specs.declared.Berth.{Berth}
@@ -146,24 +147,28 @@ module _ (k : ℕ) (g : Held) where
       go (holds t e) q = let z : arrives x ∷ [] ≡ arrives d ∷ [] = rw t at q in (id, e, cc)
       go (fails t e) q = let z : [] ≡ arrives d ∷ [] = rw t at q in clash (cc)
   own-frame tick d q = clash (cc)
-  own-frame (send j party m) d q = absurd (not-other (sends party m) (arrives d) (λ e. clash (cc)) (eqb j k) q)
+  own-frame (send j party m) d q = absurd (not-other (sends (record { 0 = party }) m) (arrives d) (λ e. clash (cc)) (eqb j k) q)
   own-frame (turn buffer) d q = absurd (not-other turns (arrives d) (λ e. clash (cc)) (ltb (passedOver (g .node)) berthCount && eqb (reached (g .node)) k) q)
   own-frame (show j choice) d q = clash (cc)
   own-frame (change j parameter value) d q = absurd (not-other (changes parameter value) (arrives d) (λ e. clash (cc)) (eqb j k) q)
 
   -- a message of the berth's own was sent to it
-  own-send : (c : Call) (v : List ℕ) → ownDone k g c ≡ sends v ∷ [] → c ≡ send k v
+  own-send : (c : Call) (by : Party) (v : List ℕ) → ownDone k g c ≡ sends by v ∷ [] → c ≡ send k (by .0) v
   unfolding ownDone
-  own-send (frame id x) v q = absurd (not-other (arrives x) (sends v) (λ e. clash (cc)) (eqb (senderOf id) k) q)
-  own-send tick v q = clash (cc)
-  own-send (send j party m) v q = go (eqb-cases j k) q
+  own-send (frame id x) by v q = absurd (not-other (arrives x) (sends by v) (λ e. clash (cc)) (eqb (senderOf id) k) q)
+  own-send tick by v q = clash (cc)
+  own-send (send j party m) by v q = go (eqb-cases j k) q
     where
-      go : Tested (eqb j k) (j ≡ k) (j ≡ k → ⊥) → pick (eqb j k) (sends party m ∷ []) [] ≡ sends v ∷ [] → send j party m ≡ send k v
-      go (holds t e) q = let z : sends m ∷ [] ≡ sends v ∷ [] = rw t at q in cc
-      go (fails t e) q = let z : [] ≡ sends v ∷ [] = rw t at q in clash (cc)
-  own-send (turn buffer) v q = absurd (not-other turns (sends v) (λ e. clash (cc)) (ltb (passedOver (g .node)) berthCount && eqb (reached (g .node)) k) q)
-  own-send (show j choice) v q = clash (cc)
-  own-send (change j parameter value) v q = absurd (not-other (changes parameter value) (sends v) (λ e. clash (cc)) (eqb j k) q)
+      go : Tested (eqb j k) (j ≡ k) (j ≡ k → ⊥) → pick (eqb j k) (sends (record { 0 = party }) m ∷ []) [] ≡ sends by v ∷ [] → send j party m ≡ send k (by .0) v
+      go (holds t e) q =
+          let z : sends (record { 0 = party }) m ∷ [] ≡ sends by v ∷ [] = rw t at q in
+          let named : record { 0 = party } ≡ by = cc in
+          let same : party ≡ by .0 = ap (λ (p : Party). p .0) named in
+          cc
+      go (fails t e) q = let z : [] ≡ sends by v ∷ [] = rw t at q in clash (cc)
+  own-send (turn buffer) by v q = absurd (not-other turns (sends by v) (λ e. clash (cc)) (ltb (passedOver (g .node)) berthCount && eqb (reached (g .node)) k) q)
+  own-send (show j choice) by v q = clash (cc)
+  own-send (change j parameter value) by v q = absurd (not-other (changes parameter value) (sends by v) (λ e. clash (cc)) (eqb j k) q)
 
   -- so its bytes fit the berth's area, under any settings
   frame-within : (c : Call) (d : List ℕ) (s : Settings) → k < berthCount → own k g c ≡ arrives d ∷ []
@@ -179,11 +184,11 @@ module _ (k : ℕ) (g : Held) where
       rw room (came-within (g .node .settings .area) (omega arith) s (g .node .settings) (berthAt (g .node) k) d fits)
 
   -- and so does its message
-  message-within : (c : Call) (v : List ℕ) → own k g c ≡ sends v ∷ [] → length v ≤ length (partOf k g .outgoing)
+  message-within : (c : Call) (by : Party) (v : List ℕ) → own k g c ≡ sends by v ∷ [] → length v ≤ length (partOf k g .outgoing)
   unfolding partOf
-  message-within c v its =
+  message-within c by v its =
       let (e, done) = own-answered c its in
-      let ok = send-answered g k v (rw (own-send c v done) at e) in
+      let ok = send-answered g k (by .0) v (rw (own-send c by v done) at e) in
       let room = area-length (g .node .settings .area) k (g .outgoing) (ok .mine) (ok .store) in
       omega (arith, ok .fits)
 
@@ -204,11 +209,11 @@ module _ {h : Held} {s : Settings} {alike : BerthSettings} {n : Node} {ms : List
       differ (stood-before (p .incoming) _ _ fits (sym (ap (λ (q : Part). q .incoming) (part-now r)) ∙ same))
 
   -- nor a send whose message differs from the bytes at the front leave the outgoing one
-  pub idle-again-message : (v : List ℕ) → OneMore h s alike n ms k p (sends v) m → (take (length v) (p .outgoing) ≡ v → ⊥)
+  pub idle-again-message : (by : Party) (v : List ℕ) → OneMore h s alike n ms k p (sends by v) m → (take (length v) (p .outgoing) ≡ v → ⊥)
       → partOf k (m .out .held) .outgoing ≡ p .outgoing → ⊥
   unfolding stateAfter partAfter
-  idle-again-message v r differ same =
-      let fits = rw (r .given) at (message-within k (leftBy (withNode h n) ms) (m .call) v (r .its)) in
+  idle-again-message by v r differ same =
+      let fits = rw (r .given) at (message-within k (leftBy (withNode h n) ms) (m .call) by v (r .its)) in
       differ (stood-before (p .outgoing) 0 v (omega arith) (sym (ap (λ (q : Part). q .outgoing) (part-now r)) ∙ same))
 
   -- nor a change to another value leave the berth's settings

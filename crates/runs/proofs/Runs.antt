@@ -7,6 +7,7 @@ use mathlib.Core.List.{List, [], _∷_, _++_, map}
 use lib.ListN.{length, replicate}
 use Rattle.rules.specs.Tests.{unless}
 use Rattle.rules.specs.Numbers.{berthCount}
+use Rattle.rules.specs.Parties.{Kept}
 use Rattle.rules.specs.Nodes.{berthAt, Held, withNode}
 use Rattle.rules.specs.Ranges.{InOrder}
 use Rattle.rules.specs.Events.{Call, tick, change, Event, ticks}
@@ -19,6 +20,7 @@ use Rattle.rules.specs.Alone.{Part, partOf}
 use Rattle.rules.specs.Clocks.{mostTime}
 use Rattle.rules.specs.declared.Settings.{Settings}
 use Rattle.rules.specs.declared.BerthSettings.{BerthSettings}
+use Rattle.rules.specs.declared.Party.{Party}
 use Rattle.rules.specs.declared.Node.{Node}
 use Rattle.rules.specs.declared.SetUpAnswer.{SetUpAnswer}
 use Rattle.rules.proofs.Order.{run-in-order, set-up-in-order}
@@ -32,6 +34,7 @@ use Rattle.laws.specs.Free.{LeftAlone, ComesFree, AllComeFree}
 use Rattle.laws.specs.Changes.{ChangesOnly, settingsAfter}
 use Rattle.laws.specs.Sides.{sideOf, sideEvents, SideAlone}
 use Rattle.laws.specs.Rounds.{StaysDue, turnOf, Fair}
+use Rattle.laws.specs.Parties.{lastSender, NamesLast, unnamedHeld, unnamedOutcome, PartiesApart}
 use Rattle.laws.proofs.SetUp.{ten-run, each-alone, each-alone-after-set-up}
 use Rattle.laws.proofs.Changes.{change-only, run-settings}
 use Rattle.laws.proofs.Cards.{run-tallies, run-frozen-stays, set-up-unbegun}
@@ -39,13 +42,14 @@ use Rattle.laws.proofs.Gaps.{run-spaced}
 use Rattle.laws.proofs.Free.{run-left-alone, run-comes-free, all-come-free}
 use Rattle.laws.proofs.SideRuns.{side-alone-in-run}
 use Rattle.laws.proofs.Fairness.{fair}
-use Rattle.runs.specs.Chains.{Step, frameStep, tickStep, sendStep, turnStep, showStep, changeStep, Made, Chain, AfterSetUp, callsOf, saidBy, leftBy, ownIn, DueIn, historyIn, EachAlone}
+use Rattle.laws.proofs.Parties.{run-names, names-after-set-up, parties-apart}
+use Rattle.runs.specs.Chains.{Step, frameStep, tickStep, sendStep, turnStep, showStep, changeStep, Made, Chain, AfterSetUp, callsOf, outcomesBy, saidBy, leftBy, ownIn, DueIn, historyIn, NamesIn, EachAlone}
 
 -- EACH CALL'S PROMISE says that it answered and left the rule's outcome.
 pub step-is : {h : Held} {c : Call} {o : Outcome} → Step h c o → o ≡ outcome h c
 step-is {h} (frameStep id d a n cards incoming p) = same (p (h .outgoing))
 step-is {h} (tickStep a n cards p) = same (p .agrees (h .incoming) (h .outgoing))
-step-is {h} (sendStep k m a n outgoing p) = same (p (h .cards) (h .incoming))
+step-is {h} (sendStep k party m a n outgoing p) = same (p (h .cards) (h .incoming))
 step-is {h} (turnStep buffer a n cards buffer′ p) = same (p (h .incoming))
 step-is {h} (showStep k choice part in-at out-at part-at p) = same (p .agrees (h .cards))
 step-is {h} (changeStep k parameter value a n p) = same (p (h .cards) (h .incoming) (h .outgoing))
@@ -57,7 +61,7 @@ module _ (h : Held) (m : Made) (e : m .out ≡ outcome h (m .call)) where
   held-same = ap (λ (o : Outcome). o .held) e
 
 -- A CHAIN answers and leaves, call by call, what the rules say of the same calls.
-pub chain-is : (h : Held) (ms : List Made) → Chain h ms → map (λ (m : Made). m .out) ms ≡ outcomes h (callsOf ms)
+pub chain-is : (h : Held) (ms : List Made) → Chain h ms → outcomesBy ms ≡ outcomes h (callsOf ms)
 unfolding Chain outcomes
 chain-is h [] c = refl
 chain-is h (m ∷ ms) c =
@@ -202,6 +206,39 @@ chain-tallies-after-set-up h s alike n ms m r z k l f =
 pub chain-spaced : (k : ℕ) (h : Held) (ms : List Made) → Chain h ms → (f : TwoFrames (historyIn k h ms)) → Spaced f
 chain-spaced k h ms c =
     subst (λ (told : List Moment). (f : TwoFrames told) → Spaced f) (sym (chain-history k h ms c)) (run-spaced k h (callsOf ms))
+
+-- ---- the service laptop
+
+-- the reports of a chain name as those of the run of the same calls do
+names-as-run : (k : ℕ) (last : Party) (h : Held) (ms : List Made) → Chain h ms → NamesLast k last h (callsOf ms) → NamesIn k last h ms
+unfolding Chain NamesIn NamesLast
+names-as-run k last h [] c t = tt
+names-as-run k last h (m ∷ ms) c t =
+    let e = step-is (c .0) in (
+      rw e (t .0),
+      names-as-run k (lastSender last (own k h (m .call))) (m .out .held) ms (c .1) (rw (held-same h m e) (t .1)),
+    )
+
+-- EACH REPORT OF A SEND SIDE NAMES THE PARTY, OF THE CODE. In any chain of calls from a start in which the side keeps the party of the last send
+-- to its berth, each report of it names the party of the last send to the berth that the code answered.
+pub chain-names : (k : ℕ) (last : Party) (h : Held) (ms : List Made) → Chain h ms → Kept last (berthAt (h .node) k .tx) → NamesIn k last h ms
+chain-names k last h ms c kept = names-as-run k last h ms c (run-names k last h (callsOf ms) kept)
+
+-- AFTER A SET-UP that the code answered with Ready this holds of every berth. Before the first answered send to it there is no such report, so any
+-- party may stand for the last.
+pub chain-names-after-set-up : (h : Held) (s : Settings) (alike : BerthSettings) (n : Node) (ms : List Made) → AfterSetUp h s alike n ms
+    → (k : ℕ) → k < berthCount → (last : Party) → NamesIn k last (withNode h n) ms
+chain-names-after-set-up h s alike n ms r k l last =
+    names-as-run k last (withNode h n) ms (r .chain)
+    (rw (ready-held h s alike n (r .ready)) (names-after-set-up h s alike (callsOf ms) k l (ready-free h s alike n (r .ready)) last))
+
+-- THE SAME WHICHEVER OF THE TWO SENDS, OF THE CODE. Take two chains of calls that differ only in which of the parties 0 and 1 their sends name,
+-- from starts that differ only in whom their send sides name. What the code answers and leaves, call by call and at the end, differs in
+-- nothing but these names.
+pub chain-parties-apart : (h h′ : Held) (ms ms′ : List Made) → Chain h ms → Chain h′ ms′ → PartiesApart h h′ (callsOf ms) (callsOf ms′)
+    → (map unnamedOutcome (outcomesBy ms) ≡ map unnamedOutcome (outcomesBy ms′)) × (unnamedHeld (leftBy h ms) ≡ unnamedHeld (leftBy h′ ms′))
+chain-parties-apart h h′ ms ms′ c c′ a =
+    rw (chain-is h ms c, chain-is h′ ms′ c′, chain-leaves h ms c, chain-leaves h′ ms′ c′) (parties-apart h h′ (callsOf ms) (callsOf ms′) a)
 
 -- ---- every berth comes free
 

@@ -6,9 +6,10 @@ use mathlib.Core.List.{List, [], _∷_, _++_, map}
 use Rattle.rules.specs.Numbers.{berthCount}
 use Rattle.rules.specs.Nodes.{berthAt, Held, withNode, withIncoming, withOutgoing, withCards}
 use Rattle.rules.specs.Events.{Call, frame, tick, send, turn, show, change, Event}
-use Rattle.rules.specs.Answers.{Answer, shown, frameSays, tickSays, sendSays, turnSays, changeSays}
+use Rattle.rules.specs.Answers.{Answer, shown, send as sendSide, reports, frameSays, tickSays, sendSays, turnSays, changeSays}
 use Rattle.rules.specs.Calls.{Outcome, outcome}
 use Rattle.rules.specs.Alone.{Part, partOf}
+use Rattle.rules.specs.declared.Party.{Party}
 use Rattle.rules.specs.declared.Choice.{Choice}
 use Rattle.rules.specs.declared.Settings.{Settings}
 use Rattle.rules.specs.declared.BerthSettings.{BerthSettings}
@@ -21,9 +22,11 @@ use Rattle.rules.specs.declared.SendAnswer.{SendAnswer}
 use Rattle.rules.specs.declared.TurnAnswer.{TurnAnswer}
 use Rattle.rules.specs.declared.ChangeAnswer.{ChangeAnswer}
 use Rattle.node.specs.Promises.{left, SetUpPromise, FramePromise, TickPromise, SendPromise, TurnPromise, ShowPromise, ChangePromise}
-use Rattle.laws.specs.Own.{own, saysOf, freshPart, Alone}
+use Rattle.laws.specs.Own.{own, saysOf, ofBerth, freshPart, Alone}
 use Rattle.laws.specs.Histories.{Moment, moments}
 use Rattle.laws.specs.Rounds.{DueAt}
+use Rattle.laws.specs.Sides.{ofSide}
+use Rattle.laws.specs.Parties.{lastSender, AllName}
 
 -- one call of the code: it was given h, and answered and left this, of which its promise alone is known. A store that it is not given, and
 -- cards that it is not given, are as they were
@@ -33,7 +36,7 @@ pub data Step (h : Held) : Call → Outcome → Type 0 where
       → Step h (frame id d) (left (frameSays a) (withCards (withIncoming (withNode h n) incoming) cards) [])
   tickStep : (a : TickAnswer) (n : Node) (cards : List Card) → TickPromise (h .node) (h .cards) a n cards
       → Step h tick (left (tickSays a) (withCards (withNode h n) cards) [])
-  sendStep : (k : ℕ) (m : List ℕ) (a : SendAnswer) (n : Node) (outgoing : List ℕ) → SendPromise (h .node) (h .outgoing) k m a n outgoing
+  sendStep : (k party : ℕ) (m : List ℕ) (a : SendAnswer) (n : Node) (outgoing : List ℕ) → SendPromise (h .node) (h .outgoing) k party m a n outgoing
       → Step h (send k party m) (left (sendSays a) (withOutgoing (withNode h n) outgoing) [])
   turnStep : (buffer : List ℕ) (a : TurnAnswer) (n : Node) (cards : List Card) (buffer′ : List ℕ)
       → TurnPromise (h .node) (h .cards) (h .outgoing) buffer a n cards buffer′
@@ -66,9 +69,12 @@ madeOf h (c ∷ cs) = record { call = c; out = outcome h c } ∷ madeOf (outcome
 
 -- ---- what a chain said and left, read off its calls
 
--- its calls, its answers, and what the last call left
+-- its calls, its outcomes, its answers, and what the last call left
 abbrev pub callsOf : List Made → List Call
 callsOf ms = map (λ (m : Made). m .call) ms
+
+abbrev pub outcomesBy : List Made → List Outcome
+outcomesBy ms = map (λ (m : Made). m .out) ms
 
 abbrev pub saidBy : List Made → List Answer
 saidBy ms = map (λ (m : Made). m .out .answer) ms
@@ -92,6 +98,12 @@ unfoldable pub historyIn : ℕ → Held → List Made → List Moment
 historyIn k h [] = []
 historyIn k h (m ∷ ms) =
     moments (berthAt (h .node) k .rx) (own k h (m .call)) (saysOf k (m .out .answer)) ++ historyIn k (m .out .held) ms
+
+-- at each call, what the code's answer reports of berth k's send side names the party of the last answered send to k before that call
+unfoldable pub NamesIn : ℕ → Party → Held → List Made → Type 0
+NamesIn k last h [] = Unit {0}
+NamesIn k last h (m ∷ ms) =
+    AllName last (ofSide sendSide (ofBerth k (reports (m .out .answer)))) × NamesIn k (lastSender last (own k h (m .call))) (m .out .held) ms
 
 -- what demand 3 says of the answers and of what is left after a set-up, of every berth
 abbrev pub EachAlone : Held → Settings → BerthSettings → Node → List Made → Type 0
