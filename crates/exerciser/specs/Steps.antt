@@ -4,7 +4,7 @@ use mathlib.Core.Path.{_≡_}
 use mathlib.Core.List.{List, [], _∷_}
 use lib.ListN.{length, take, drop, replicate}
 use lib.Dec.{ltb}
-use Rattle.rules.specs.Numbers.{berthCount, frameSize}
+use Rattle.rules.specs.Numbers.{berthCount, frameSize, theScheduler}
 use Rattle.rules.specs.Tests.{pick}
 use Rattle.rules.specs.Nodes.{Held}
 use Rattle.rules.specs.Cards.{zeroCard}
@@ -46,11 +46,11 @@ recordLength = 16
 abbrev pub turnBuffer : List ℕ
 turnBuffer = replicate frameSize 0
 
--- the call that a record asks for; none if it is bad
+-- the call that a record asks for, none if it is bad; it is the scheduler that sends (paper 02, W6)
 unfoldable pub asks : List ℕ → Record → List Call
 asks d (Record.Frame id long) = frame id (take long (drop 8 d)) ∷ []
 asks d Record.Tick = tick ∷ []
-asks d (Record.Send k long first) = send k (risingFrom first long) ∷ []
+asks d (Record.Send k long first) = send k theScheduler (risingFrom first long) ∷ []
 asks d Record.Turn = turn turnBuffer ∷ []
 asks d Record.Bad = []
 

@@ -6,6 +6,7 @@ mod lines;
 ghost use Prim.Native.Nat.{_≤_};
 ghost use mathlib.Core.Path.{_≡_};
 ghost use mathlib.Core.List.{[]};
+ghost use Rattle.rules.specs.Numbers.{theScheduler};
 ghost use Rattle.rules.specs.Events.{frame, tick, send, turn};
 ghost use Rattle.node.specs.Promises.{lent};
 ghost use Rattle.records.specs.Records.{risingFrom};

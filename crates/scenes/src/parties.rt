@@ -12,8 +12,16 @@ fn one(text: Text, berth: u8, party: Party) -> Text {
     text.put(b' ').small(berth).put(b':').small(party.0)
 }
 
+// The word stands before the first only.
+fn headed(text: Text, named: bool) -> Text {
+    if named {
+        return text;
+    }
+    text.put_all(b" party")
+}
+
 fn alone(text: Text, berth: u8, party: Party) -> Text {
-    one(output::open(text).put_all(b" party"), berth, party).put(b'\n')
+    one(headed(output::open(text), false), berth, party).put(b'\n')
 }
 
 fn of_word(text: Text, berth: u8, word: Word) -> Text {
@@ -37,38 +45,25 @@ pub(crate) fn of_frame(text: Text, answer: FrameAnswer) -> Text {
 
 fn of_codes(text: Text, codes: [Codes; 10]) -> Text {
     let mut all = text;
+    let mut named = false;
     let mut k = 0;
     while k < 10 {
         let here = codes[k];
         if here.send != 0 {
-            all = one(all, k as u8, here.party);
+            all = one(headed(all, named), k as u8, here.party);
+            named = true;
         }
         k += 1;
     }
     all
 }
 
-fn any(codes: [Codes; 10]) -> bool {
-    let mut k = 0;
-    while k < 10 {
-        let here = codes[k];
-        if here.send != 0 {
-            return true;
-        }
-        k += 1;
-    }
-    false
-}
-
 pub(crate) fn of_tick(text: Text, answer: TickAnswer) -> Text {
     let codes = answer.codes;
-    if any(codes) {
-        return of_codes(output::open(text).put_all(b" party"), codes).put(b'\n');
-    }
-    text
+    of_codes(output::open(text), codes).put(b'\n')
 }
 
-// The berth is told by the identifier.
+// The identifier's last digit is the berth.
 pub(crate) fn of_turn(text: Text, answer: TurnAnswer) -> Text {
     match answer {
         TurnAnswer::Refused(_) => text,

@@ -108,7 +108,7 @@ colon = 58
 abbrev pub LF : ℕ
 LF = 10
 
--- ---- the texts
+-- ---- the texts; the party of a report is not told (paper 02, W6)
 
 -- an identifier has four digits
 unfoldable pub idText : ℕ → List ℕ

@@ -8,13 +8,14 @@ use lib.ListN.{length, getD, drop, drop-of-length-le}
 use lib.Seq.{drop-cons}
 use Rattle.text.specs.Building.{textOf, clipped}
 use Rattle.text.specs.Answers.{codeText, codesText}
+use Rattle.rules.specs.Parties.{scheduler}
 use Rattle.rules.specs.declared.Codes.{Codes}
 use Rattle.text.proofs.Clip.{text-holds, clip-kept, clip-step, clip-last}
 use Rattle.text.proofs.answers.pairs.Statement.{statement}
 use Rattle.text.proofs.answers.pairs.Tie as tie
 
 abbrev no-codes : Codes
-no-codes = record { receive = 0; send = 0 }
+no-codes = record { receive = 0; send = 0; party = scheduler }
 
 codes-cons : (cs : List Codes) (k : ℕ) → k < length cs → codesText k (drop k cs) ≡ codeText k (getD cs k no-codes) ++ codesText (k + 1) (drop (k + 1) cs)
 unfolding codesText
