@@ -35,6 +35,12 @@ static int of_node(const struct node *node)
     return node->served + node->rx[BERTHS - 1].last;
 }
 
+/* The party whose message its first berth sends, which is the one that a send is asked for. */
+static int of_sender(const struct node *node)
+{
+    return node->tx[0].state == TX_IDLE ? 0 : node->tx[0].party;
+}
+
 /* The settings of its first berth, which is the one that a change is asked for. */
 static int of_settings(const struct node *node)
 {
@@ -61,17 +67,17 @@ static uint64_t of_cards(void)
 
 static int of_frame(struct frame_answer a)
 {
-    return a.refusal + a.berth + a.old + a.number;
+    return a.refusal + a.berth + a.old + a.number + a.party;
 }
 
 static int of_tick(struct tick_answer a)
 {
-    return a.refusal + a.receive_code[BERTHS - 1] + a.send_code[BERTHS - 1];
+    return a.refusal + a.receive_code[BERTHS - 1] + a.send_code[BERTHS - 1] + a.party[BERTHS - 1];
 }
 
 static int of_turn(struct turn_answer a)
 {
-    return a.refusal + a.identifier + a.code + a.passed_over;
+    return a.refusal + a.identifier + a.code + a.passed_over + a.party;
 }
 
 static int middle(int length)
@@ -84,10 +90,11 @@ static struct receive_side receiving(int length)
     return (struct receive_side){ .state = AWAITS, .total = length, .got = middle(length), .sn = 1 };
 }
 
+/* The laptop's message. */
 static struct send_side sending(int length)
 {
     return (struct send_side){
-        .state = CONSECUTIVE, .length = length, .position = middle(length), .sn = 1, .block_size = 8,
+        .state = CONSECUTIVE, .length = length, .position = middle(length), .sn = 1, .block_size = 8, .party = LAPTOP,
     };
 }
 
@@ -150,7 +157,7 @@ static int made(const struct load *l, struct node *node)
     switch (l->call) {
     case FRAME: return of_frame(frame_came(node, l->incoming, cards, l->number, l->payload, l->came));
     case TICK: return of_tick(tick(node, cards));
-    case SEND: return send_message(node, l->outgoing, l->number, l->message);
+    case SEND: return send_message(node, l->outgoing, l->number, LAPTOP, l->message) + of_sender(node);
     case TURN: return of_turn(call_for_frame(node, l->outgoing, cards, l->buffer));
     case SHOW: return (int)show_message(node, l->incoming, l->outgoing, l->number, SHOW_SENDING).length;
     case CHANGE: return change(node, (uint32_t)l->number, STMIN, 5) + of_settings(node);

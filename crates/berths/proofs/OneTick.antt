@@ -1,11 +1,10 @@
 -- A tick at one side, as the walk of its arm finds it: what the timer says, and that the node with the side put back is what the rule
 -- makes of it.
 use mathlib.Core.Path.{_≡_, refl, sym, ap, _∙_}
-use mathlib.Core.Bool.{Bool, true, false, not}
-use mathlib.Core.List.{List, [], _∷_}
+use mathlib.Core.Bool.{false, not}
 use Prim.Native.Nat.{ℕ, zero, suc, _+_, _<_, _^_}
 use native.Mathlib.Omega.{arith}
-use lib.ListN.{length, getD, set}
+use lib.ListN.{length, getD}
 use lib.Seq.{getD-set-same}
 use lib.Dec.{T, ltb, eqb, ltb→lt, nltb→le}
 use borrow.Author.Tests.{lt-ltb, le-ltb}
@@ -13,7 +12,6 @@ use Rattle.rules.specs.Numbers.{timeout}
 use Rattle.rules.specs.Parties.{partyOf, reporting}
 use Rattle.rules.specs.Nodes.{fresh, berthAt, withRx, withBerth}
 use Rattle.rules.specs.Ticks.{ran, rxTicked, closer, txTicked, txCode, ticked}
-use Rattle.rules.specs.Tests.{pick}
 use Rattle.rules.specs.declared.Sending.{Sending}
 use Rattle.rules.specs.declared.Party.{Party}
 use Rattle.rules.specs.declared.Rx.{Rx}

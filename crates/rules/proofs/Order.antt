@@ -39,7 +39,7 @@ use Rattle.rules.proofs.Cases.{Tested, holds, fails, eqb-cases, tests, 
 use Rattle.rules.proofs.Ranges.{block-max, max-block, stmin-range, settings-range}
 use Rattle.rules.proofs.Answered.{frame-answered, send-answered, change-answered}
 use Rattle.rules.proofs.Gaps.{gap-small}
-use Rattle.rules.proofs.Parties.{kept-own, kept-flow, kept-ticked, kept-message, kept-begins, kept-in-range, stays-in-range}
+use Rattle.rules.proofs.Parties.{kept-own, kept-flow, kept-ticked, kept-message, kept-begins, kept-in-range}
 
 -- ---- blocks
 
@@ -234,7 +234,7 @@ module _ (s : Settings) (sr : AreaRange (s .area)) where
   unfolding toldBy
   told-ok b d r =
       record {
-        berth = record { own = r .own; receive = r .receive; send = flow-ok (b .tx) d (r .send); party = stays-in-range (b .tx) (flowCame (b .tx) d .tx) (kept-flow (partyOf (b .tx)) (b .tx) d (kept-own (b .tx))) (r .party) };
+        berth = record { own = r .own; receive = r .receive; send = flow-ok (b .tx) d (r .send); party = kept-in-range (partyOf (b .tx)) (flowCame (b .tx) d .tx) (kept-flow (partyOf (b .tx)) (b .tx) d (kept-own (b .tx))) (r .party) };
         inside = omega (arith, sr .area-least);
       }
 
@@ -286,7 +286,7 @@ module _ (s : Settings) (sr : AreaRange (s .area)) where
         own = r .own;
         receive = rx-ticked-ok (b .settings .block) (b .rx) (b .last) (r .receive);
         send = tx-ticked-ok (b .tx) (r .send);
-        party = stays-in-range (b .tx) (txTicked (b .tx)) (kept-ticked (partyOf (b .tx)) (b .tx) (kept-own (b .tx))) (r .party);
+        party = kept-in-range (partyOf (b .tx)) (txTicked (b .tx)) (kept-ticked (partyOf (b .tx)) (b .tx) (kept-own (b .tx))) (r .party);
       }
 
   -- ---- a hand-over
@@ -364,7 +364,7 @@ module _ (s : Settings) (sr : AreaRange (s .area)) where
         own = r .own;
         receive = r .receive;
         send = after-message-ok (b .tx) (r .send);
-        party = stays-in-range (b .tx) (afterMessage (b .tx)) (kept-message (partyOf (b .tx)) (b .tx) (kept-own (b .tx))) (r .party);
+        party = kept-in-range (partyOf (b .tx)) (afterMessage (b .tx)) (kept-message (partyOf (b .tx)) (b .tx) (kept-own (b .tx))) (r .party);
       })
 
   -- ---- a send

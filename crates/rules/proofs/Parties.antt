@@ -78,9 +78,6 @@ kept-in-range p (Tx.FirstDue party n t) e l = rw e l
 kept-in-range p (Tx.AwaitsFlow party o t) e l = rw e l
 kept-in-range p (Tx.Consecutive party o t) e l = rw e l
 
-pub stays-in-range : (tx tx′ : Tx) → Kept (partyOf tx) tx′ → PartyRange tx → PartyRange tx′
-stays-in-range tx tx′ e l = kept-in-range (partyOf tx) tx′ e l
-
 -- ---- a report names it
 
 pub reporting-named : (k : ℕ) (s : Side) (c : ℕ) (party : Party) → reported k s c (reporting c party) ≡ reported k s c party
@@ -103,10 +100,3 @@ kept-reporting p (Tx.Consecutive party o t) c e none = ap (reporting c) e
 
 pub kept-named : (k : ℕ) (s : Side) (p : Party) (tx : Tx) (c : ℕ) → Kept p tx → (tx ≡ Tx.Idle → c ≡ 0) → reported k s c (partyOf tx) ≡ reported k s c p
 kept-named k s p tx c e none = named-alike k s c (partyOf tx) p (kept-reporting p tx c e none)
-
-pub kept-is : (p : Party) (tx : Tx) → Kept p tx → (partyOf tx ≡ p → ⊥) → tx ≡ Tx.Idle
-kept-is p Tx.Idle e n = refl
-kept-is p (Tx.SingleDue party n t) e x = absurd (x e)
-kept-is p (Tx.FirstDue party n t) e x = absurd (x e)
-kept-is p (Tx.AwaitsFlow party o t) e x = absurd (x e)
-kept-is p (Tx.Consecutive party o t) e x = absurd (x e)
