@@ -17,8 +17,9 @@ use Rattle.rules.specs.declared.SendAnswer.{SendAnswer}
 use Rattle.rules.specs.declared.TurnAnswer.{TurnAnswer}
 use Rattle.rules.specs.declared.ChangeAnswer.{ChangeAnswer}
 
--- refused with a number; set up; heard at a berth with old code and word; ten times the codes of both sides and the party; sent to a berth; handed over with
--- identifier, frame, code, passed over and party; none with passed over; a part shown; a berth's setting changed (paper 02, W3)
+-- refused with a number; set up; heard at a berth with old code and word; for each of ten berths the codes of both sides and the party; sent
+-- to a berth; handed over with identifier, frame, code, passed over and party; none with passed over; a part shown; a berth's setting
+-- changed (paper 02, W3)
 pub data Answer : Type 0 where
   refused : ℕ → Answer
   ready : Answer
