@@ -3,15 +3,16 @@ from steps import Type
 
 
 class Inner(Type):
-    """A type that is declared in a module of its crate, and that only this crate names."""
+    """A type that is declared in a module of its crate."""
 
     def __init__(s, name, crate, module, alias, **more):
         super().__init__(name, crate, alias, **more)
         s.module = module
 
     def uses(s, own):
-        at = f'{s.crate}·proofs.proofs.{s.module}.{s.name}'
-        return f'use Rattle.{s.crate}.specs.declared.{s.module}.{s.name}.{{{s.name}}}\nuse Rattle.{at} as {s.alias}\nuse Rattle.{at}.Laws as {s.alias}′\n'
+        specs, proofs = (f'{s.crate}·specs.specs', f'{s.crate}·proofs.proofs') if own == s.crate else (f'{s.crate}.specs', f'{s.crate}.proofs')
+        at = f'{proofs}.{s.module}.{s.name}'
+        return f'use Rattle.{specs}.declared.{s.module}.{s.name}.{{{s.name}}}\nuse Rattle.{at} as {s.alias}\nuse Rattle.{at}.Laws as {s.alias}′\n'
 
 
 TYPES = {t.name: t for t in (
@@ -39,7 +40,7 @@ TYPES = {t.name: t for t in (
     Type('Choice', 'rules', 'Ch', variants=[('Arrived', []), ('Sending', [])]),
     Type('Card', 'rules', 'Ca', fields=[(name, 'u32') for name in ('begun', 'delivered', 'failed2', 'failed4', 'failed5', 'failed7', 'toolong', 'sent', 'unsent')]),
     Type('Adds', 'rules', 'Ad', fields=[(name, 'bool') for name in ('begun', 'delivered', 'failed2', 'failed4', 'failed5', 'failed7', 'toolong', 'sent', 'unsent')]),
-    Inner('SendEnd', 'berths', 'ticks', 'Se', fields=[('code', 'u8'), ('party', 'Party')]),
-    Inner('Ends', 'berths', 'ticks', 'Ed', fields=[('receive', 'u8'), ('send', 'SendEnd')]),
+    Inner('Report', 'berth', 'reports', 'Rp', fields=[('code', 'u8'), ('party', 'Party')]),
+    Inner('Ends', 'berths', 'ticks', 'Ed', fields=[('receive', 'u8'), ('send', 'Report')]),
     Type('TickAnswer', 'rules', 'A1', fields=[('refused', 'u8'), ('codes', 'TenCodes')]),
 )}

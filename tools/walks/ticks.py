@@ -7,8 +7,9 @@ BERTH = '(getD (h .berths) k fresh)'
 TICK_USES = '''use Rattle.rules.specs.Ticks.{closer, txTicked}
 use Rattle.rules.specs.declared.Sending.{Sending}
 use Rattle.looks.proofs.Variants.{see-rx, rx-seen, rx-as, as-rx-Idle, as-rx-OwesOverflow, as-rx-OwesGo, as-rx-Awaits, see-tx, tx-seen, tx-as, as-tx-Idle, as-tx-SingleDue, as-tx-FirstDue, as-tx-AwaitsFlow, as-tx-Consecutive}
-use Rattle.berths.specs.Ticks.{ReceiveTicked, SendTicked, goesOn}
-use Rattle.berths.proofs.OneTick.{received, receives-nothing, goes-on, ends-by, sends, sends-nothing, gap-code, gap-falls, gap-over, some-left, runs-on, runs-out, next-fits, both}
+use Rattle.berths.specs.Ticks.{ReceiveTicked, SendTicked}
+use Rattle.rules.specs.Parties.{scheduler}
+use Rattle.berths.proofs.OneTick.{received, receives-nothing, reports-nothing, reports-own, sends, sends-nothing, gap-code, gap-falls, gap-over, some-left, runs-on, runs-out, next-fits, both}
 '''
 EACH_USES = '''use mathlib.Core.List.{map}
 use Rattle.rules.specs.Ticks.{codesOf, ticked}
@@ -34,10 +35,10 @@ def found(kind, variant, count):
 
 
 LAW = {'Rx': ('ReceiveTicked', 'received', 'receives-nothing'), 'Tx': ('SendTicked', 'sends', 'sends-nothing')}
-# what a state answers: a receive side a number, a send side its code and its party
-ENDED = {'Rx': 'u8', 'Tx': 'SendEnd'}
-GOES_ON = Callee('berths', 'ticks::goes_on', None, [], 'SendEnd', lambda r, z, zs, h, vs: f'{r} ≡ goesOn')
-ENDS_WITH = Callee('berths', 'ticks::ends_with', None, ['u8', 'Party'], 'SendEnd', lambda r, z, zs, h, vs: f'{r} ≡ record {{ code = {vs[0]}; party = {vs[1]} }}')
+# what a state answers: a receive side a number, a send side what it reports
+ENDED = {'Rx': 'u8', 'Tx': 'Report'}
+NOTHING = Callee('berth', 'reports::nothing', None, [], 'Report', lambda r, z, zs, h, vs: f'{r} ≡ record {{ code = 0; party = scheduler }}')
+OF = Callee('berth', 'reports::of', None, ['u8', 'Party'], 'Report', lambda r, z, zs, h, vs: f'{r} ≡ record {{ code = {vs[0]}; party = {vs[1]} }}')
 
 
 def side_is(kind):
@@ -51,16 +52,16 @@ def state(fn, kind, variant, fields):
     return Callee('berths', f'ticks::{fn}', 'mut', ['usize'] + fields, ENDED[kind], lambda r, z, zs, h, vs: f'{LAW[kind][0]} {h} {vs[0]} {r} {z}', asks=asks)
 
 
-GOES = ('call', GOES_ON, 'r·', 'e·', 'r-is', None, None)
-ENDS = ('call', ENDS_WITH, 'r·', 'e·', 'r-is', None, None)
+SAYS_NOTHING = ('call', NOTHING, 'r·', 'e·', 'r-is', None, None)
+SAYS_OWN = ('call', OF, 'r·', 'e·', 'r-is', None, None)
 
 
 def timed(kind, variant, before, code):
     """A state whose timer runs: it goes on, or the side ends with a code, a send side with its party too."""
     on = f'(λ u. {kind}.{variant} {before} u)'
-    calls = ([], []) if kind == 'Rx' else ([GOES], [ENDS])
+    calls = ([], []) if kind == 'Rx' else ([SAYS_NOTHING], [SAYS_OWN])
     side = f'({kind}.{variant} {before} t)'
-    by = ('{}', '{}') if kind == 'Rx' else (f'(e· ∙ goes-on {side} {{}})', f'(e· ∙ ends-by {side} {{}} refl)')
+    by = ('{}', '{}') if kind == 'Rx' else (f'(e· ∙ reports-nothing {side} {{}})', f'(e· ∙ reports-own {side} {{}} refl)')
 
     def proof(how, test, by):
         said = f'({how} t (λ u. 0) {code} {test})'
@@ -76,14 +77,14 @@ def consecutive():
     same = side_is('Tx')
     side = '(Tx.Consecutive party o· t)'
     falls = f'(subst (λ (y : Sending). txTicked {side} ≡ Tx.Consecutive party y t) (sym qe) (gap-falls party o· t waits))'
-    gap = ('if', ('waits', 'free'), [('call', CLOSER, 'q·', 'qe', 'q-is', '(some-left (o· .left) waits)', None), ('make', 'Tx', 'Consecutive'), GOES,
-                                    ('return', f'sends h k {same} (e· ∙ goes-on {side} (gap-code party o· t waits)) {falls}')], None)
+    gap = ('if', ('waits', 'free'), [('call', CLOSER, 'q·', 'qe', 'q-is', '(some-left (o· .left) waits)', None), ('make', 'Tx', 'Consecutive'), SAYS_NOTHING,
+                                    ('return', f'sends h k {same} (e· ∙ reports-nothing {side} (gap-code party o· t waits)) {falls}')], None)
 
     def proof(how, test, by):
         over = f'(gap-over party o· t free ({how} t (λ u. 0) 2 {test}) ({how} t (λ u. Tx.Consecutive party o· u) Tx.Idle {test}))'
         return f'sends h k {same} {by.format(f"({over} .0)")} ({over} .1)'
-    return [gap, ('if', ('less', 'over'), [('fits', 'next-fits t less'), ('make', 'Tx', 'Consecutive'), GOES, ('return', proof('runs-on', 'less', f'(e· ∙ goes-on {side} {{}})'))], None),
-            ('make', 'Tx', 'Idle'), ENDS, ('return', proof('runs-out', 'over', f'(e· ∙ ends-by {side} {{}} refl)'))]
+    return [gap, ('if', ('less', 'over'), [('fits', 'next-fits t less'), ('make', 'Tx', 'Consecutive'), SAYS_NOTHING, ('return', proof('runs-on', 'less', f'(e· ∙ reports-nothing {side} {{}})'))], None),
+            ('make', 'Tx', 'Idle'), SAYS_OWN, ('return', proof('runs-out', 'over', f'(e· ∙ reports-own {side} {{}} refl)'))]
 
 
 # function, variant, the fields before the timer with their kinds, the code
@@ -101,7 +102,7 @@ def callees(kind):
 def side(kind, states):
     """The match on a side: nothing where it is idle, else the function of its state."""
     idle = found(kind, 'Idle', 0)[1]
-    arms = [[('return', f'receives-nothing h k {idle}')] if kind == 'Rx' else [GOES, ('return', f'sends-nothing h k e· {idle}')]]
+    arms = [[('return', f'receives-nothing h k {idle}')] if kind == 'Rx' else [SAYS_NOTHING, ('return', f'sends-nothing h k e· {idle}')]]
     for (_, variant, fields, _), c in zip(STATES[kind], states):
         there = f'(within, ap (λ (y : Berth). y .{kind.lower()}) (at-is h k) ∙ {found(kind, variant, len(fields) + 1)[1]})'
         arms.append([('call', c, 'r·', 'e·', 'r-is', there, None), ('return', 'e·')])
@@ -109,8 +110,8 @@ def side(kind, states):
 
 
 RECEIVE = Callee('berths', 'ticks::receive', 'mut', ['usize'], 'u8', lambda r, z, zs, h, vs: f'ReceiveTicked {h} {vs[0]} {r} {z}', asks=lambda ps: f'{ps[0]} < berthCount')
-SEND = Callee('berths', 'ticks::send', 'mut', ['usize'], 'SendEnd', lambda r, z, zs, h, vs: f'SendTicked {h} {vs[0]} {r} {z}', asks=lambda ps: f'{ps[0]} < berthCount')
-BOTH_ENDS = Callee('berths', 'ticks::both_ends', None, ['u8', 'SendEnd'], 'Ends', lambda r, z, zs, h, vs: f'{r} ≡ record {{ receive = {vs[0]}; send = {vs[1]} }}')
+SEND = Callee('berths', 'ticks::send', 'mut', ['usize'], 'Report', lambda r, z, zs, h, vs: f'SendTicked {h} {vs[0]} {r} {z}', asks=lambda ps: f'{ps[0]} < berthCount')
+BOTH_ENDS = Callee('berths', 'ticks::both_ends', None, ['u8', 'Report'], 'Ends', lambda r, z, zs, h, vs: f'{r} ≡ record {{ receive = {vs[0]}; send = {vs[1]} }}')
 ANY = Callee('berths', 'ticks::any', None, ['Ends'], 'bool', lambda r, z, zs, h, vs: f'{r} ≡ anyEnd {vs[0]}')
 CODES = Callee('berths', 'ticks::codes', None, ['Ends'], 'Codes', lambda r, z, zs, h, vs: f'{r} ≡ endCodes {vs[0]}')
 ADDS = Callee('berths', 'ticks::adds', None, ['Ends'], 'Adds', lambda r, z, zs, h, vs: f'{r} ≡ endAdds ({vs[0]} .receive) ({vs[0]} .send .code)')
@@ -161,11 +162,11 @@ def walks(walk):
             params = k + fields + [('t', 'u16')]
             plan = consecutive() if fn == 'consecutive' else timed(kind, variant, ' '.join(p for p, _ in fields), code)
             asks = f'(k < berthCount) × (berthAt h k .{kind.lower()} ≡ {kind}.{variant} {" ".join(p for p, _ in params[1:])})'
-            made = [] if kind == 'Rx' else [GOES_ON, ENDS_WITH]
+            made = [] if kind == 'Rx' else [NOTHING, OF]
             yield walk(f'ticks::{fn}', params, ENDED[kind], said, plan, callees=([CLOSER] if fn == 'consecutive' else []) + made, requires=asks, uses=TICK_USES,
                        inside={'_2': '(within .0)'}, doc='The timer runs on, or the side ends.')
         states = callees(kind)
-        yield walk(f'ticks::{name}', k, ENDED[kind], said, side(kind, states), callees=states + ([] if kind == 'Rx' else [GOES_ON]), requires='k < berthCount', uses=TICK_USES,
+        yield walk(f'ticks::{name}', k, ENDED[kind], said, side(kind, states), callees=states + ([] if kind == 'Rx' else [NOTHING]), requires='k < berthCount', uses=TICK_USES,
                    inside={'_2': 'within'}, doc='A match behind the reference, and the function of the state.')
     yield walk('ticks::at', k, 'Ends', '(r ≡ endsOf (berthAt h k)) × (h′ ≡ withBerth h k (ticked (berthAt h k)))', at(), callees=[RECEIVE, SEND, BOTH_ENDS],
                requires='k < berthCount', uses=TICK_USES + 'use Rattle.rules.specs.Ticks.{ticked}\nuse Rattle.rules.specs.Nodes.{withBerth}\nuse Rattle.berths.specs.Ticks.{endsOf}\n',

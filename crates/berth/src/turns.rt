@@ -5,11 +5,13 @@ ghost use mathlib.Core.Bool.{true};
 ghost use mathlib.Core.List.{[], _∷_};
 ghost use Prim.Native.Nat.{_≤_, _<_};
 ghost use lib.ListN.{length, take, drop};
-ghost use Rattle.rules.specs.Numbers.{N-OK, leastArea, largestArea, snCount, flowKind, frameSize, singleMost, firstBytes, consecutiveMost};
-ghost use Rattle.rules.specs.Parties.{scheduler, partyOf};
+ghost use Rattle.rules.specs.Numbers.{leastArea, largestArea, snCount, flowKind, frameSize, singleMost, firstBytes, consecutiveMost};
+ghost use Rattle.rules.specs.Parties.{partyOf};
 ghost use Rattle.rules.specs.Frames.{headed, singleFrame, firstFrame, consecutiveFrame, share};
 ghost use Rattle.rules.specs.Ranges.{SendingRange, TxRange};
 ghost use Rattle.rules.specs.Turns.{flowDue, messageDue, flowFrame, afterFlow, toGo, messageFrame, messageCode, messageParty, opened, moved, afterConsecutive, afterMessage, beginsWith, lengthSending, busy};
+use crate::reports;
+use crate::reports::Report;
 use rules::BerthSettings;
 use rules::Party;
 use rules::Rx;
@@ -113,44 +115,21 @@ pub fn message_frame(settings: Settings, tx: Tx, area: &[u8], frame: &mut [u8])
     }
 }
 
-// What a message's frame reports: code and party, both 0 where it is not the last.
-pub struct Report {
-    pub code: u8,
-    pub party: Party,
-}
-
-fn no_report() -> Report
-    ensures { λ r. ⌜ r ≡ record { code = 0; party = scheduler } ⌝ }
-{
-    Report {
-        code: 0,
-        party: Party::scheduler(),
-    }
-}
-
-fn done(party: Party) -> Report
-    ensures { λ r. ⌜ r ≡ record { code = N-OK; party = party } ⌝ }
-{
-    Report {
-        code: rules::N_OK,
-        party: party,
-    }
-}
-
+// What a message's frame reports: code 1 if it is the last, else nothing.
 pub fn message_report(settings: Settings, tx: Tx) -> Report
     requires { ⌜ TxRange settings tx ⌝ }
     ensures { λ r. ⌜ r ≡ record { code = messageCode tx; party = messageParty tx } ⌝ }
 {
     match tx {
-        Tx::Idle => no_report(),
-        Tx::SingleDue(party, _, _) => done(party),
-        Tx::FirstDue(_, _, _) => no_report(),
-        Tx::AwaitsFlow(_, _, _) => no_report(),
+        Tx::Idle => reports::nothing(),
+        Tx::SingleDue(party, _, _) => reports::of(rules::N_OK, party),
+        Tx::FirstDue(_, _, _) => reports::nothing(),
+        Tx::AwaitsFlow(_, _, _) => reports::nothing(),
         Tx::Consecutive(party, o, _) => {
             if to_go(o) <= rules::CONSECUTIVE_MOST {
-                return done(party);
+                return reports::of(rules::N_OK, party);
             }
-            no_report()
+            reports::nothing()
         }
     }
 }

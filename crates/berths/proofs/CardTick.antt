@@ -27,7 +27,7 @@ use Rattle.berth.specs.Idle.{idle}
 use Rattle.looks.proofs.Bodies.{none}
 use Rattle.looks.proofs.Ordered.{rx-idle, tx-idle}
 use Rattle.looks.proofs.Codes.{zeros}
-use Rattle.berths.specs.Ticks.{rxEnd, overflowEnd, goesOn, endsOf, anyEnd, endCodes}
+use Rattle.berths.specs.Ticks.{rxEnd, overflowEnd, noReport, endsOf, anyEnd, endCodes}
 use Rattle.berths.specs.declared.ticks.Ends.{Ends}
 
 -- what a tick adds to the card of a berth
@@ -72,7 +72,7 @@ end-adds b = end-add (b .rx) (txCode (b .tx))
 
 -- ---- where neither side ended
 
-quiet-ends : (b : Berth) → anyEnd (endsOf b) ≡ false → endsOf b ≡ record { receive = 0; send = goesOn }
+quiet-ends : (b : Berth) → anyEnd (endsOf b) ≡ false → endsOf b ≡ record { receive = 0; send = noReport }
 unfolding anyEnd reporting
 quiet-ends b e = let n = or-neither (not (eqb (rxEnd (b .rx)) 0)) (not (eqb (txCode (b .tx)) 0)) e in rw (none (rxEnd (b .rx)) (no-of (n .0)), none (txCode (b .tx)) (no-of (n .1)))
 

@@ -17,8 +17,8 @@ use Rattle.rules.specs.declared.Party.{Party}
 use Rattle.rules.specs.declared.Rx.{Rx}
 use Rattle.rules.specs.declared.Tx.{Tx}
 use Rattle.rules.specs.declared.Node.{Node}
-use Rattle.berths.specs.Ticks.{rxEnd, ReceiveTicked, goesOn, txEnd, SendTicked, endsOf}
-use Rattle.berths.specs.declared.ticks.SendEnd.{SendEnd}
+use Rattle.berths.specs.Ticks.{rxEnd, ReceiveTicked, noReport, txReport, SendTicked, endsOf}
+use Rattle.berth.specs.declared.reports.Report.{Report}
 use Rattle.looks.proofs.Bodies.{not-not}
 use Rattle.rules.proofs.Cases.{is-false}
 use Rattle.looks.proofs.Item.{set-same}
@@ -41,22 +41,22 @@ pub receives-nothing : (h : Node) (k : ℕ) → getD (h .berths) k fresh .rx ≡
 unfolding berthAt withBerth
 receives-nothing h k is = (sym (ap rxEnd is), sym (ap (put-rx h k) (ap rxTicked is ∙ sym is) ∙ ap (λ bs. record { settings = h .settings; served = h .served; berths = bs }) (set-same (h .berths) k fresh)))
 
--- a send side that goes on reports no party, and one that ends its own
-pub goes-on : (y : Tx) → txCode y ≡ 0 → goesOn ≡ txEnd y
+-- a send side that goes on reports nothing, and one that ends its own party
+pub reports-nothing : (y : Tx) → txCode y ≡ 0 → noReport ≡ txReport y
 unfolding reporting
-goes-on y e = rw e
+reports-nothing y e = rw e
 
-pub ends-by : (y : Tx) {c : ℕ} → txCode y ≡ c → eqb c 0 ≡ false → record { code = c; party = partyOf y } ≡ txEnd y
+pub reports-own : (y : Tx) {c : ℕ} → txCode y ≡ c → eqb c 0 ≡ false → record { code = c; party = partyOf y } ≡ txReport y
 unfolding reporting
-ends-by y e some = rw (e, some)
+reports-own y e some = rw (e, some)
 
-pub sends : (h : Node) (k : ℕ) {y y′ : Tx} {end : SendEnd} → getD (h .berths) k fresh .tx ≡ y → end ≡ txEnd y → txTicked y ≡ y′ → SendTicked h k end (put-tx h k y′)
+pub sends : (h : Node) (k : ℕ) {y y′ : Tx} {said : Report} → getD (h .berths) k fresh .tx ≡ y → said ≡ txReport y → txTicked y ≡ y′ → SendTicked h k said (put-tx h k y′)
 unfolding berthAt withBerth
-sends h k is end after = (end ∙ sym (ap txEnd is), ap (put-tx h k) (sym (ap txTicked is ∙ after)))
+sends h k is says after = (says ∙ sym (ap txReport is), ap (put-tx h k) (sym (ap txTicked is ∙ after)))
 
-pub sends-nothing : (h : Node) (k : ℕ) {end : SendEnd} → end ≡ goesOn → getD (h .berths) k fresh .tx ≡ Tx.Idle → SendTicked h k end h
+pub sends-nothing : (h : Node) (k : ℕ) {said : Report} → said ≡ noReport → getD (h .berths) k fresh .tx ≡ Tx.Idle → SendTicked h k said h
 unfolding berthAt withBerth
-sends-nothing h k end is = (end ∙ goes-on Tx.Idle refl ∙ sym (ap txEnd is), sym (ap (put-tx h k) (ap txTicked is ∙ sym is) ∙ ap (λ bs. record { settings = h .settings; served = h .served; berths = bs }) (set-same (h .berths) k fresh)))
+sends-nothing h k says is = (says ∙ reports-nothing Tx.Idle refl ∙ sym (ap txReport is), sym (ap (put-tx h k) (ap txTicked is ∙ sym is) ∙ ap (λ bs. record { settings = h .settings; served = h .served; berths = bs }) (set-same (h .berths) k fresh)))
 
 -- while the gap left is above 0 it falls; once it is 0 the timer runs
 pub gap-code : (party : Party) (o : Sending) (t : ℕ) → T (not (eqb (o .left) 0)) → txCode (Tx.Consecutive party o t) ≡ 0
@@ -74,7 +74,7 @@ some-left zero some = absurd some
 some-left (suc n) some = omega arith
 
 -- both sides, one after the other
-pub both : (h h₁ h₂ : Node) (k r : ℕ) (s : SendEnd) → k < length (h .berths) → ReceiveTicked h k r h₁ → SendTicked h₁ k s h₂
+pub both : (h h₁ h₂ : Node) (k r : ℕ) (s : Report) → k < length (h .berths) → ReceiveTicked h k r h₁ → SendTicked h₁ k s h₂
     → (record { receive = r; send = s } ≡ endsOf (berthAt h k)) × (h₂ ≡ withBerth h k (ticked (berthAt h k)))
 unfolding berthAt withBerth ticked
 both h h₁ h₂ k r s within e f =

@@ -1,6 +1,6 @@
 -- What a tick makes of one side of berth k in a lent node, and how the side ended: the node as it is left has that side anew, and nothing
--- else. An end is told by its code, 0 for none, of a send side with the party; only an overflow owed has a number of its own, since its code is
--- that of a go owed.
+-- else. An end is told by its code, 0 for none, and of a send side by what it reports; only an overflow owed has a number of its own, since its
+-- code is that of a go owed.
 use Prim.Native.Nat.{ℕ}
 use mathlib.Core.Path.{_≡_}
 use mathlib.Core.Bool.{Bool, not, _||_}
@@ -15,7 +15,7 @@ use Rattle.rules.specs.declared.Tx.{Tx}
 use Rattle.rules.specs.declared.Berth.{Berth}
 use Rattle.rules.specs.declared.Node.{Node}
 use Rattle.rules.specs.declared.Codes.{Codes}
-use Rattle.berths.specs.declared.ticks.SendEnd.{SendEnd}
+use Rattle.berth.specs.declared.reports.Report.{Report}
 use Rattle.berths.specs.declared.ticks.Ends.{Ends}
 
 -- ---- how a receive side ended
@@ -33,21 +33,21 @@ abbrev pub ReceiveTicked : Node → ℕ → ℕ → Node → Type 0
 ReceiveTicked h k end h′ =
     (end ≡ rxEnd (berthAt h k .rx)) × (h′ ≡ withBerth h k (withRx (berthAt h k) (rxTicked (berthAt h k .rx)) (berthAt h k .last)))
 
--- ---- how a send side ended
+-- ---- what a send side reports
 
-abbrev pub goesOn : SendEnd
-goesOn = record { code = 0; party = scheduler }
+abbrev pub noReport : Report
+noReport = record { code = 0; party = scheduler }
 
-abbrev pub txEnd : Tx → SendEnd
-txEnd tx = record { code = txCode tx; party = txParty tx }
+abbrev pub txReport : Tx → Report
+txReport tx = record { code = txCode tx; party = txParty tx }
 
-abbrev pub SendTicked : Node → ℕ → SendEnd → Node → Type 0
-SendTicked h k end h′ = (end ≡ txEnd (berthAt h k .tx)) × (h′ ≡ withBerth h k (withTx (berthAt h k) (txTicked (berthAt h k .tx))))
+abbrev pub SendTicked : Node → ℕ → Report → Node → Type 0
+SendTicked h k said h′ = (said ≡ txReport (berthAt h k .tx)) × (h′ ≡ withBerth h k (withTx (berthAt h k) (txTicked (berthAt h k .tx))))
 
 -- ---- both sides of a berth
 
 abbrev pub endsOf : Berth → Ends
-endsOf b = record { receive = rxEnd (b .rx); send = txEnd (b .tx) }
+endsOf b = record { receive = rxEnd (b .rx); send = txReport (b .tx) }
 
 unfoldable pub anyEnd : Ends → Bool
 anyEnd e = not (eqb (e .receive) 0) || not (eqb (e .send .code) 0)

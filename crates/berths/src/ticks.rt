@@ -13,8 +13,10 @@ ghost use Rattle.rules.specs.Ticks.{closer, ticked, codesOf};
 ghost use Rattle.rules.specs.Cards.{tickedCards};
 ghost use Rattle.cards.specs.Counting.{endAdds};
 ghost use lib.ListN.{length};
-ghost use Rattle.berths.specs.Ticks.{ReceiveTicked, SendTicked, goesOn, anyEnd, endCodes, endsOf};
+ghost use Rattle.berths.specs.Ticks.{ReceiveTicked, SendTicked, anyEnd, endCodes, endsOf};
 ghost use Rattle.berths.specs.declared.ticks.Ends.{Ends};
+use berth::reports;
+use berth::reports::Report;
 use rules::Adds;
 use rules::Card;
 use rules::Codes;
@@ -82,66 +84,42 @@ fn receive(node: &mut Node, k: usize) -> u8
     }
 }
 
-// ---- the send side of berth k, in each of its states, and how it ended
+// ---- the send side of berth k, in each of its states, and what it reports
 
-// The code, 0 where the side did not end, and the party that the report names.
-struct SendEnd {
-    code: u8,
-    party: Party,
-}
-
-fn goes_on() -> SendEnd
-    ensures { λ r. ⌜ r ≡ goesOn ⌝ }
-{
-    SendEnd {
-        code: 0,
-        party: Party::scheduler(),
-    }
-}
-
-fn ends_with(code: u8, party: Party) -> SendEnd
-    ensures { λ r. ⌜ r ≡ record { code = code; party = party } ⌝ }
-{
-    SendEnd {
-        code: code,
-        party: party,
-    }
-}
-
-fn single_due(node: &mut Node, k: usize, party: Party, n: u32, t: u16) -> SendEnd
+fn single_due(node: &mut Node, k: usize, party: Party, n: u32, t: u16) -> Report
     requires { ⌜ (k < berthCount) × (berthAt (now node) k .tx ≡ Tx.SingleDue party n t) ⌝ }
     ensures { λ r. ⌜ SendTicked (now (node .entry)) k r (now (node .exit)) ⌝ }
 {
     if t < LAST {
         node.berths[k].tx = Tx::SingleDue(party, n, t + 1);
-        return goes_on();
+        return reports::nothing();
     }
     node.berths[k].tx = Tx::Idle;
-    ends_with(rules::N_TIMEOUT_A, party)
+    reports::of(rules::N_TIMEOUT_A, party)
 }
 
-fn first_due(node: &mut Node, k: usize, party: Party, n: u32, t: u16) -> SendEnd
+fn first_due(node: &mut Node, k: usize, party: Party, n: u32, t: u16) -> Report
     requires { ⌜ (k < berthCount) × (berthAt (now node) k .tx ≡ Tx.FirstDue party n t) ⌝ }
     ensures { λ r. ⌜ SendTicked (now (node .entry)) k r (now (node .exit)) ⌝ }
 {
     if t < LAST {
         node.berths[k].tx = Tx::FirstDue(party, n, t + 1);
-        return goes_on();
+        return reports::nothing();
     }
     node.berths[k].tx = Tx::Idle;
-    ends_with(rules::N_TIMEOUT_A, party)
+    reports::of(rules::N_TIMEOUT_A, party)
 }
 
-fn awaits_flow(node: &mut Node, k: usize, party: Party, o: Sending, t: u16) -> SendEnd
+fn awaits_flow(node: &mut Node, k: usize, party: Party, o: Sending, t: u16) -> Report
     requires { ⌜ (k < berthCount) × (berthAt (now node) k .tx ≡ Tx.AwaitsFlow party o t) ⌝ }
     ensures { λ r. ⌜ SendTicked (now (node .entry)) k r (now (node .exit)) ⌝ }
 {
     if t < LAST {
         node.berths[k].tx = Tx::AwaitsFlow(party, o, t + 1);
-        return goes_on();
+        return reports::nothing();
     }
     node.berths[k].tx = Tx::Idle;
-    ends_with(rules::N_TIMEOUT_BS, party)
+    reports::of(rules::N_TIMEOUT_BS, party)
 }
 
 // The gap left falls by one.
@@ -155,28 +133,28 @@ fn closer(o: Sending) -> Sending
 }
 
 // While the gap left is above 0 it falls, and the timer stays.
-fn consecutive(node: &mut Node, k: usize, party: Party, o: Sending, t: u16) -> SendEnd
+fn consecutive(node: &mut Node, k: usize, party: Party, o: Sending, t: u16) -> Report
     requires { ⌜ (k < berthCount) × (berthAt (now node) k .tx ≡ Tx.Consecutive party o t) ⌝ }
     ensures { λ r. ⌜ SendTicked (now (node .entry)) k r (now (node .exit)) ⌝ }
 {
     if o.left != 0 {
         node.berths[k].tx = Tx::Consecutive(party, closer(o), t);
-        return goes_on();
+        return reports::nothing();
     }
     if t < LAST {
         node.berths[k].tx = Tx::Consecutive(party, o, t + 1);
-        return goes_on();
+        return reports::nothing();
     }
     node.berths[k].tx = Tx::Idle;
-    ends_with(rules::N_TIMEOUT_A, party)
+    reports::of(rules::N_TIMEOUT_A, party)
 }
 
-fn send(node: &mut Node, k: usize) -> SendEnd
+fn send(node: &mut Node, k: usize) -> Report
     requires { ⌜ k < berthCount ⌝ }
     ensures { λ r. ⌜ SendTicked (now (node .entry)) k r (now (node .exit)) ⌝ }
 {
     match node.berths[k].tx {
-        Tx::Idle => return goes_on(),
+        Tx::Idle => return reports::nothing(),
         Tx::SingleDue(party, n, t) => return single_due(&mut *node, k, party, n, t),
         Tx::FirstDue(party, n, t) => return first_due(&mut *node, k, party, n, t),
         Tx::AwaitsFlow(party, o, t) => return awaits_flow(&mut *node, k, party, o, t),
@@ -189,10 +167,10 @@ fn send(node: &mut Node, k: usize) -> SendEnd
 // How the two sides of a berth ended, 0 for not.
 struct Ends {
     receive: u8,
-    send: SendEnd,
+    send: Report,
 }
 
-fn both_ends(receive: u8, send: SendEnd) -> Ends
+fn both_ends(receive: u8, send: Report) -> Ends
     ensures { λ r. ⌜ r ≡ record { receive = receive; send = send } ⌝ }
 {
     Ends {

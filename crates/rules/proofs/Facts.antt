@@ -9,10 +9,12 @@ use lib.ListN.{length, take, drop, length-take, length-drop}
 use lib.Seq.{sets}
 use lib.Dec.{T, eqb, leb}
 use Rattle.rules.specs.Tests.{unless}
-use Rattle.rules.specs.Numbers.{singleKind, firstKind, consecutiveKind, flowKind, goStatus, waitStatus, overflowStatus, consecutiveMost}
+use Rattle.rules.specs.Numbers.{singleKind, firstKind, consecutiveKind, flowKind, goStatus, waitStatus, overflowStatus, consecutiveMost, N-WRONG-SN}
 use Rattle.rules.specs.Frames.{kind, low, singleFits, announced, firstFits, consecutiveFits, flowFits, share}
 use Rattle.rules.specs.Arrivals.{Heard, ignored, singleCame, aboveArea, turnedAway, begun, firstCame, missing, piece, completed, took, wrongSn, awaitedCame, consecutiveCame, Told, granted, byStatus, flowIgnored, flowCame, Came, heardBy, toldBy, byKind, frameCame}
-use Rattle.rules.specs.Turns.{newBlock, afterFlow}
+use Rattle.rules.specs.Parties.{scheduler, reporting}
+use Rattle.rules.specs.Ticks.{codesOf}
+use Rattle.rules.specs.Turns.{newBlock, flowDue, afterFlow, HandedOver, handOver}
 use Rattle.rules.specs.Nodes.{berthAt, withRx, withTx, Held}
 use Rattle.rules.specs.Stores.{areaOf, cameAt}
 use Rattle.rules.specs.Events.{Call, frame, senderOf}
@@ -229,6 +231,41 @@ wait-leaves-sn o t party d o′ t′ party′ =
 -- and on the side that gives it
 pub go-leaves-sn : (p : Taking) (t : ℕ) (p′ : Taking) (t′ : ℕ) → afterFlow (Rx.OwesGo p t) ≡ Rx.Awaits p′ t′ → p′ .sn ≡ p .sn
 go-leaves-sn p t p′ t′ e = let g : newBlock p ≡ p′ = cc in ap (λ (x : Taking). x .sn) (sym g)
+
+-- ---- a party where nothing is reported of a send side
+
+-- NO REPORT, NO PARTY: in the answer to a tick and to a turn the party is 0 where the send code is,
+pub tick-unnamed : (b : Berth) → codesOf b .send ≡ 0 → codesOf b .party ≡ scheduler
+unfolding codesOf reporting
+tick-unnamed b e = rw e
+
+pub turn-unnamed : (b : Berth) (area : List ℕ) → handOver b area .code ≡ 0 → handOver b area .party ≡ scheduler
+unfolding handOver reporting
+turn-unnamed b area = pick-either (λ (g : HandedOver). g .code ≡ 0 → g .party ≡ scheduler) (flowDue (b .rx)) _ _ (λ t e. refl) (λ t e. rw e)
+
+-- and with Failed 5, which is the receive side's
+pub frame-unnamed : (s : Settings) (b : Berth) (d : List ℕ) (party : Party) → frameCame s b d .word ≡ Failed N-WRONG-SN party → party ≡ scheduler
+unfolding heardBy toldBy ignored singleCame firstCame turnedAway begun completed took wrongSn flowIgnored byStatus
+frame-unnamed s b d party =
+    let K : Heard → Type 0 = λ h. h .word ≡ Failed N-WRONG-SN party → party ≡ scheduler in
+    frame-either (λ (c : Came). c .word ≡ Failed N-WRONG-SN party → party ≡ scheduler) s b d (λ why e. clash (cc))
+    (pick-either K (singleFits d) _ _ (λ t e. clash (cc)) (λ t e. clash (cc)))
+    (pick-either K (firstFits d) _ _ (λ t. pick-either K (aboveArea s (announced d)) _ _ (λ u e. clash (cc)) (λ u e. clash (cc))) (λ t e. clash (cc)))
+    (consecutive-either K (b .settings .block) (b .rx) (b .last) d (λ why e. clash (cc)) (λ p e. clash (cc)) (λ p e. clash (cc)) (λ e. cc))
+    (told (b .tx))
+  where
+    told : (tx : Tx) → flowCame tx d .word ≡ Failed N-WRONG-SN party → party ≡ scheduler
+    told Tx.Idle = λ e. clash (cc)
+    told (Tx.SingleDue own n t) = λ e. clash (cc)
+    told (Tx.FirstDue own n t) = λ e. clash (cc)
+    told (Tx.AwaitsFlow own o t) =
+        let K : Told → Type 0 = λ x. x .word ≡ Failed N-WRONG-SN party → party ≡ scheduler in
+        pick-either K (flowFits d) _ _
+        (λ u. pick-either K (eqb (low d) goStatus) _ _ (λ v e. clash (cc))
+        (λ v. pick-either K (eqb (low d) waitStatus) _ _ (λ w e. clash (cc))
+        (λ w. pick-either K (eqb (low d) overflowStatus) _ _ (λ x e. clash (cc)) (λ x e. clash (cc)))))
+        (λ u e. clash (cc))
+    told (Tx.Consecutive own o t) = λ e. clash (cc)
 
 -- ---- refusals
 

@@ -7,7 +7,7 @@ use denote.Ref.{now}
 use Rattle.rules.specs.Numbers.{frameSize}
 use Rattle.rules.specs.Ranges.{TxRange}
 use Rattle.rules.specs.Stores.{areaOf}
-use Rattle.berth.specs.declared.turns.Report.{Report}
+use Rattle.berth.specs.declared.reports.Report.{Report}
 use Rattle.sides.proofs.Turning.{Ready, ready, message-due, message-range, message-hands}
 use borrow.Author.Needs.{needs}
 use Rattle.sides.proofs.message_handed.Statement.{statement}

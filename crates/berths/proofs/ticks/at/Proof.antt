@@ -46,9 +46,9 @@ use Rattle.berths.proofs.OneTick.{both}
 use Rattle.rules.specs.Ticks.{ticked}
 use Rattle.rules.specs.Nodes.{withBerth}
 use Rattle.berths.specs.Ticks.{endsOf}
-use Rattle.berths.specs.declared.ticks.SendEnd.{SendEnd}
-use Rattle.berths.proofs.ticks.SendEnd as Se
-use Rattle.berths.proofs.ticks.SendEnd.Laws as Se′
+use Rattle.berth.specs.declared.reports.Report.{Report}
+use Rattle.berth.proofs.reports.Report as Rp
+use Rattle.berth.proofs.reports.Report.Laws as Rp′
 use Rattle.berths.specs.declared.ticks.Ends.{Ends}
 use Rattle.berths.proofs.ticks.Ends as Ed
 use Rattle.berths.proofs.ticks.Ends.Laws as Ed′
@@ -69,8 +69,8 @@ use Rattle.berths.proofs.ticks.at as self
 use Rattle.berths.proofs.ticks.at.Statement as stated
 use Rattle.berths.proofs.ticks.at.Code as code
 
-abbrev F·Se : Flat
-F·Se = struct Se.the-type Se′.the-laws Se′.the-plain
+abbrev F·Rp : Flat
+F·Rp = struct Rp.the-type Rp′.the-laws Rp′.the-plain
 
 abbrev F·Ed : Flat
 F·Ed = struct Ed.the-type Ed′.the-laws Ed′.the-plain
@@ -114,8 +114,8 @@ module _ {M : Type 1} (𝓤 : URA M) (H : Heap 𝓤) (A : Atoms 𝓤) (W : Given
   goes-c2 : (α : ℕ) (δ : GName) (h : Node) (a₀ : ℕ) (a₀-is : Is usize a₀ ((uint w64) .val a₀ ∷ [])) → a₀ < berthCount → ent 𝓤 (⋆ 𝓤 H A (‵ (flft (α ∷ []) fullShare) ∷ ‵ (MutRef (named 0) (α ∷ []) T.the-row .own (record { ptr = (b, o); name = δ; now = h }) (vptr b o ∷ [])) ∷ [])) (C2 𝓤 H A at-mem run .pre (((α ∷ [], tt), (fullShare, tt), tt, ((record { ptr = (b, o); name = δ; now = h }), (a₀, tt)), (vptr b o ∷ [], ((uint w64) .val a₀ ∷ [], tt))), tt))
   goes-c2 α δ h a₀ a₀-is rq = qed W (‵ (flft (α ∷ []) fullShare) ∷ ‵ (MutRef (named 0) (α ∷ []) T.the-row .own (record { ptr = (b, o); name = δ; now = h }) (vptr b o ∷ [])) ∷ []) ∵ says ! rq $ nothing ! $ had ! (uint w64) a₀ a₀-is $ fjoin ! $ move ! (2 ∷ 0 ∷ []) $ fjoin ! $ nothing ! $ move ! (2 ∷ 0 ∷ []) $ join ! $ join ! $ done !
 
-  goes-c3 : (a₀ : ℕ) (a₁ : SendEnd) (a₀-is : Is u8 a₀ ((uint w8) .val a₀ ∷ [])) (a₁-is : Is (F·Se .row) a₁ (F·Se .val a₁ ∷ [])) → ent 𝓤 (emp 𝓤) (C3 𝓤 H A at-mem run .pre ((tt, tt, tt, (a₀, (a₁, tt)), ((uint w8) .val a₀ ∷ [], (F·Se .val a₁ ∷ [], tt))), tt))
-  goes-c3 a₀ a₁ a₀-is a₁-is = qed W [] ∵ nothing ! $ had ! F·Se a₁ a₁-is $ fjoin ! $ had ! (uint w8) a₀ a₀-is $ fjoin ! $ nothing ! $ join ! $ nothing ! $ move ! (1 ∷ 0 ∷ []) $ join ! $ done !
+  goes-c3 : (a₀ : ℕ) (a₁ : Report) (a₀-is : Is u8 a₀ ((uint w8) .val a₀ ∷ [])) (a₁-is : Is (F·Rp .row) a₁ (F·Rp .val a₁ ∷ [])) → ent 𝓤 (emp 𝓤) (C3 𝓤 H A at-mem run .pre ((tt, tt, tt, (a₀, (a₁, tt)), ((uint w8) .val a₀ ∷ [], (F·Rp .val a₁ ∷ [], tt))), tt))
+  goes-c3 a₀ a₁ a₀-is a₁-is = qed W [] ∵ nothing ! $ had ! F·Rp a₁ a₁-is $ fjoin ! $ had ! (uint w8) a₀ a₀-is $ fjoin ! $ nothing ! $ join ! $ nothing ! $ move ! (1 ∷ 0 ∷ []) $ join ! $ done !
 
   module _ (𝓣 : Tables 𝓤 H) (fm : FmC 𝓤 H (W .laws) (𝓣 .C)) (known-c1 : Triple 𝓤 (𝓣 .C #c1) (C1 𝓤 H A at-mem run)) (known-c2 : Triple 𝓤 (𝓣 .C #c2) (C2 𝓤 H A at-mem run)) (known-c3 : Triple 𝓤 (𝓣 .C #c3) (C3 𝓤 H A at-mem run)) where
     abbrev C : Calls 𝓤 H
@@ -147,16 +147,16 @@ module _ {M : Type 1} (𝓤 : URA M) (H : Heap 𝓤) (A : Atoms 𝓤) (W : Given
         use1 W (‵ (cellAt fullShare (T.the-row .mir) (FT .val (zs1 .0) ∷ []) b o)) (W .laws .at-raw fullShare T′.mir b o (FT .val (zs1 .0))) $ lent ! tt FT (zs1 .0) b o was1 (λ α2 δ2.
         uses W (‵ (flft (α2 ∷ []) fullShare) ∷ ‵ (MutRef (named 0) (α2 ∷ []) T.the-row .own (record { ptr = (b, o); name = δ2; now = (zs1 .0) }) (vptr b o ∷ [])) ∷ []) (raw (C2 𝓤 H A at-mem run .pre (((α2 ∷ [], tt), (fullShare, tt), tt, ((record { ptr = (b, o); name = δ2; now = (zs1 .0) }), (k, tt)), (vptr b o ∷ [], ((uint w64) .val k ∷ [], tt))), tt))) (goes-c2 α2 δ2 (zs1 .0) k k-is within) $
         calls-at ! fm (C2 𝓤 H A at-mem run) known-c2 (((α2 ∷ [], tt), (fullShare, tt), tt, ((record { ptr = (b, o); name = δ2; now = (zs1 .0) }), (k, tt)), (vptr b o ∷ [], ((uint w64) .val k ∷ [], tt))), tt) (and-then ! (load ! (from ! (stop !)) (look ! 5 refl)) (and-then ! (load ! (from ! (stop !)) (look ! 13 refl)) (no-more !))) (λ v2.
-        use1 W (later (some (λ (r₂ : SendEnd). ((‵ (flft (α2 ∷ []) fullShare) ⊛ ‵ ftrue) ⊛ ‵ ((F·Se .row) .own r₂ (v2 ∷ []))) ⊛ raw (ensured 𝓤 H A c2.ended (c2.clauses 𝓤 H A at-mem run) (α2 ∷ [], tt) ((record { ptr = (b, o); name = δ2; now = (zs1 .0) }), (k, tt)) tt r₂)))) (id⊢ 𝓤 _) $ await ! tt $ pick ! (λ r₂.
+        use1 W (later (some (λ (r₂ : Report). ((‵ (flft (α2 ∷ []) fullShare) ⊛ ‵ ftrue) ⊛ ‵ ((F·Rp .row) .own r₂ (v2 ∷ []))) ⊛ raw (ensured 𝓤 H A c2.ended (c2.clauses 𝓤 H A at-mem run) (α2 ∷ [], tt) ((record { ptr = (b, o); name = δ2; now = (zs1 .0) }), (k, tt)) tt r₂)))) (id⊢ 𝓤 _) $ await ! tt $ pick ! (λ r₂.
         split ! $ move ! (1 ∷ []) $ use1 W (some (λ (zs2 : Lasts c2.ended (α2 ∷ [], tt) ((record { ptr = (b, o); name = δ2; now = (zs1 .0) }), (k, tt))). ‵ (lasts c2.ended (α2 ∷ [], tt) ((record { ptr = (b, o); name = δ2; now = (zs1 .0) }), (k, tt)) zs2) ⊛ raw (fact 𝓤 (SendTicked (zs1 .0) k r₂ (zs2 .0))))) (id⊢ 𝓤 _) $ pick ! (λ zs2.
         split ! $ move ! (1 ∷ []) $ heard ! (SendTicked (zs1 .0) k r₂ (zs2 .0)) (λ e₂.
         fsplit ! $ move ! (1 ∷ []) $ fsplit ! $ drop ! $ drop ! $
-        move ! (1 ∷ []) $ split ! $ move ! (1 ∷ []) $ returned ! F·Se r₂ v2 (λ r₂-is.
-        land ! (from ! (stop !)) (init ! 10 refl (F·Se .lawful 𝓤 H A W .typed r₂ _ r₂-is .0)) $
+        move ! (1 ∷ []) $ split ! $ move ! (1 ∷ []) $ returned ! F·Rp r₂ v2 (λ r₂-is.
+        land ! (from ! (stop !)) (init ! 10 refl (F·Rp .lawful 𝓤 H A W .typed r₂ _ r₂-is .0)) $
         split ! $ move ! (1 ∷ []) $ drop ! $
         move ! (0 ∷ 2 ∷ 1 ∷ []) $ back ! tt FT (zs2 .0) b o (λ was2. use1 W (‵ (fat fullShare T′.mir b o (FT .val (zs2 .0)))) (W .laws .raw-at fullShare T′.mir b o (FT .val (zs2 .0))) $
-        use0 W (raw (C3 𝓤 H A at-mem run .pre ((tt, tt, tt, (r₁, (r₂, tt)), ((uint w8) .val r₁ ∷ [], (F·Se .val r₂ ∷ [], tt))), tt))) (goes-c3 r₁ r₂ r₁-is r₂-is) $
-        calls-at ! fm (C3 𝓤 H A at-mem run) known-c3 ((tt, tt, tt, (r₁, (r₂, tt)), ((uint w8) .val r₁ ∷ [], (F·Se .val r₂ ∷ [], tt))), tt) (and-then ! (load ! (from ! (stop !)) (look ! 11 refl)) (and-then ! (load ! (from ! (stop !)) (look ! 9 refl)) (no-more !))) (λ v3.
+        use0 W (raw (C3 𝓤 H A at-mem run .pre ((tt, tt, tt, (r₁, (r₂, tt)), ((uint w8) .val r₁ ∷ [], (F·Rp .val r₂ ∷ [], tt))), tt))) (goes-c3 r₁ r₂ r₁-is r₂-is) $
+        calls-at ! fm (C3 𝓤 H A at-mem run) known-c3 ((tt, tt, tt, (r₁, (r₂, tt)), ((uint w8) .val r₁ ∷ [], (F·Rp .val r₂ ∷ [], tt))), tt) (and-then ! (load ! (from ! (stop !)) (look ! 11 refl)) (and-then ! (load ! (from ! (stop !)) (look ! 9 refl)) (no-more !))) (λ v3.
         use1 W (later (some (λ (r : Ends). ((‵ ftrue) ⊛ ‵ ((F·Ed .row) .own r (v3 ∷ []))) ⊛ raw (ensured 𝓤 H A c3.ended (c3.clauses 𝓤 H A at-mem run) tt (r₁, (r₂, tt)) tt r)))) (id⊢ 𝓤 _) $ await ! tt $ pick ! (λ r.
         split ! $ move ! (1 ∷ []) $ use1 W (raw (fact 𝓤 (r ≡ record { receive = r₁; send = r₂ }))) (exE 𝓤 _ (λ ws. snd∗ 𝓤 (sem 𝓤 H A (lasts c3.ended tt (r₁, (r₂, tt)) ws)) (fact 𝓤 (r ≡ record { receive = r₁; send = r₂ })))) $ heard ! (r ≡ record { receive = r₁; send = r₂ }) (λ e. split ! $ move ! (1 ∷ []) $ returned ! F·Ed r v3 (λ is.
         land ! (from ! (stop !)) (init ! 17 refl (F·Ed .lawful 𝓤 H A W .typed r _ is .0)) $

@@ -57,29 +57,30 @@ use Rattle.looks.proofs.Sides.{FX, see-parts}
 use Rattle.looks.proofs.Puts.{put-tx, put-tx-is, put-tx·berth}
 use Rattle.rules.specs.Ticks.{closer, txTicked}
 use Rattle.rules.specs.declared.Sending.{Sending}
-use Rattle.berths.specs.Ticks.{SendTicked, goesOn}
-use Rattle.berths.proofs.OneTick.{goes-on, ends-by, sends, gap-code, gap-falls, gap-over, some-left, runs-on, runs-out, next-fits}
+use Rattle.berths.specs.Ticks.{SendTicked}
+use Rattle.rules.specs.Parties.{scheduler}
+use Rattle.berths.proofs.OneTick.{reports-nothing, reports-own, sends, gap-code, gap-falls, gap-over, some-left, runs-on, runs-out, next-fits}
 use Rattle.rules.specs.declared.Sending.{Sending}
 use Rattle.rules.proofs.Sending as D
 use Rattle.rules.proofs.Sending.Laws as D′
 use Rattle.rules.specs.declared.Party.{Party}
 use Rattle.rules.proofs.Party as P
 use Rattle.rules.proofs.Party.Laws as P′
-use Rattle.berths.specs.declared.ticks.SendEnd.{SendEnd}
-use Rattle.berths.proofs.ticks.SendEnd as Se
-use Rattle.berths.proofs.ticks.SendEnd.Laws as Se′
+use Rattle.berth.specs.declared.reports.Report.{Report}
+use Rattle.berth.proofs.reports.Report as Rp
+use Rattle.berth.proofs.reports.Report.Laws as Rp′
 use Rattle.berths.proofs.ticks.closer as c1
 use Rattle.berths.proofs.ticks.closer.Symbol as c1-def
 use Rattle.berths.proofs.ticks.closer.Symbol.{name as #c1}
 use Rattle.berths.proofs.ticks.closer.Met as c1-thm
-use Rattle.berths.proofs.ticks.goes_on as c2
-use Rattle.berths.proofs.ticks.goes_on.Symbol as c2-def
-use Rattle.berths.proofs.ticks.goes_on.Symbol.{name as #c2}
-use Rattle.berths.proofs.ticks.goes_on.Met as c2-thm
-use Rattle.berths.proofs.ticks.ends_with as c3
-use Rattle.berths.proofs.ticks.ends_with.Symbol as c3-def
-use Rattle.berths.proofs.ticks.ends_with.Symbol.{name as #c3}
-use Rattle.berths.proofs.ticks.ends_with.Met as c3-thm
+use Rattle.berth.proofs.reports.nothing as c2
+use Rattle.berth.proofs.reports.nothing.Symbol as c2-def
+use Rattle.berth.proofs.reports.nothing.Symbol.{name as #c2}
+use Rattle.berth.proofs.reports.nothing.Met as c2-thm
+use Rattle.berth.proofs.reports.of as c3
+use Rattle.berth.proofs.reports.of.Symbol as c3-def
+use Rattle.berth.proofs.reports.of.Symbol.{name as #c3}
+use Rattle.berth.proofs.reports.of.Met as c3-thm
 use Rattle.berths.proofs.ticks.consecutive.Key.{name as #self}
 use Rattle.berths.proofs.ticks.consecutive as self
 use Rattle.berths.proofs.ticks.consecutive.Statement as stated
@@ -92,8 +93,8 @@ F·D = struct D.the-type D′.the-laws D′.the-plain
 abbrev F·P : Flat
 F·P = struct P.the-type P′.the-laws P′.the-plain
 
-abbrev F·Se : Flat
-F·Se = struct Se.the-type Se′.the-laws Se′.the-plain
+abbrev F·Rp : Flat
+F·Rp = struct Rp.the-type Rp′.the-laws Rp′.the-plain
 
 abbrev stayed : Stays (self.ended .signature .params) (self.ended .kept)
 stayed = (stay-ref (0 ∷ []) tt (plain (λ _. T.the-row)), (stay-none (λ _. usize) yes, (stay-none (λ _. (F·P .row)) yes, (stay-none (λ _. (F·D .row)) yes, (stay-none (λ _. u16) yes, tt)))))
@@ -117,16 +118,16 @@ module _ {M : Type 1} (𝓤 : URA M) (H : Heap 𝓤) (A : Atoms 𝓤) (W : Given
   abbrev Post : Val → SProp 𝓤
   Post = walkOf 𝓤 H A self.ended stayed (self.clauses 𝓤 H A at-mem run) .post (((κ, tt), (q, tt), tt, x, at), tt)
 
-  abbrev Ensured : SendEnd → Node → Type 0
+  abbrev Ensured : Report → Node → Type 0
   Ensured r h′ = SendTicked h k r h′
 
   abbrev Left : Node → List (Item 𝓤)
   Left h′ = ‵ (fobs γ (T.the-row .coded .code h′)) ∷ ‵ (fbor κ (Body (mem T.the-row) b o γ)) ∷ ‵ (flft κ q) ∷ []
 
-  exits : (r : SendEnd) (h′ : Node) → Ensured r h′ → Is (F·Se .row) r (F·Se .val r ∷ []) → ent 𝓤 (⋆ 𝓤 H A (Left h′)) (Post (F·Se .val r))
+  exits : (r : Report) (h′ : Node) → Ensured r h′ → Is (F·Rp .row) r (F·Rp .val r ∷ []) → ent 𝓤 (⋆ 𝓤 H A (Left h′)) (Post (F·Rp .val r))
   exits r h′ e is =
-      qed W (Left h′) ∵ suffices ! _ (ends-at 𝓤 H A self.ended stayed (self.clauses 𝓤 H A at-mem run) W (((κ, tt), (q, tt), tt, x, at), tt) (F·Se .val r) r (h′, (tt, (tt, (tt, (tt, tt))))) (tt, (tt, (tt, (tt, (tt, tt)))))) $ says ! e $
-      nothing ! $ move ! (3 ∷ 0 ∷ []) $ join ! $ frame ! $ feqI ! (List Val) (vptr b o ∷ []) (vptr b o ∷ []) refl $ fjoin3 ! $ nothing ! $ had ! (uint w16) t t-is $ fjoin ! $ had ! F·D o· o·-is $ fjoin ! $ had ! F·P party party-is $ fjoin ! $ had ! (uint w64) k k-is $ fjoin ! $ move ! (1 ∷ 0 ∷ []) $ fjoin ! $ had ! F·Se r is $ move ! (1 ∷ 0 ∷ []) $ done !
+      qed W (Left h′) ∵ suffices ! _ (ends-at 𝓤 H A self.ended stayed (self.clauses 𝓤 H A at-mem run) W (((κ, tt), (q, tt), tt, x, at), tt) (F·Rp .val r) r (h′, (tt, (tt, (tt, (tt, tt))))) (tt, (tt, (tt, (tt, (tt, tt)))))) $ says ! e $
+      nothing ! $ move ! (3 ∷ 0 ∷ []) $ join ! $ frame ! $ feqI ! (List Val) (vptr b o ∷ []) (vptr b o ∷ []) refl $ fjoin3 ! $ nothing ! $ had ! (uint w16) t t-is $ fjoin ! $ had ! F·D o· o·-is $ fjoin ! $ had ! F·P party party-is $ fjoin ! $ had ! (uint w64) k k-is $ fjoin ! $ move ! (1 ∷ 0 ∷ []) $ fjoin ! $ had ! F·Rp r is $ move ! (1 ∷ 0 ∷ []) $ done !
 
   goes-c1 : (a₀ : Sending) (a₀-is : Is (F·D .row) a₀ (F·D .val a₀ ∷ [])) → 0 < a₀ .left → ent 𝓤 (emp 𝓤) (C1 𝓤 H A at-mem run .pre ((tt, tt, tt, (a₀, tt), (F·D .val a₀ ∷ [], tt)), tt))
   goes-c1 a₀ a₀-is rq = qed W [] ∵ says ! rq $ nothing ! $ had ! F·D a₀ a₀-is $ fjoin ! $ nothing ! $ join ! $ done !
@@ -168,14 +169,14 @@ module _ {M : Type 1} (𝓤 : URA M) (H : Heap 𝓤) (A : Atoms 𝓤) (W : Given
         rewrite ! 0 (λ (ws : List Val). ‵ (fat fullShare T′.mir b o (valWith h (h .served) ws))) (us-set (h .berths) k (put-tx·berth h k (Tx.Consecutive party q· t))) refl $
         use0 W (raw (C2 𝓤 H A at-mem run .pre ((tt, tt, tt, tt, tt), tt))) (goes-c2) $
         calls-at ! fm (C2 𝓤 H A at-mem run) known-c2 ((tt, tt, tt, tt, tt), tt) (no-more !) (λ v2.
-        use1 W (later (some (λ (r· : SendEnd). ((‵ ftrue) ⊛ ‵ ((F·Se .row) .own r· (v2 ∷ []))) ⊛ raw (ensured 𝓤 H A c2.ended (c2.clauses 𝓤 H A at-mem run) tt tt tt r·)))) (id⊢ 𝓤 _) $ await ! tt $ pick ! (λ r·.
-        split ! $ move ! (1 ∷ []) $ use1 W (raw (fact 𝓤 (r· ≡ goesOn))) (exE 𝓤 _ (λ ws. snd∗ 𝓤 (sem 𝓤 H A (lasts c2.ended tt tt ws)) (fact 𝓤 (r· ≡ goesOn)))) $ heard ! (r· ≡ goesOn) (λ e·. split ! $ move ! (1 ∷ []) $ returned ! F·Se r· v2 (λ r-is.
-        land ! (from ! (stop !)) (init ! 45 refl (F·Se .lawful 𝓤 H A W .typed r· _ r-is .0)) $
+        use1 W (later (some (λ (r· : Report). ((‵ ftrue) ⊛ ‵ ((F·Rp .row) .own r· (v2 ∷ []))) ⊛ raw (ensured 𝓤 H A c2.ended (c2.clauses 𝓤 H A at-mem run) tt tt tt r·)))) (id⊢ 𝓤 _) $ await ! tt $ pick ! (λ r·.
+        split ! $ move ! (1 ∷ []) $ use1 W (raw (fact 𝓤 (r· ≡ record { code = 0; party = scheduler }))) (exE 𝓤 _ (λ ws. snd∗ 𝓤 (sem 𝓤 H A (lasts c2.ended tt tt ws)) (fact 𝓤 (r· ≡ record { code = 0; party = scheduler })))) $ heard ! (r· ≡ record { code = 0; party = scheduler }) (λ e·. split ! $ move ! (1 ∷ []) $ returned ! F·Rp r· v2 (λ r-is.
+        land ! (from ! (stop !)) (init ! 45 refl (F·Rp .lawful 𝓤 H A W .typed r· _ r-is .0)) $
         drop ! $
         use1 W (‵ (cellAt fullShare (T.the-row .mir) (FT .val (put-tx h k (Tx.Consecutive party q· t)) ∷ []) b o)) (W .laws .at-raw fullShare T′.mir b o (FT .val (put-tx h k (Tx.Consecutive party q· t)))) $ closed ! tt FT (put-tx h k (Tx.Consecutive party q· t)) b o (put-tx-is h was k (within .0) (Tx.Consecutive party q· t) (EL.owes X.the-type X′.the-laws (Tx.Consecutive party q· t) (party-is, (q-is, (t-is, tt))))) $
         returns-within ! Post refl (look ! 43 refl) $ forget ! 21 refl $ forget ! 23 refl $ forget ! 25 refl $ forget ! 27 refl $ forget ! 29 refl $ forget ! 31 refl $ forget ! 33 refl $ forget ! 35 refl $ forget ! 37 refl $ forget ! 39 refl $ forget ! 41 refl $ forget ! 43 refl $
         move ! (43 ∷ 44 ∷ []) $ free1 ! $ move ! (41 ∷ 42 ∷ []) $ free1 ! $ move ! (39 ∷ 40 ∷ []) $ free1 ! $ move ! (37 ∷ 38 ∷ []) $ free1 ! $ move ! (35 ∷ 36 ∷ []) $ free1 ! $ move ! (33 ∷ 34 ∷ []) $ free1 ! $ move ! (31 ∷ 32 ∷ []) $ free1 ! $ move ! (29 ∷ 30 ∷ []) $ free1 ! $ move ! (27 ∷ 28 ∷ []) $ free1 ! $ move ! (25 ∷ 26 ∷ []) $ free1 ! $ move ! (23 ∷ 24 ∷ []) $ free1 ! $ move ! (21 ∷ 22 ∷ []) $ free1 ! $ move ! (19 ∷ 20 ∷ []) $ free1 ! $ move ! (17 ∷ 18 ∷ []) $ free1 ! $ move ! (15 ∷ 16 ∷ []) $ free1 ! $ move ! (13 ∷ 14 ∷ []) $ free1 ! $ move ! (11 ∷ 12 ∷ []) $ free1 ! $ move ! (9 ∷ 10 ∷ []) $ free1 ! $ move ! (7 ∷ 8 ∷ []) $ free1 ! $ move ! (5 ∷ 6 ∷ []) $ free1 ! $ move ! (3 ∷ 4 ∷ []) $ free1 ! $ free0 ! $
-        keep ! (0 ∷ 1 ∷ 2 ∷ []) $ by ! (exits r· (put-tx h k (Tx.Consecutive party q· t)) (sends h k (ap (λ (y : Berth). y .tx) (sym (at-is h k)) ∙ within .1) (e· ∙ goes-on (Tx.Consecutive party o· t) (gap-code party o· t waits)) (subst (λ (y : Sending). txTicked (Tx.Consecutive party o· t) ≡ Tx.Consecutive party y t) (sym qe) (gap-falls party o· t waits))) r-is))))))))))
+        keep ! (0 ∷ 1 ∷ 2 ∷ []) $ by ! (exits r· (put-tx h k (Tx.Consecutive party q· t)) (sends h k (ap (λ (y : Berth). y .tx) (sym (at-is h k)) ∙ within .1) (e· ∙ reports-nothing (Tx.Consecutive party o· t) (gap-code party o· t waits)) (subst (λ (y : Sending). txTicked (Tx.Consecutive party o· t) ≡ Tx.Consecutive party y t) (sym qe) (gap-falls party o· t waits))) r-is))))))))))
         (λ free.
         skips ! $
         exec ! C Λ (env-of body.locals (l₀ ∷ l₁ ∷ l₂ ∷ l₃ ∷ l₄ ∷ l₅ ∷ l₆ ∷ l₇ ∷ l₈ ∷ l₉ ∷ l₁₀ ∷ l₁₁ ∷ l₁₂ ∷ l₁₃ ∷ l₁₄ ∷ l₁₅ ∷ l₁₆ ∷ l₁₇ ∷ l₁₈ ∷ l₁₉ ∷ l₂₀ ∷ [])) (body.t-3) (atRet (env-of body.locals (l₀ ∷ l₁ ∷ l₂ ∷ l₃ ∷ l₄ ∷ l₅ ∷ l₆ ∷ l₇ ∷ l₈ ∷ l₉ ∷ l₁₀ ∷ l₁₁ ∷ l₁₂ ∷ l₁₃ ∷ l₁₄ ∷ l₁₅ ∷ l₁₆ ∷ l₁₇ ∷ l₁₈ ∷ l₁₉ ∷ l₂₀ ∷ [])) Post) $
@@ -191,14 +192,14 @@ module _ {M : Type 1} (𝓤 : URA M) (H : Heap 𝓤) (A : Atoms 𝓤) (W : Given
         rewrite ! 0 (λ (ws : List Val). ‵ (fat fullShare T′.mir b o (valWith h (h .served) ws))) (us-set (h .berths) k (put-tx·berth h k (Tx.Consecutive party o· (t + 1)))) refl $
         use0 W (raw (C2 𝓤 H A at-mem run .pre ((tt, tt, tt, tt, tt), tt))) (goes-c2) $
         calls-at ! fm (C2 𝓤 H A at-mem run) known-c2 ((tt, tt, tt, tt, tt), tt) (no-more !) (λ v3.
-        use1 W (later (some (λ (r· : SendEnd). ((‵ ftrue) ⊛ ‵ ((F·Se .row) .own r· (v3 ∷ []))) ⊛ raw (ensured 𝓤 H A c2.ended (c2.clauses 𝓤 H A at-mem run) tt tt tt r·)))) (id⊢ 𝓤 _) $ await ! tt $ pick ! (λ r·.
-        split ! $ move ! (1 ∷ []) $ use1 W (raw (fact 𝓤 (r· ≡ goesOn))) (exE 𝓤 _ (λ ws. snd∗ 𝓤 (sem 𝓤 H A (lasts c2.ended tt tt ws)) (fact 𝓤 (r· ≡ goesOn)))) $ heard ! (r· ≡ goesOn) (λ e·. split ! $ move ! (1 ∷ []) $ returned ! F·Se r· v3 (λ r-is.
-        land ! (from ! (stop !)) (init ! 45 refl (F·Se .lawful 𝓤 H A W .typed r· _ r-is .0)) $
+        use1 W (later (some (λ (r· : Report). ((‵ ftrue) ⊛ ‵ ((F·Rp .row) .own r· (v3 ∷ []))) ⊛ raw (ensured 𝓤 H A c2.ended (c2.clauses 𝓤 H A at-mem run) tt tt tt r·)))) (id⊢ 𝓤 _) $ await ! tt $ pick ! (λ r·.
+        split ! $ move ! (1 ∷ []) $ use1 W (raw (fact 𝓤 (r· ≡ record { code = 0; party = scheduler }))) (exE 𝓤 _ (λ ws. snd∗ 𝓤 (sem 𝓤 H A (lasts c2.ended tt tt ws)) (fact 𝓤 (r· ≡ record { code = 0; party = scheduler })))) $ heard ! (r· ≡ record { code = 0; party = scheduler }) (λ e·. split ! $ move ! (1 ∷ []) $ returned ! F·Rp r· v3 (λ r-is.
+        land ! (from ! (stop !)) (init ! 45 refl (F·Rp .lawful 𝓤 H A W .typed r· _ r-is .0)) $
         drop ! $
         use1 W (‵ (cellAt fullShare (T.the-row .mir) (FT .val (put-tx h k (Tx.Consecutive party o· (t + 1))) ∷ []) b o)) (W .laws .at-raw fullShare T′.mir b o (FT .val (put-tx h k (Tx.Consecutive party o· (t + 1))))) $ closed ! tt FT (put-tx h k (Tx.Consecutive party o· (t + 1))) b o (put-tx-is h was k (within .0) (Tx.Consecutive party o· (t + 1)) (EL.owes X.the-type X′.the-laws (Tx.Consecutive party o· (t + 1)) (party-is, (o·-is, ((refl, next-fits t less), tt))))) $
         returns-within ! Post refl (look ! 43 refl) $ forget ! 11 refl $ forget ! 13 refl $ forget ! 15 refl $ forget ! 17 refl $ forget ! 19 refl $ forget ! 31 refl $ forget ! 33 refl $ forget ! 35 refl $ forget ! 37 refl $ forget ! 39 refl $ forget ! 41 refl $ forget ! 43 refl $
         move ! (43 ∷ 44 ∷ []) $ free1 ! $ move ! (41 ∷ 42 ∷ []) $ free1 ! $ move ! (39 ∷ 40 ∷ []) $ free1 ! $ move ! (37 ∷ 38 ∷ []) $ free1 ! $ move ! (35 ∷ 36 ∷ []) $ free1 ! $ move ! (33 ∷ 34 ∷ []) $ free1 ! $ move ! (31 ∷ 32 ∷ []) $ free1 ! $ move ! (29 ∷ 30 ∷ []) $ free1 ! $ move ! (27 ∷ 28 ∷ []) $ free1 ! $ move ! (25 ∷ 26 ∷ []) $ free1 ! $ move ! (23 ∷ 24 ∷ []) $ free1 ! $ move ! (21 ∷ 22 ∷ []) $ free1 ! $ move ! (19 ∷ 20 ∷ []) $ free1 ! $ move ! (17 ∷ 18 ∷ []) $ free1 ! $ move ! (15 ∷ 16 ∷ []) $ free1 ! $ move ! (13 ∷ 14 ∷ []) $ free1 ! $ move ! (11 ∷ 12 ∷ []) $ free1 ! $ move ! (9 ∷ 10 ∷ []) $ free1 ! $ move ! (7 ∷ 8 ∷ []) $ free1 ! $ move ! (5 ∷ 6 ∷ []) $ free1 ! $ move ! (3 ∷ 4 ∷ []) $ free1 ! $ free0 ! $
-        keep ! (0 ∷ 1 ∷ 2 ∷ []) $ by ! (exits r· (put-tx h k (Tx.Consecutive party o· (t + 1))) (sends h k (ap (λ (y : Berth). y .tx) (sym (at-is h k)) ∙ within .1) (e· ∙ goes-on (Tx.Consecutive party o· t) ((gap-over party o· t free (runs-on t (λ u. 0) 2 less) (runs-on t (λ u. Tx.Consecutive party o· u) Tx.Idle less)) .0)) ((gap-over party o· t free (runs-on t (λ u. 0) 2 less) (runs-on t (λ u. Tx.Consecutive party o· u) Tx.Idle less)) .1)) r-is))))))
+        keep ! (0 ∷ 1 ∷ 2 ∷ []) $ by ! (exits r· (put-tx h k (Tx.Consecutive party o· (t + 1))) (sends h k (ap (λ (y : Berth). y .tx) (sym (at-is h k)) ∙ within .1) (e· ∙ reports-nothing (Tx.Consecutive party o· t) ((gap-over party o· t free (runs-on t (λ u. 0) 2 less) (runs-on t (λ u. Tx.Consecutive party o· u) Tx.Idle less)) .0)) ((gap-over party o· t free (runs-on t (λ u. 0) 2 less) (runs-on t (λ u. Tx.Consecutive party o· u) Tx.Idle less)) .1)) r-is))))))
         (λ over.
         skips ! $
         exec ! C Λ (env-of body.locals (l₀ ∷ l₁ ∷ l₂ ∷ l₃ ∷ l₄ ∷ l₅ ∷ l₆ ∷ l₇ ∷ l₈ ∷ l₉ ∷ l₁₀ ∷ l₁₁ ∷ l₁₂ ∷ l₁₃ ∷ l₁₄ ∷ l₁₅ ∷ l₁₆ ∷ l₁₇ ∷ l₁₈ ∷ l₁₉ ∷ l₂₀ ∷ [])) (body.t-5) (atRet (env-of body.locals (l₀ ∷ l₁ ∷ l₂ ∷ l₃ ∷ l₄ ∷ l₅ ∷ l₆ ∷ l₇ ∷ l₈ ∷ l₉ ∷ l₁₀ ∷ l₁₁ ∷ l₁₂ ∷ l₁₃ ∷ l₁₄ ∷ l₁₅ ∷ l₁₆ ∷ l₁₇ ∷ l₁₈ ∷ l₁₉ ∷ l₂₀ ∷ [])) Post) $
@@ -210,14 +211,14 @@ module _ {M : Type 1} (𝓤 : URA M) (H : Heap 𝓤) (A : Atoms 𝓤) (W : Given
         rewrite ! 0 (λ (ws : List Val). ‵ (fat fullShare T′.mir b o (valWith h (h .served) ws))) (us-set (h .berths) k (put-tx·berth h k Tx.Idle)) refl $
         use0 W (raw (C3 𝓤 H A at-mem run .pre ((tt, tt, tt, (2, (party, tt)), ((uint w8) .val 2 ∷ [], (F·P .val party ∷ [], tt))), tt))) (goes-c3 2 party (refl, lit< tt) party-is) $
         calls-at ! fm (C3 𝓤 H A at-mem run) known-c3 ((tt, tt, tt, (2, (party, tt)), ((uint w8) .val 2 ∷ [], (F·P .val party ∷ [], tt))), tt) (and-then ! (lit ! tt) (and-then ! (load ! (from ! (stop !)) (look ! 39 refl)) (no-more !))) (λ v4.
-        use1 W (later (some (λ (r· : SendEnd). ((‵ ftrue) ⊛ ‵ ((F·Se .row) .own r· (v4 ∷ []))) ⊛ raw (ensured 𝓤 H A c3.ended (c3.clauses 𝓤 H A at-mem run) tt (2, (party, tt)) tt r·)))) (id⊢ 𝓤 _) $ await ! tt $ pick ! (λ r·.
-        split ! $ move ! (1 ∷ []) $ use1 W (raw (fact 𝓤 (r· ≡ record { code = 2; party = party }))) (exE 𝓤 _ (λ ws. snd∗ 𝓤 (sem 𝓤 H A (lasts c3.ended tt (2, (party, tt)) ws)) (fact 𝓤 (r· ≡ record { code = 2; party = party })))) $ heard ! (r· ≡ record { code = 2; party = party }) (λ e·. split ! $ move ! (1 ∷ []) $ returned ! F·Se r· v4 (λ r-is.
-        land ! (from ! (stop !)) (init ! 45 refl (F·Se .lawful 𝓤 H A W .typed r· _ r-is .0)) $
+        use1 W (later (some (λ (r· : Report). ((‵ ftrue) ⊛ ‵ ((F·Rp .row) .own r· (v4 ∷ []))) ⊛ raw (ensured 𝓤 H A c3.ended (c3.clauses 𝓤 H A at-mem run) tt (2, (party, tt)) tt r·)))) (id⊢ 𝓤 _) $ await ! tt $ pick ! (λ r·.
+        split ! $ move ! (1 ∷ []) $ use1 W (raw (fact 𝓤 (r· ≡ record { code = 2; party = party }))) (exE 𝓤 _ (λ ws. snd∗ 𝓤 (sem 𝓤 H A (lasts c3.ended tt (2, (party, tt)) ws)) (fact 𝓤 (r· ≡ record { code = 2; party = party })))) $ heard ! (r· ≡ record { code = 2; party = party }) (λ e·. split ! $ move ! (1 ∷ []) $ returned ! F·Rp r· v4 (λ r-is.
+        land ! (from ! (stop !)) (init ! 45 refl (F·Rp .lawful 𝓤 H A W .typed r· _ r-is .0)) $
         drop ! $
         use1 W (‵ (cellAt fullShare (T.the-row .mir) (FT .val (put-tx h k Tx.Idle) ∷ []) b o)) (W .laws .at-raw fullShare T′.mir b o (FT .val (put-tx h k Tx.Idle))) $ closed ! tt FT (put-tx h k Tx.Idle) b o (put-tx-is h was k (within .0) Tx.Idle (EL.owes X.the-type X′.the-laws Tx.Idle tt)) $
         returns ! (look ! 43 refl) $ forget ! 3 refl $ forget ! 5 refl $ forget ! 7 refl $ forget ! 9 refl $ forget ! 31 refl $ forget ! 33 refl $ forget ! 35 refl $ forget ! 37 refl $ forget ! 39 refl $ forget ! 41 refl $ forget ! 43 refl $
         move ! (43 ∷ 44 ∷ []) $ free1 ! $ move ! (41 ∷ 42 ∷ []) $ free1 ! $ move ! (39 ∷ 40 ∷ []) $ free1 ! $ move ! (37 ∷ 38 ∷ []) $ free1 ! $ move ! (35 ∷ 36 ∷ []) $ free1 ! $ move ! (33 ∷ 34 ∷ []) $ free1 ! $ move ! (31 ∷ 32 ∷ []) $ free1 ! $ move ! (29 ∷ 30 ∷ []) $ free1 ! $ move ! (27 ∷ 28 ∷ []) $ free1 ! $ move ! (25 ∷ 26 ∷ []) $ free1 ! $ move ! (23 ∷ 24 ∷ []) $ free1 ! $ move ! (21 ∷ 22 ∷ []) $ free1 ! $ move ! (19 ∷ 20 ∷ []) $ free1 ! $ move ! (17 ∷ 18 ∷ []) $ free1 ! $ move ! (15 ∷ 16 ∷ []) $ free1 ! $ move ! (13 ∷ 14 ∷ []) $ free1 ! $ move ! (11 ∷ 12 ∷ []) $ free1 ! $ move ! (9 ∷ 10 ∷ []) $ free1 ! $ move ! (7 ∷ 8 ∷ []) $ free1 ! $ move ! (5 ∷ 6 ∷ []) $ free1 ! $ move ! (3 ∷ 4 ∷ []) $ free1 ! $ free0 ! $
-        keep ! (0 ∷ 1 ∷ 2 ∷ []) $ by ! (exits r· (put-tx h k Tx.Idle) (sends h k (ap (λ (y : Berth). y .tx) (sym (at-is h k)) ∙ within .1) (e· ∙ ends-by (Tx.Consecutive party o· t) ((gap-over party o· t free (runs-out t (λ u. 0) 2 over) (runs-out t (λ u. Tx.Consecutive party o· u) Tx.Idle over)) .0) refl) ((gap-over party o· t free (runs-out t (λ u. 0) 2 over) (runs-out t (λ u. Tx.Consecutive party o· u) Tx.Idle over)) .1)) r-is)))))))))))))))))))))))))))))
+        keep ! (0 ∷ 1 ∷ 2 ∷ []) $ by ! (exits r· (put-tx h k Tx.Idle) (sends h k (ap (λ (y : Berth). y .tx) (sym (at-is h k)) ∙ within .1) (e· ∙ reports-own (Tx.Consecutive party o· t) ((gap-over party o· t free (runs-out t (λ u. 0) 2 over) (runs-out t (λ u. Tx.Consecutive party o· u) Tx.Idle over)) .0) refl) ((gap-over party o· t free (runs-out t (λ u. 0) 2 over) (runs-out t (λ u. Tx.Consecutive party o· u) Tx.Idle over)) .1)) r-is)))))))))))))))))))))))))))))
 
 module _ {M : Type 1} (𝓤 : URA M) (H : Heap 𝓤) (A : Atoms 𝓤) (W : Given 𝓤 H A) (at-mem : Memory → SProp 𝓤) (run : Routine → Fun 𝓤) where
   walks : (𝓣 : Tables 𝓤 H) → FmC 𝓤 H (W .laws) (𝓣 .C) → Triple 𝓤 (𝓣 .C #c1) (C1 𝓤 H A at-mem run) → Triple 𝓤 (𝓣 .C #c2) (C2 𝓤 H A at-mem run) → Triple 𝓤 (𝓣 .C #c3) (C3 𝓤 H A at-mem run) → Walks 𝓤 H A self.ended stayed (WpFn 𝓤 H (𝓣 .C) (𝓣 .Λ) code.function) (self.clauses 𝓤 H A at-mem run)
@@ -235,5 +236,5 @@ consecutive-spec 𝓤 H 𝓜 𝓖 𝓡 =
     (tables 𝓤 H 𝓜 𝓡 code.env .C) (tables 𝓤 H 𝓜 𝓡 code.env .Λ) #self code.function (code.unfolded 𝓤 H 𝓜 𝓡)
     (meets 𝓤 H (𝓖 .A) (givenOf 𝓤 H 𝓜 𝓖) (𝓜 .mem) (𝓡 .run) (tablesOf 𝓤 H 𝓜 (tables 𝓤 H 𝓜 𝓡 code.env))
     (cited 𝓤 H (C1 𝓤 H (𝓖 .A) (𝓜 .mem) (𝓡 .run)) 𝓜 𝓡 code.env #c1 c1-def.routine code.calls-berths·ticks·closer (c1-thm.met 𝓤 H 𝓜 𝓖 𝓡))
-    (cited 𝓤 H (C2 𝓤 H (𝓖 .A) (𝓜 .mem) (𝓡 .run)) 𝓜 𝓡 code.env #c2 c2-def.routine code.calls-berths·ticks·goes-on (c2-thm.met 𝓤 H 𝓜 𝓖 𝓡))
-    (cited 𝓤 H (C3 𝓤 H (𝓖 .A) (𝓜 .mem) (𝓡 .run)) 𝓜 𝓡 code.env #c3 c3-def.routine code.calls-berths·ticks·ends-with (c3-thm.met 𝓤 H 𝓜 𝓖 𝓡)))
+    (cited 𝓤 H (C2 𝓤 H (𝓖 .A) (𝓜 .mem) (𝓡 .run)) 𝓜 𝓡 code.env #c2 c2-def.routine code.calls-berth·reports·nothing (c2-thm.met 𝓤 H 𝓜 𝓖 𝓡))
+    (cited 𝓤 H (C3 𝓤 H (𝓖 .A) (𝓜 .mem) (𝓡 .run)) 𝓜 𝓡 code.env #c3 c3-def.routine code.calls-berth·reports·of (c3-thm.met 𝓤 H 𝓜 𝓖 𝓡)))

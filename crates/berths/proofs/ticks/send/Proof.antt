@@ -54,7 +54,8 @@ use Rattle.looks.proofs.Item.{item}
 use Rattle.looks.proofs.Ten.{FT, FB, us, us-at, us-length, us-within, at-is, berth-is, bytes-fit}
 use Rattle.rules.specs.declared.Sending.{Sending}
 use Rattle.looks.proofs.Variants.{see-tx, tx-seen, tx-as, as-tx-Idle, as-tx-SingleDue, as-tx-FirstDue, as-tx-AwaitsFlow, as-tx-Consecutive}
-use Rattle.berths.specs.Ticks.{SendTicked, goesOn}
+use Rattle.berths.specs.Ticks.{SendTicked}
+use Rattle.rules.specs.Parties.{scheduler}
 use Rattle.berths.proofs.OneTick.{sends-nothing}
 use Rattle.rules.specs.declared.Sending.{Sending}
 use Rattle.rules.proofs.Sending as D
@@ -62,9 +63,9 @@ use Rattle.rules.proofs.Sending.Laws as D′
 use Rattle.rules.specs.declared.Party.{Party}
 use Rattle.rules.proofs.Party as P
 use Rattle.rules.proofs.Party.Laws as P′
-use Rattle.berths.specs.declared.ticks.SendEnd.{SendEnd}
-use Rattle.berths.proofs.ticks.SendEnd as Se
-use Rattle.berths.proofs.ticks.SendEnd.Laws as Se′
+use Rattle.berth.specs.declared.reports.Report.{Report}
+use Rattle.berth.proofs.reports.Report as Rp
+use Rattle.berth.proofs.reports.Report.Laws as Rp′
 use Rattle.berths.proofs.ticks.single_due as c1
 use Rattle.berths.proofs.ticks.single_due.Symbol as c1-def
 use Rattle.berths.proofs.ticks.single_due.Symbol.{name as #c1}
@@ -81,10 +82,10 @@ use Rattle.berths.proofs.ticks.consecutive as c4
 use Rattle.berths.proofs.ticks.consecutive.Symbol as c4-def
 use Rattle.berths.proofs.ticks.consecutive.Symbol.{name as #c4}
 use Rattle.berths.proofs.ticks.consecutive.Met as c4-thm
-use Rattle.berths.proofs.ticks.goes_on as c5
-use Rattle.berths.proofs.ticks.goes_on.Symbol as c5-def
-use Rattle.berths.proofs.ticks.goes_on.Symbol.{name as #c5}
-use Rattle.berths.proofs.ticks.goes_on.Met as c5-thm
+use Rattle.berth.proofs.reports.nothing as c5
+use Rattle.berth.proofs.reports.nothing.Symbol as c5-def
+use Rattle.berth.proofs.reports.nothing.Symbol.{name as #c5}
+use Rattle.berth.proofs.reports.nothing.Met as c5-thm
 use Rattle.berths.proofs.ticks.send.Key.{name as #self}
 use Rattle.berths.proofs.ticks.send as self
 use Rattle.berths.proofs.ticks.send.Statement as stated
@@ -96,8 +97,8 @@ F·D = struct D.the-type D′.the-laws D′.the-plain
 abbrev F·P : Flat
 F·P = struct P.the-type P′.the-laws P′.the-plain
 
-abbrev F·Se : Flat
-F·Se = struct Se.the-type Se′.the-laws Se′.the-plain
+abbrev F·Rp : Flat
+F·Rp = struct Rp.the-type Rp′.the-laws Rp′.the-plain
 
 abbrev stayed : Stays (self.ended .signature .params) (self.ended .kept)
 stayed = (stay-ref (0 ∷ []) tt (plain (λ _. T.the-row)), (stay-none (λ _. usize) yes, tt))
@@ -127,16 +128,16 @@ module _ {M : Type 1} (𝓤 : URA M) (H : Heap 𝓤) (A : Atoms 𝓤) (W : Given
   abbrev Post : Val → SProp 𝓤
   Post = walkOf 𝓤 H A self.ended stayed (self.clauses 𝓤 H A at-mem run) .post (((κ, tt), (q, tt), tt, x, at), tt)
 
-  abbrev Ensured : SendEnd → Node → Type 0
+  abbrev Ensured : Report → Node → Type 0
   Ensured r h′ = SendTicked h k r h′
 
   abbrev Left : Node → List (Item 𝓤)
   Left h′ = ‵ (fobs γ (T.the-row .coded .code h′)) ∷ ‵ (fbor κ (Body (mem T.the-row) b o γ)) ∷ ‵ (flft κ q) ∷ []
 
-  exits : (r : SendEnd) (h′ : Node) → Ensured r h′ → Is (F·Se .row) r (F·Se .val r ∷ []) → ent 𝓤 (⋆ 𝓤 H A (Left h′)) (Post (F·Se .val r))
+  exits : (r : Report) (h′ : Node) → Ensured r h′ → Is (F·Rp .row) r (F·Rp .val r ∷ []) → ent 𝓤 (⋆ 𝓤 H A (Left h′)) (Post (F·Rp .val r))
   exits r h′ e is =
-      qed W (Left h′) ∵ suffices ! _ (ends-at 𝓤 H A self.ended stayed (self.clauses 𝓤 H A at-mem run) W (((κ, tt), (q, tt), tt, x, at), tt) (F·Se .val r) r (h′, (tt, tt)) (tt, (tt, tt))) $ says ! e $
-      nothing ! $ move ! (3 ∷ 0 ∷ []) $ join ! $ frame ! $ feqI ! (List Val) (vptr b o ∷ []) (vptr b o ∷ []) refl $ fjoin3 ! $ nothing ! $ had ! (uint w64) k k-is $ fjoin ! $ move ! (1 ∷ 0 ∷ []) $ fjoin ! $ had ! F·Se r is $ move ! (1 ∷ 0 ∷ []) $ done !
+      qed W (Left h′) ∵ suffices ! _ (ends-at 𝓤 H A self.ended stayed (self.clauses 𝓤 H A at-mem run) W (((κ, tt), (q, tt), tt, x, at), tt) (F·Rp .val r) r (h′, (tt, tt)) (tt, (tt, tt))) $ says ! e $
+      nothing ! $ move ! (3 ∷ 0 ∷ []) $ join ! $ frame ! $ feqI ! (List Val) (vptr b o ∷ []) (vptr b o ∷ []) refl $ fjoin3 ! $ nothing ! $ had ! (uint w64) k k-is $ fjoin ! $ move ! (1 ∷ 0 ∷ []) $ fjoin ! $ had ! F·Rp r is $ move ! (1 ∷ 0 ∷ []) $ done !
 
   goes-c1 : (α : ℕ) (δ : GName) (h : Node) (a₀ : ℕ) (a₁ : Party) (a₂ : ℕ) (a₃ : ℕ) (a₀-is : Is usize a₀ ((uint w64) .val a₀ ∷ [])) (a₁-is : Is (F·P .row) a₁ (F·P .val a₁ ∷ [])) (a₂-is : Is u32 a₂ ((uint w32) .val a₂ ∷ [])) (a₃-is : Is u16 a₃ ((uint w16) .val a₃ ∷ [])) → (a₀ < berthCount) × (berthAt h a₀ .tx ≡ Tx.SingleDue a₁ a₂ a₃) → ent 𝓤 (⋆ 𝓤 H A (‵ (flft (α ∷ []) fullShare) ∷ ‵ (MutRef (named 0) (α ∷ []) T.the-row .own (record { ptr = (b, o); name = δ; now = h }) (vptr b o ∷ [])) ∷ [])) (C1 𝓤 H A at-mem run .pre (((α ∷ [], tt), (fullShare, tt), tt, ((record { ptr = (b, o); name = δ; now = h }), (a₀, (a₁, (a₂, (a₃, tt))))), (vptr b o ∷ [], ((uint w64) .val a₀ ∷ [], (F·P .val a₁ ∷ [], ((uint w32) .val a₂ ∷ [], ((uint w16) .val a₃ ∷ [], tt)))))), tt))
   goes-c1 α δ h a₀ a₁ a₂ a₃ a₀-is a₁-is a₂-is a₃-is rq = qed W (‵ (flft (α ∷ []) fullShare) ∷ ‵ (MutRef (named 0) (α ∷ []) T.the-row .own (record { ptr = (b, o); name = δ; now = h }) (vptr b o ∷ [])) ∷ []) ∵ says ! rq $ nothing ! $ had ! (uint w16) a₃ a₃-is $ fjoin ! $ had ! (uint w32) a₂ a₂-is $ fjoin ! $ had ! F·P a₁ a₁-is $ fjoin ! $ had ! (uint w64) a₀ a₀-is $ fjoin ! $ move ! (2 ∷ 0 ∷ []) $ fjoin ! $ nothing ! $ move ! (2 ∷ 0 ∷ []) $ join ! $ join ! $ done !
@@ -174,9 +175,9 @@ module _ {M : Type 1} (𝓤 : URA M) (H : Heap 𝓤) (A : Atoms 𝓤) (W : Given
           (λ tag.
               use0 W (raw (C5 𝓤 H A at-mem run .pre ((tt, tt, tt, tt, tt), tt))) (goes-c5) $
               calls-at ! fm (C5 𝓤 H A at-mem run) known-c5 ((tt, tt, tt, tt, tt), tt) (no-more !) (λ v1.
-              use1 W (later (some (λ (r· : SendEnd). ((‵ ftrue) ⊛ ‵ ((F·Se .row) .own r· (v1 ∷ []))) ⊛ raw (ensured 𝓤 H A c5.ended (c5.clauses 𝓤 H A at-mem run) tt tt tt r·)))) (id⊢ 𝓤 _) $ await ! tt $ pick ! (λ r·.
-              split ! $ move ! (1 ∷ []) $ use1 W (raw (fact 𝓤 (r· ≡ goesOn))) (exE 𝓤 _ (λ ws. snd∗ 𝓤 (sem 𝓤 H A (lasts c5.ended tt tt ws)) (fact 𝓤 (r· ≡ goesOn)))) $ heard ! (r· ≡ goesOn) (λ e·. split ! $ move ! (1 ∷ []) $ returned ! F·Se r· v1 (λ r-is.
-              land ! (from ! (stop !)) (init ! 47 refl (F·Se .lawful 𝓤 H A W .typed r· _ r-is .0)) $
+              use1 W (later (some (λ (r· : Report). ((‵ ftrue) ⊛ ‵ ((F·Rp .row) .own r· (v1 ∷ []))) ⊛ raw (ensured 𝓤 H A c5.ended (c5.clauses 𝓤 H A at-mem run) tt tt tt r·)))) (id⊢ 𝓤 _) $ await ! tt $ pick ! (λ r·.
+              split ! $ move ! (1 ∷ []) $ use1 W (raw (fact 𝓤 (r· ≡ record { code = 0; party = scheduler }))) (exE 𝓤 _ (λ ws. snd∗ 𝓤 (sem 𝓤 H A (lasts c5.ended tt tt ws)) (fact 𝓤 (r· ≡ record { code = 0; party = scheduler })))) $ heard ! (r· ≡ record { code = 0; party = scheduler }) (λ e·. split ! $ move ! (1 ∷ []) $ returned ! F·Rp r· v1 (λ r-is.
+              land ! (from ! (stop !)) (init ! 47 refl (F·Rp .lawful 𝓤 H A W .typed r· _ r-is .0)) $
               drop ! $
               use1 W (‵ (cellAt fullShare (T.the-row .mir) (FT .val h ∷ []) b o)) (W .laws .at-raw fullShare T′.mir b o (FT .val h)) $ closed ! tt FT h b o was $
               returns-within ! Post refl (look ! 45 refl) $ forget ! 11 refl $ forget ! 13 refl $ forget ! 15 refl $ forget ! 41 refl $ forget ! 43 refl $ forget ! 45 refl $
@@ -191,12 +192,12 @@ module _ {M : Type 1} (𝓤 : URA M) (H : Heap 𝓤) (A : Atoms 𝓤) (W : Given
                 use1 W (‵ (cellAt fullShare (T.the-row .mir) (FT .val h ∷ []) b o)) (W .laws .at-raw fullShare T′.mir b o (FT .val h)) $ lent ! tt FT h b o was (λ α2 δ2.
                 uses W (‵ (flft (α2 ∷ []) fullShare) ∷ ‵ (MutRef (named 0) (α2 ∷ []) T.the-row .own (record { ptr = (b, o); name = δ2; now = h }) (vptr b o ∷ [])) ∷ []) (raw (C1 𝓤 H A at-mem run .pre (((α2 ∷ [], tt), (fullShare, tt), tt, ((record { ptr = (b, o); name = δ2; now = h }), (k, (((as-tx-SingleDue ((getD (h .berths) k fresh) .tx) tag) .0), (((as-tx-SingleDue ((getD (h .berths) k fresh) .tx) tag) .1 .0), (((as-tx-SingleDue ((getD (h .berths) k fresh) .tx) tag) .1 .1 .0), tt))))), (vptr b o ∷ [], ((uint w64) .val k ∷ [], (F·P .val ((as-tx-SingleDue ((getD (h .berths) k fresh) .tx) tag) .0) ∷ [], ((uint w32) .val ((as-tx-SingleDue ((getD (h .berths) k fresh) .tx) tag) .1 .0) ∷ [], ((uint w16) .val ((as-tx-SingleDue ((getD (h .berths) k fresh) .tx) tag) .1 .1 .0) ∷ [], tt)))))), tt))) (goes-c1 α2 δ2 h k ((as-tx-SingleDue ((getD (h .berths) k fresh) .tx) tag) .0) ((as-tx-SingleDue ((getD (h .berths) k fresh) .tx) tag) .1 .0) ((as-tx-SingleDue ((getD (h .berths) k fresh) .tx) tag) .1 .1 .0) k-is ((EL.owed X.the-type X′.the-laws (Tx.SingleDue ((as-tx-SingleDue ((getD (h .berths) k fresh) .tx) tag) .0) ((as-tx-SingleDue ((getD (h .berths) k fresh) .tx) tag) .1 .0) ((as-tx-SingleDue ((getD (h .berths) k fresh) .tx) tag) .1 .1 .0)) _ (tx-as (getD (h .berths) k fresh) (berth-is h was k within) ((as-tx-SingleDue ((getD (h .berths) k fresh) .tx) tag) .1 .1 .1))) .0) ((EL.owed X.the-type X′.the-laws (Tx.SingleDue ((as-tx-SingleDue ((getD (h .berths) k fresh) .tx) tag) .0) ((as-tx-SingleDue ((getD (h .berths) k fresh) .tx) tag) .1 .0) ((as-tx-SingleDue ((getD (h .berths) k fresh) .tx) tag) .1 .1 .0)) _ (tx-as (getD (h .berths) k fresh) (berth-is h was k within) ((as-tx-SingleDue ((getD (h .berths) k fresh) .tx) tag) .1 .1 .1))) .1 .0) ((EL.owed X.the-type X′.the-laws (Tx.SingleDue ((as-tx-SingleDue ((getD (h .berths) k fresh) .tx) tag) .0) ((as-tx-SingleDue ((getD (h .berths) k fresh) .tx) tag) .1 .0) ((as-tx-SingleDue ((getD (h .berths) k fresh) .tx) tag) .1 .1 .0)) _ (tx-as (getD (h .berths) k fresh) (berth-is h was k within) ((as-tx-SingleDue ((getD (h .berths) k fresh) .tx) tag) .1 .1 .1))) .1 .1 .0) (within, ap (λ (y : Berth). y .tx) (at-is h k) ∙ ((as-tx-SingleDue ((getD (h .berths) k fresh) .tx) tag) .1 .1 .1))) $
                 calls-at ! fm (C1 𝓤 H A at-mem run) known-c1 (((α2 ∷ [], tt), (fullShare, tt), tt, ((record { ptr = (b, o); name = δ2; now = h }), (k, (((as-tx-SingleDue ((getD (h .berths) k fresh) .tx) tag) .0), (((as-tx-SingleDue ((getD (h .berths) k fresh) .tx) tag) .1 .0), (((as-tx-SingleDue ((getD (h .berths) k fresh) .tx) tag) .1 .1 .0), tt))))), (vptr b o ∷ [], ((uint w64) .val k ∷ [], (F·P .val ((as-tx-SingleDue ((getD (h .berths) k fresh) .tx) tag) .0) ∷ [], ((uint w32) .val ((as-tx-SingleDue ((getD (h .berths) k fresh) .tx) tag) .1 .0) ∷ [], ((uint w16) .val ((as-tx-SingleDue ((getD (h .berths) k fresh) .tx) tag) .1 .1 .0) ∷ [], tt)))))), tt) (and-then ! (load ! (from ! (stop !)) (look ! 11 refl)) (and-then ! (load ! (from ! (stop !)) (look ! 43 refl)) (and-then ! (load ! (from ! (stop !)) (look ! 41 refl)) (and-then ! (load ! (from ! (stop !)) (look ! 39 refl)) (and-then ! (load ! (from ! (stop !)) (look ! 37 refl)) (no-more !)))))) (λ v2.
-                use1 W (later (some (λ (r· : SendEnd). ((‵ (flft (α2 ∷ []) fullShare) ⊛ ‵ ftrue) ⊛ ‵ ((F·Se .row) .own r· (v2 ∷ []))) ⊛ raw (ensured 𝓤 H A c1.ended (c1.clauses 𝓤 H A at-mem run) (α2 ∷ [], tt) ((record { ptr = (b, o); name = δ2; now = h }), (k, (((as-tx-SingleDue ((getD (h .berths) k fresh) .tx) tag) .0), (((as-tx-SingleDue ((getD (h .berths) k fresh) .tx) tag) .1 .0), (((as-tx-SingleDue ((getD (h .berths) k fresh) .tx) tag) .1 .1 .0), tt))))) tt r·)))) (id⊢ 𝓤 _) $ await ! tt $ pick ! (λ r·.
+                use1 W (later (some (λ (r· : Report). ((‵ (flft (α2 ∷ []) fullShare) ⊛ ‵ ftrue) ⊛ ‵ ((F·Rp .row) .own r· (v2 ∷ []))) ⊛ raw (ensured 𝓤 H A c1.ended (c1.clauses 𝓤 H A at-mem run) (α2 ∷ [], tt) ((record { ptr = (b, o); name = δ2; now = h }), (k, (((as-tx-SingleDue ((getD (h .berths) k fresh) .tx) tag) .0), (((as-tx-SingleDue ((getD (h .berths) k fresh) .tx) tag) .1 .0), (((as-tx-SingleDue ((getD (h .berths) k fresh) .tx) tag) .1 .1 .0), tt))))) tt r·)))) (id⊢ 𝓤 _) $ await ! tt $ pick ! (λ r·.
                 split ! $ move ! (1 ∷ []) $ use1 W (some (λ (zs2 : Lasts c1.ended (α2 ∷ [], tt) ((record { ptr = (b, o); name = δ2; now = h }), (k, (((as-tx-SingleDue ((getD (h .berths) k fresh) .tx) tag) .0), (((as-tx-SingleDue ((getD (h .berths) k fresh) .tx) tag) .1 .0), (((as-tx-SingleDue ((getD (h .berths) k fresh) .tx) tag) .1 .1 .0), tt)))))). ‵ (lasts c1.ended (α2 ∷ [], tt) ((record { ptr = (b, o); name = δ2; now = h }), (k, (((as-tx-SingleDue ((getD (h .berths) k fresh) .tx) tag) .0), (((as-tx-SingleDue ((getD (h .berths) k fresh) .tx) tag) .1 .0), (((as-tx-SingleDue ((getD (h .berths) k fresh) .tx) tag) .1 .1 .0), tt))))) zs2) ⊛ raw (fact 𝓤 (SendTicked h k r· (zs2 .0))))) (id⊢ 𝓤 _) $ pick ! (λ zs2.
                 split ! $ move ! (1 ∷ []) $ heard ! (SendTicked h k r· (zs2 .0)) (λ e·.
                 fsplit ! $ move ! (1 ∷ []) $ fsplit ! $ drop ! $ fsplit ! $ drop ! $ fsplit ! $ drop ! $ fsplit ! $ drop ! $ drop ! $
-                move ! (1 ∷ []) $ split ! $ move ! (1 ∷ []) $ returned ! F·Se r· v2 (λ r-is.
-                land ! (from ! (stop !)) (init ! 48 refl (F·Se .lawful 𝓤 H A W .typed r· _ r-is .0)) $
+                move ! (1 ∷ []) $ split ! $ move ! (1 ∷ []) $ returned ! F·Rp r· v2 (λ r-is.
+                land ! (from ! (stop !)) (init ! 48 refl (F·Rp .lawful 𝓤 H A W .typed r· _ r-is .0)) $
                 split ! $ move ! (1 ∷ []) $ drop ! $
                 move ! (0 ∷ 2 ∷ 1 ∷ []) $ back ! tt FT (zs2 .0) b o (λ was2. use1 W (‵ (fat fullShare T′.mir b o (FT .val (zs2 .0)))) (W .laws .raw-at fullShare T′.mir b o (FT .val (zs2 .0))) $
                 use1 W (‵ (cellAt fullShare (T.the-row .mir) (FT .val (zs2 .0) ∷ []) b o)) (W .laws .at-raw fullShare T′.mir b o (FT .val (zs2 .0))) $ closed ! tt FT (zs2 .0) b o was2 $
@@ -212,12 +213,12 @@ module _ {M : Type 1} (𝓤 : URA M) (H : Heap 𝓤) (A : Atoms 𝓤) (W : Given
                   use1 W (‵ (cellAt fullShare (T.the-row .mir) (FT .val h ∷ []) b o)) (W .laws .at-raw fullShare T′.mir b o (FT .val h)) $ lent ! tt FT h b o was (λ α3 δ3.
                   uses W (‵ (flft (α3 ∷ []) fullShare) ∷ ‵ (MutRef (named 0) (α3 ∷ []) T.the-row .own (record { ptr = (b, o); name = δ3; now = h }) (vptr b o ∷ [])) ∷ []) (raw (C2 𝓤 H A at-mem run .pre (((α3 ∷ [], tt), (fullShare, tt), tt, ((record { ptr = (b, o); name = δ3; now = h }), (k, (((as-tx-FirstDue ((getD (h .berths) k fresh) .tx) tag) .0), (((as-tx-FirstDue ((getD (h .berths) k fresh) .tx) tag) .1 .0), (((as-tx-FirstDue ((getD (h .berths) k fresh) .tx) tag) .1 .1 .0), tt))))), (vptr b o ∷ [], ((uint w64) .val k ∷ [], (F·P .val ((as-tx-FirstDue ((getD (h .berths) k fresh) .tx) tag) .0) ∷ [], ((uint w32) .val ((as-tx-FirstDue ((getD (h .berths) k fresh) .tx) tag) .1 .0) ∷ [], ((uint w16) .val ((as-tx-FirstDue ((getD (h .berths) k fresh) .tx) tag) .1 .1 .0) ∷ [], tt)))))), tt))) (goes-c2 α3 δ3 h k ((as-tx-FirstDue ((getD (h .berths) k fresh) .tx) tag) .0) ((as-tx-FirstDue ((getD (h .berths) k fresh) .tx) tag) .1 .0) ((as-tx-FirstDue ((getD (h .berths) k fresh) .tx) tag) .1 .1 .0) k-is ((EL.owed X.the-type X′.the-laws (Tx.FirstDue ((as-tx-FirstDue ((getD (h .berths) k fresh) .tx) tag) .0) ((as-tx-FirstDue ((getD (h .berths) k fresh) .tx) tag) .1 .0) ((as-tx-FirstDue ((getD (h .berths) k fresh) .tx) tag) .1 .1 .0)) _ (tx-as (getD (h .berths) k fresh) (berth-is h was k within) ((as-tx-FirstDue ((getD (h .berths) k fresh) .tx) tag) .1 .1 .1))) .0) ((EL.owed X.the-type X′.the-laws (Tx.FirstDue ((as-tx-FirstDue ((getD (h .berths) k fresh) .tx) tag) .0) ((as-tx-FirstDue ((getD (h .berths) k fresh) .tx) tag) .1 .0) ((as-tx-FirstDue ((getD (h .berths) k fresh) .tx) tag) .1 .1 .0)) _ (tx-as (getD (h .berths) k fresh) (berth-is h was k within) ((as-tx-FirstDue ((getD (h .berths) k fresh) .tx) tag) .1 .1 .1))) .1 .0) ((EL.owed X.the-type X′.the-laws (Tx.FirstDue ((as-tx-FirstDue ((getD (h .berths) k fresh) .tx) tag) .0) ((as-tx-FirstDue ((getD (h .berths) k fresh) .tx) tag) .1 .0) ((as-tx-FirstDue ((getD (h .berths) k fresh) .tx) tag) .1 .1 .0)) _ (tx-as (getD (h .berths) k fresh) (berth-is h was k within) ((as-tx-FirstDue ((getD (h .berths) k fresh) .tx) tag) .1 .1 .1))) .1 .1 .0) (within, ap (λ (y : Berth). y .tx) (at-is h k) ∙ ((as-tx-FirstDue ((getD (h .berths) k fresh) .tx) tag) .1 .1 .1))) $
                   calls-at ! fm (C2 𝓤 H A at-mem run) known-c2 (((α3 ∷ [], tt), (fullShare, tt), tt, ((record { ptr = (b, o); name = δ3; now = h }), (k, (((as-tx-FirstDue ((getD (h .berths) k fresh) .tx) tag) .0), (((as-tx-FirstDue ((getD (h .berths) k fresh) .tx) tag) .1 .0), (((as-tx-FirstDue ((getD (h .berths) k fresh) .tx) tag) .1 .1 .0), tt))))), (vptr b o ∷ [], ((uint w64) .val k ∷ [], (F·P .val ((as-tx-FirstDue ((getD (h .berths) k fresh) .tx) tag) .0) ∷ [], ((uint w32) .val ((as-tx-FirstDue ((getD (h .berths) k fresh) .tx) tag) .1 .0) ∷ [], ((uint w16) .val ((as-tx-FirstDue ((getD (h .berths) k fresh) .tx) tag) .1 .1 .0) ∷ [], tt)))))), tt) (and-then ! (load ! (from ! (stop !)) (look ! 9 refl)) (and-then ! (load ! (from ! (stop !)) (look ! 43 refl)) (and-then ! (load ! (from ! (stop !)) (look ! 35 refl)) (and-then ! (load ! (from ! (stop !)) (look ! 33 refl)) (and-then ! (load ! (from ! (stop !)) (look ! 31 refl)) (no-more !)))))) (λ v3.
-                  use1 W (later (some (λ (r· : SendEnd). ((‵ (flft (α3 ∷ []) fullShare) ⊛ ‵ ftrue) ⊛ ‵ ((F·Se .row) .own r· (v3 ∷ []))) ⊛ raw (ensured 𝓤 H A c2.ended (c2.clauses 𝓤 H A at-mem run) (α3 ∷ [], tt) ((record { ptr = (b, o); name = δ3; now = h }), (k, (((as-tx-FirstDue ((getD (h .berths) k fresh) .tx) tag) .0), (((as-tx-FirstDue ((getD (h .berths) k fresh) .tx) tag) .1 .0), (((as-tx-FirstDue ((getD (h .berths) k fresh) .tx) tag) .1 .1 .0), tt))))) tt r·)))) (id⊢ 𝓤 _) $ await ! tt $ pick ! (λ r·.
+                  use1 W (later (some (λ (r· : Report). ((‵ (flft (α3 ∷ []) fullShare) ⊛ ‵ ftrue) ⊛ ‵ ((F·Rp .row) .own r· (v3 ∷ []))) ⊛ raw (ensured 𝓤 H A c2.ended (c2.clauses 𝓤 H A at-mem run) (α3 ∷ [], tt) ((record { ptr = (b, o); name = δ3; now = h }), (k, (((as-tx-FirstDue ((getD (h .berths) k fresh) .tx) tag) .0), (((as-tx-FirstDue ((getD (h .berths) k fresh) .tx) tag) .1 .0), (((as-tx-FirstDue ((getD (h .berths) k fresh) .tx) tag) .1 .1 .0), tt))))) tt r·)))) (id⊢ 𝓤 _) $ await ! tt $ pick ! (λ r·.
                   split ! $ move ! (1 ∷ []) $ use1 W (some (λ (zs3 : Lasts c2.ended (α3 ∷ [], tt) ((record { ptr = (b, o); name = δ3; now = h }), (k, (((as-tx-FirstDue ((getD (h .berths) k fresh) .tx) tag) .0), (((as-tx-FirstDue ((getD (h .berths) k fresh) .tx) tag) .1 .0), (((as-tx-FirstDue ((getD (h .berths) k fresh) .tx) tag) .1 .1 .0), tt)))))). ‵ (lasts c2.ended (α3 ∷ [], tt) ((record { ptr = (b, o); name = δ3; now = h }), (k, (((as-tx-FirstDue ((getD (h .berths) k fresh) .tx) tag) .0), (((as-tx-FirstDue ((getD (h .berths) k fresh) .tx) tag) .1 .0), (((as-tx-FirstDue ((getD (h .berths) k fresh) .tx) tag) .1 .1 .0), tt))))) zs3) ⊛ raw (fact 𝓤 (SendTicked h k r· (zs3 .0))))) (id⊢ 𝓤 _) $ pick ! (λ zs3.
                   split ! $ move ! (1 ∷ []) $ heard ! (SendTicked h k r· (zs3 .0)) (λ e·.
                   fsplit ! $ move ! (1 ∷ []) $ fsplit ! $ drop ! $ fsplit ! $ drop ! $ fsplit ! $ drop ! $ fsplit ! $ drop ! $ drop ! $
-                  move ! (1 ∷ []) $ split ! $ move ! (1 ∷ []) $ returned ! F·Se r· v3 (λ r-is.
-                  land ! (from ! (stop !)) (init ! 48 refl (F·Se .lawful 𝓤 H A W .typed r· _ r-is .0)) $
+                  move ! (1 ∷ []) $ split ! $ move ! (1 ∷ []) $ returned ! F·Rp r· v3 (λ r-is.
+                  land ! (from ! (stop !)) (init ! 48 refl (F·Rp .lawful 𝓤 H A W .typed r· _ r-is .0)) $
                   split ! $ move ! (1 ∷ []) $ drop ! $
                   move ! (0 ∷ 2 ∷ 1 ∷ []) $ back ! tt FT (zs3 .0) b o (λ was3. use1 W (‵ (fat fullShare T′.mir b o (FT .val (zs3 .0)))) (W .laws .raw-at fullShare T′.mir b o (FT .val (zs3 .0))) $
                   use1 W (‵ (cellAt fullShare (T.the-row .mir) (FT .val (zs3 .0) ∷ []) b o)) (W .laws .at-raw fullShare T′.mir b o (FT .val (zs3 .0))) $ closed ! tt FT (zs3 .0) b o was3 $
@@ -233,12 +234,12 @@ module _ {M : Type 1} (𝓤 : URA M) (H : Heap 𝓤) (A : Atoms 𝓤) (W : Given
                     use1 W (‵ (cellAt fullShare (T.the-row .mir) (FT .val h ∷ []) b o)) (W .laws .at-raw fullShare T′.mir b o (FT .val h)) $ lent ! tt FT h b o was (λ α4 δ4.
                     uses W (‵ (flft (α4 ∷ []) fullShare) ∷ ‵ (MutRef (named 0) (α4 ∷ []) T.the-row .own (record { ptr = (b, o); name = δ4; now = h }) (vptr b o ∷ [])) ∷ []) (raw (C3 𝓤 H A at-mem run .pre (((α4 ∷ [], tt), (fullShare, tt), tt, ((record { ptr = (b, o); name = δ4; now = h }), (k, (((as-tx-AwaitsFlow ((getD (h .berths) k fresh) .tx) tag) .0), (((as-tx-AwaitsFlow ((getD (h .berths) k fresh) .tx) tag) .1 .0), (((as-tx-AwaitsFlow ((getD (h .berths) k fresh) .tx) tag) .1 .1 .0), tt))))), (vptr b o ∷ [], ((uint w64) .val k ∷ [], (F·P .val ((as-tx-AwaitsFlow ((getD (h .berths) k fresh) .tx) tag) .0) ∷ [], (F·D .val ((as-tx-AwaitsFlow ((getD (h .berths) k fresh) .tx) tag) .1 .0) ∷ [], ((uint w16) .val ((as-tx-AwaitsFlow ((getD (h .berths) k fresh) .tx) tag) .1 .1 .0) ∷ [], tt)))))), tt))) (goes-c3 α4 δ4 h k ((as-tx-AwaitsFlow ((getD (h .berths) k fresh) .tx) tag) .0) ((as-tx-AwaitsFlow ((getD (h .berths) k fresh) .tx) tag) .1 .0) ((as-tx-AwaitsFlow ((getD (h .berths) k fresh) .tx) tag) .1 .1 .0) k-is ((EL.owed X.the-type X′.the-laws (Tx.AwaitsFlow ((as-tx-AwaitsFlow ((getD (h .berths) k fresh) .tx) tag) .0) ((as-tx-AwaitsFlow ((getD (h .berths) k fresh) .tx) tag) .1 .0) ((as-tx-AwaitsFlow ((getD (h .berths) k fresh) .tx) tag) .1 .1 .0)) _ (tx-as (getD (h .berths) k fresh) (berth-is h was k within) ((as-tx-AwaitsFlow ((getD (h .berths) k fresh) .tx) tag) .1 .1 .1))) .0) ((EL.owed X.the-type X′.the-laws (Tx.AwaitsFlow ((as-tx-AwaitsFlow ((getD (h .berths) k fresh) .tx) tag) .0) ((as-tx-AwaitsFlow ((getD (h .berths) k fresh) .tx) tag) .1 .0) ((as-tx-AwaitsFlow ((getD (h .berths) k fresh) .tx) tag) .1 .1 .0)) _ (tx-as (getD (h .berths) k fresh) (berth-is h was k within) ((as-tx-AwaitsFlow ((getD (h .berths) k fresh) .tx) tag) .1 .1 .1))) .1 .0) ((EL.owed X.the-type X′.the-laws (Tx.AwaitsFlow ((as-tx-AwaitsFlow ((getD (h .berths) k fresh) .tx) tag) .0) ((as-tx-AwaitsFlow ((getD (h .berths) k fresh) .tx) tag) .1 .0) ((as-tx-AwaitsFlow ((getD (h .berths) k fresh) .tx) tag) .1 .1 .0)) _ (tx-as (getD (h .berths) k fresh) (berth-is h was k within) ((as-tx-AwaitsFlow ((getD (h .berths) k fresh) .tx) tag) .1 .1 .1))) .1 .1 .0) (within, ap (λ (y : Berth). y .tx) (at-is h k) ∙ ((as-tx-AwaitsFlow ((getD (h .berths) k fresh) .tx) tag) .1 .1 .1))) $
                     calls-at ! fm (C3 𝓤 H A at-mem run) known-c3 (((α4 ∷ [], tt), (fullShare, tt), tt, ((record { ptr = (b, o); name = δ4; now = h }), (k, (((as-tx-AwaitsFlow ((getD (h .berths) k fresh) .tx) tag) .0), (((as-tx-AwaitsFlow ((getD (h .berths) k fresh) .tx) tag) .1 .0), (((as-tx-AwaitsFlow ((getD (h .berths) k fresh) .tx) tag) .1 .1 .0), tt))))), (vptr b o ∷ [], ((uint w64) .val k ∷ [], (F·P .val ((as-tx-AwaitsFlow ((getD (h .berths) k fresh) .tx) tag) .0) ∷ [], (F·D .val ((as-tx-AwaitsFlow ((getD (h .berths) k fresh) .tx) tag) .1 .0) ∷ [], ((uint w16) .val ((as-tx-AwaitsFlow ((getD (h .berths) k fresh) .tx) tag) .1 .1 .0) ∷ [], tt)))))), tt) (and-then ! (load ! (from ! (stop !)) (look ! 7 refl)) (and-then ! (load ! (from ! (stop !)) (look ! 43 refl)) (and-then ! (load ! (from ! (stop !)) (look ! 29 refl)) (and-then ! (load ! (from ! (stop !)) (look ! 27 refl)) (and-then ! (load ! (from ! (stop !)) (look ! 25 refl)) (no-more !)))))) (λ v4.
-                    use1 W (later (some (λ (r· : SendEnd). ((‵ (flft (α4 ∷ []) fullShare) ⊛ ‵ ftrue) ⊛ ‵ ((F·Se .row) .own r· (v4 ∷ []))) ⊛ raw (ensured 𝓤 H A c3.ended (c3.clauses 𝓤 H A at-mem run) (α4 ∷ [], tt) ((record { ptr = (b, o); name = δ4; now = h }), (k, (((as-tx-AwaitsFlow ((getD (h .berths) k fresh) .tx) tag) .0), (((as-tx-AwaitsFlow ((getD (h .berths) k fresh) .tx) tag) .1 .0), (((as-tx-AwaitsFlow ((getD (h .berths) k fresh) .tx) tag) .1 .1 .0), tt))))) tt r·)))) (id⊢ 𝓤 _) $ await ! tt $ pick ! (λ r·.
+                    use1 W (later (some (λ (r· : Report). ((‵ (flft (α4 ∷ []) fullShare) ⊛ ‵ ftrue) ⊛ ‵ ((F·Rp .row) .own r· (v4 ∷ []))) ⊛ raw (ensured 𝓤 H A c3.ended (c3.clauses 𝓤 H A at-mem run) (α4 ∷ [], tt) ((record { ptr = (b, o); name = δ4; now = h }), (k, (((as-tx-AwaitsFlow ((getD (h .berths) k fresh) .tx) tag) .0), (((as-tx-AwaitsFlow ((getD (h .berths) k fresh) .tx) tag) .1 .0), (((as-tx-AwaitsFlow ((getD (h .berths) k fresh) .tx) tag) .1 .1 .0), tt))))) tt r·)))) (id⊢ 𝓤 _) $ await ! tt $ pick ! (λ r·.
                     split ! $ move ! (1 ∷ []) $ use1 W (some (λ (zs4 : Lasts c3.ended (α4 ∷ [], tt) ((record { ptr = (b, o); name = δ4; now = h }), (k, (((as-tx-AwaitsFlow ((getD (h .berths) k fresh) .tx) tag) .0), (((as-tx-AwaitsFlow ((getD (h .berths) k fresh) .tx) tag) .1 .0), (((as-tx-AwaitsFlow ((getD (h .berths) k fresh) .tx) tag) .1 .1 .0), tt)))))). ‵ (lasts c3.ended (α4 ∷ [], tt) ((record { ptr = (b, o); name = δ4; now = h }), (k, (((as-tx-AwaitsFlow ((getD (h .berths) k fresh) .tx) tag) .0), (((as-tx-AwaitsFlow ((getD (h .berths) k fresh) .tx) tag) .1 .0), (((as-tx-AwaitsFlow ((getD (h .berths) k fresh) .tx) tag) .1 .1 .0), tt))))) zs4) ⊛ raw (fact 𝓤 (SendTicked h k r· (zs4 .0))))) (id⊢ 𝓤 _) $ pick ! (λ zs4.
                     split ! $ move ! (1 ∷ []) $ heard ! (SendTicked h k r· (zs4 .0)) (λ e·.
                     fsplit ! $ move ! (1 ∷ []) $ fsplit ! $ drop ! $ fsplit ! $ drop ! $ fsplit ! $ drop ! $ fsplit ! $ drop ! $ drop ! $
-                    move ! (1 ∷ []) $ split ! $ move ! (1 ∷ []) $ returned ! F·Se r· v4 (λ r-is.
-                    land ! (from ! (stop !)) (init ! 48 refl (F·Se .lawful 𝓤 H A W .typed r· _ r-is .0)) $
+                    move ! (1 ∷ []) $ split ! $ move ! (1 ∷ []) $ returned ! F·Rp r· v4 (λ r-is.
+                    land ! (from ! (stop !)) (init ! 48 refl (F·Rp .lawful 𝓤 H A W .typed r· _ r-is .0)) $
                     split ! $ move ! (1 ∷ []) $ drop ! $
                     move ! (0 ∷ 2 ∷ 1 ∷ []) $ back ! tt FT (zs4 .0) b o (λ was4. use1 W (‵ (fat fullShare T′.mir b o (FT .val (zs4 .0)))) (W .laws .raw-at fullShare T′.mir b o (FT .val (zs4 .0))) $
                     use1 W (‵ (cellAt fullShare (T.the-row .mir) (FT .val (zs4 .0) ∷ []) b o)) (W .laws .at-raw fullShare T′.mir b o (FT .val (zs4 .0))) $ closed ! tt FT (zs4 .0) b o was4 $
@@ -254,12 +255,12 @@ module _ {M : Type 1} (𝓤 : URA M) (H : Heap 𝓤) (A : Atoms 𝓤) (W : Given
                       use1 W (‵ (cellAt fullShare (T.the-row .mir) (FT .val h ∷ []) b o)) (W .laws .at-raw fullShare T′.mir b o (FT .val h)) $ lent ! tt FT h b o was (λ α5 δ5.
                       uses W (‵ (flft (α5 ∷ []) fullShare) ∷ ‵ (MutRef (named 0) (α5 ∷ []) T.the-row .own (record { ptr = (b, o); name = δ5; now = h }) (vptr b o ∷ [])) ∷ []) (raw (C4 𝓤 H A at-mem run .pre (((α5 ∷ [], tt), (fullShare, tt), tt, ((record { ptr = (b, o); name = δ5; now = h }), (k, (((as-tx-Consecutive ((getD (h .berths) k fresh) .tx) tag) .0), (((as-tx-Consecutive ((getD (h .berths) k fresh) .tx) tag) .1 .0), (((as-tx-Consecutive ((getD (h .berths) k fresh) .tx) tag) .1 .1 .0), tt))))), (vptr b o ∷ [], ((uint w64) .val k ∷ [], (F·P .val ((as-tx-Consecutive ((getD (h .berths) k fresh) .tx) tag) .0) ∷ [], (F·D .val ((as-tx-Consecutive ((getD (h .berths) k fresh) .tx) tag) .1 .0) ∷ [], ((uint w16) .val ((as-tx-Consecutive ((getD (h .berths) k fresh) .tx) tag) .1 .1 .0) ∷ [], tt)))))), tt))) (goes-c4 α5 δ5 h k ((as-tx-Consecutive ((getD (h .berths) k fresh) .tx) tag) .0) ((as-tx-Consecutive ((getD (h .berths) k fresh) .tx) tag) .1 .0) ((as-tx-Consecutive ((getD (h .berths) k fresh) .tx) tag) .1 .1 .0) k-is ((EL.owed X.the-type X′.the-laws (Tx.Consecutive ((as-tx-Consecutive ((getD (h .berths) k fresh) .tx) tag) .0) ((as-tx-Consecutive ((getD (h .berths) k fresh) .tx) tag) .1 .0) ((as-tx-Consecutive ((getD (h .berths) k fresh) .tx) tag) .1 .1 .0)) _ (tx-as (getD (h .berths) k fresh) (berth-is h was k within) ((as-tx-Consecutive ((getD (h .berths) k fresh) .tx) tag) .1 .1 .1))) .0) ((EL.owed X.the-type X′.the-laws (Tx.Consecutive ((as-tx-Consecutive ((getD (h .berths) k fresh) .tx) tag) .0) ((as-tx-Consecutive ((getD (h .berths) k fresh) .tx) tag) .1 .0) ((as-tx-Consecutive ((getD (h .berths) k fresh) .tx) tag) .1 .1 .0)) _ (tx-as (getD (h .berths) k fresh) (berth-is h was k within) ((as-tx-Consecutive ((getD (h .berths) k fresh) .tx) tag) .1 .1 .1))) .1 .0) ((EL.owed X.the-type X′.the-laws (Tx.Consecutive ((as-tx-Consecutive ((getD (h .berths) k fresh) .tx) tag) .0) ((as-tx-Consecutive ((getD (h .berths) k fresh) .tx) tag) .1 .0) ((as-tx-Consecutive ((getD (h .berths) k fresh) .tx) tag) .1 .1 .0)) _ (tx-as (getD (h .berths) k fresh) (berth-is h was k within) ((as-tx-Consecutive ((getD (h .berths) k fresh) .tx) tag) .1 .1 .1))) .1 .1 .0) (within, ap (λ (y : Berth). y .tx) (at-is h k) ∙ ((as-tx-Consecutive ((getD (h .berths) k fresh) .tx) tag) .1 .1 .1))) $
                       calls-at ! fm (C4 𝓤 H A at-mem run) known-c4 (((α5 ∷ [], tt), (fullShare, tt), tt, ((record { ptr = (b, o); name = δ5; now = h }), (k, (((as-tx-Consecutive ((getD (h .berths) k fresh) .tx) tag) .0), (((as-tx-Consecutive ((getD (h .berths) k fresh) .tx) tag) .1 .0), (((as-tx-Consecutive ((getD (h .berths) k fresh) .tx) tag) .1 .1 .0), tt))))), (vptr b o ∷ [], ((uint w64) .val k ∷ [], (F·P .val ((as-tx-Consecutive ((getD (h .berths) k fresh) .tx) tag) .0) ∷ [], (F·D .val ((as-tx-Consecutive ((getD (h .berths) k fresh) .tx) tag) .1 .0) ∷ [], ((uint w16) .val ((as-tx-Consecutive ((getD (h .berths) k fresh) .tx) tag) .1 .1 .0) ∷ [], tt)))))), tt) (and-then ! (load ! (from ! (stop !)) (look ! 5 refl)) (and-then ! (load ! (from ! (stop !)) (look ! 43 refl)) (and-then ! (load ! (from ! (stop !)) (look ! 23 refl)) (and-then ! (load ! (from ! (stop !)) (look ! 21 refl)) (and-then ! (load ! (from ! (stop !)) (look ! 19 refl)) (no-more !)))))) (λ v5.
-                      use1 W (later (some (λ (r· : SendEnd). ((‵ (flft (α5 ∷ []) fullShare) ⊛ ‵ ftrue) ⊛ ‵ ((F·Se .row) .own r· (v5 ∷ []))) ⊛ raw (ensured 𝓤 H A c4.ended (c4.clauses 𝓤 H A at-mem run) (α5 ∷ [], tt) ((record { ptr = (b, o); name = δ5; now = h }), (k, (((as-tx-Consecutive ((getD (h .berths) k fresh) .tx) tag) .0), (((as-tx-Consecutive ((getD (h .berths) k fresh) .tx) tag) .1 .0), (((as-tx-Consecutive ((getD (h .berths) k fresh) .tx) tag) .1 .1 .0), tt))))) tt r·)))) (id⊢ 𝓤 _) $ await ! tt $ pick ! (λ r·.
+                      use1 W (later (some (λ (r· : Report). ((‵ (flft (α5 ∷ []) fullShare) ⊛ ‵ ftrue) ⊛ ‵ ((F·Rp .row) .own r· (v5 ∷ []))) ⊛ raw (ensured 𝓤 H A c4.ended (c4.clauses 𝓤 H A at-mem run) (α5 ∷ [], tt) ((record { ptr = (b, o); name = δ5; now = h }), (k, (((as-tx-Consecutive ((getD (h .berths) k fresh) .tx) tag) .0), (((as-tx-Consecutive ((getD (h .berths) k fresh) .tx) tag) .1 .0), (((as-tx-Consecutive ((getD (h .berths) k fresh) .tx) tag) .1 .1 .0), tt))))) tt r·)))) (id⊢ 𝓤 _) $ await ! tt $ pick ! (λ r·.
                       split ! $ move ! (1 ∷ []) $ use1 W (some (λ (zs5 : Lasts c4.ended (α5 ∷ [], tt) ((record { ptr = (b, o); name = δ5; now = h }), (k, (((as-tx-Consecutive ((getD (h .berths) k fresh) .tx) tag) .0), (((as-tx-Consecutive ((getD (h .berths) k fresh) .tx) tag) .1 .0), (((as-tx-Consecutive ((getD (h .berths) k fresh) .tx) tag) .1 .1 .0), tt)))))). ‵ (lasts c4.ended (α5 ∷ [], tt) ((record { ptr = (b, o); name = δ5; now = h }), (k, (((as-tx-Consecutive ((getD (h .berths) k fresh) .tx) tag) .0), (((as-tx-Consecutive ((getD (h .berths) k fresh) .tx) tag) .1 .0), (((as-tx-Consecutive ((getD (h .berths) k fresh) .tx) tag) .1 .1 .0), tt))))) zs5) ⊛ raw (fact 𝓤 (SendTicked h k r· (zs5 .0))))) (id⊢ 𝓤 _) $ pick ! (λ zs5.
                       split ! $ move ! (1 ∷ []) $ heard ! (SendTicked h k r· (zs5 .0)) (λ e·.
                       fsplit ! $ move ! (1 ∷ []) $ fsplit ! $ drop ! $ fsplit ! $ drop ! $ fsplit ! $ drop ! $ fsplit ! $ drop ! $ drop ! $
-                      move ! (1 ∷ []) $ split ! $ move ! (1 ∷ []) $ returned ! F·Se r· v5 (λ r-is.
-                      land ! (from ! (stop !)) (init ! 48 refl (F·Se .lawful 𝓤 H A W .typed r· _ r-is .0)) $
+                      move ! (1 ∷ []) $ split ! $ move ! (1 ∷ []) $ returned ! F·Rp r· v5 (λ r-is.
+                      land ! (from ! (stop !)) (init ! 48 refl (F·Rp .lawful 𝓤 H A W .typed r· _ r-is .0)) $
                       split ! $ move ! (1 ∷ []) $ drop ! $
                       move ! (0 ∷ 2 ∷ 1 ∷ []) $ back ! tt FT (zs5 .0) b o (λ was5. use1 W (‵ (fat fullShare T′.mir b o (FT .val (zs5 .0)))) (W .laws .raw-at fullShare T′.mir b o (FT .val (zs5 .0))) $
                       use1 W (‵ (cellAt fullShare (T.the-row .mir) (FT .val (zs5 .0) ∷ []) b o)) (W .laws .at-raw fullShare T′.mir b o (FT .val (zs5 .0))) $ closed ! tt FT (zs5 .0) b o was5 $
@@ -292,4 +293,4 @@ send-spec 𝓤 H 𝓜 𝓖 𝓡 =
     (cited 𝓤 H (C2 𝓤 H (𝓖 .A) (𝓜 .mem) (𝓡 .run)) 𝓜 𝓡 code.env #c2 c2-def.routine code.calls-berths·ticks·first-due (c2-thm.met 𝓤 H 𝓜 𝓖 𝓡))
     (cited 𝓤 H (C3 𝓤 H (𝓖 .A) (𝓜 .mem) (𝓡 .run)) 𝓜 𝓡 code.env #c3 c3-def.routine code.calls-berths·ticks·awaits-flow (c3-thm.met 𝓤 H 𝓜 𝓖 𝓡))
     (cited 𝓤 H (C4 𝓤 H (𝓖 .A) (𝓜 .mem) (𝓡 .run)) 𝓜 𝓡 code.env #c4 c4-def.routine code.calls-berths·ticks·consecutive (c4-thm.met 𝓤 H 𝓜 𝓖 𝓡))
-    (cited 𝓤 H (C5 𝓤 H (𝓖 .A) (𝓜 .mem) (𝓡 .run)) 𝓜 𝓡 code.env #c5 c5-def.routine code.calls-berths·ticks·goes-on (c5-thm.met 𝓤 H 𝓜 𝓖 𝓡)))
+    (cited 𝓤 H (C5 𝓤 H (𝓖 .A) (𝓜 .mem) (𝓡 .run)) 𝓜 𝓡 code.env #c5 c5-def.routine code.calls-berth·reports·nothing (c5-thm.met 𝓤 H 𝓜 𝓖 𝓡)))
