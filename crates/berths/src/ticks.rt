@@ -164,7 +164,7 @@ fn send(node: &mut Node, k: usize) -> Report
 
 // ---- the berth
 
-// How the two sides of a berth ended, 0 for not.
+// How the receive side of a berth ended, 0 for not, and what its send side reports.
 struct Ends {
     receive: u8,
     send: Report,
