@@ -1,0 +1,16 @@
+-- Numbers in bytes, high byte first.
+use Prim.Native.Nat.{ℕ, zero, suc, _+_, _*_, _/_, _%_}
+use mathlib.Core.List.{List, [], _∷_, _++_}
+
+-- a number in so many bytes: the bytes of what is above the last one, then the last one
+unfoldable pub bytesOf : ℕ → ℕ → List ℕ
+bytesOf zero n = []
+bytesOf (suc width) n = bytesOf width (n / 256) ++ (n % 256 ∷ [])
+
+-- the number in some bytes: each further one multiplies what is there by 256
+unfoldable pub numberAfter : ℕ → List ℕ → ℕ
+numberAfter n [] = n
+numberAfter n (b ∷ bs) = numberAfter (n * 256 + b) bs
+
+abbrev pub numberOf : List ℕ → ℕ
+numberOf bytes = numberAfter 0 bytes
