@@ -5,13 +5,20 @@ use native.Mathlib.Omega.{arith}
 use native.Mathlib.Numerals.{add-one}
 use mathlib.Core.List.{List, [], _∷_, _++_, append-assoc, append-nil}
 use lib.ListN.{length, getD, take, drop, set, replicate, length-append, drop-of-length-le}
+use lib.Dec.{leb}
 use lib.Seq.{drop-cons, set-append-seam, take-append-seam}
 use Rattle.rules.specs.Parties.{scheduler}
-use Rattle.rules.specs.Answers.{Side, receive, send, failedSide}
+use Rattle.rules.specs.Tests.{unless}
+use Rattle.rules.specs.Numbers.{toBerth}
+use Rattle.rules.specs.Answers.{refused, codes, Side, receive, send, failedSide, frameSays, tickSays, turnSays}
+use Rattle.rules.specs.declared.FrameAnswer.{FrameAnswer}
+use Rattle.rules.specs.declared.TickAnswer.{TickAnswer}
+use Rattle.rules.specs.declared.TurnAnswer.{TurnAnswer}
+use Rattle.rules.proofs.Cases.{pick-either}
 use Rattle.rules.specs.declared.Codes.{Codes}
 use Rattle.rules.specs.declared.Word.{Word}
 use Rattle.rules.specs.declared.Word.the-variants.{Delivered, Begun, Failed, Ignored, TooLong, Took, Going, Waiting}
-use Rattle.journal.specs.Entries.{kindOf, noted, wordEntries, codesEntries, noEntry, holding, listed, Gains}
+use Rattle.journal.specs.Entries.{kindOf, noted, wordEntries, codesEntries, entriesOf, mostEntries, noEntry, holding, listed, Gains}
 use Rattle.journal.specs.declared.Entry.{Entry}
 use Rattle.journal.specs.declared.entries.Entries.{Entries}
 
@@ -82,25 +89,25 @@ heard-most k old w t = rw length-append (omega (arith, noted-most k receive old 
 abbrev no-codes : Codes
 no-codes = record { receive = 0; send = 0; party = scheduler }
 
-listed-holding : (es : List Entry) → listed (holding es) ≡ es
+pub listed-holding : (es : List Entry) → listed (holding es) ≡ es
 unfolding holding
 listed-holding es = take-append-seam es _
 
 -- so many berths of ten are through, and have at most two entries each
-pub record Through (codes : List Codes) (t k : ℕ) (all : Entries) : Type 0 where
+pub record Through (cs : List Codes) (t k : ℕ) (all : Entries) : Type 0 where
   pub held : all ≡ holding (listed all)
   pub few : length (listed all) ≤ 2 * k
-  pub whole : listed all ++ codesEntries k (drop k codes) t ≡ codesEntries 0 codes t
+  pub whole : listed all ++ codesEntries k (drop k cs) t ≡ codesEntries 0 cs t
 
-pub through-none : (codes : List Codes) (t : ℕ) (s : Entries) → s ≡ holding [] → Through codes t 0 s
+pub through-none : (cs : List Codes) (t : ℕ) (s : Entries) → s ≡ holding [] → Through cs t 0 s
 unfolding holding
-through-none codes t s e = rw e (record { held = refl; few = omega arith; whole = refl })
+through-none cs t s e = rw e (record { held = refl; few = omega arith; whole = refl })
 
-pub through-more : (codes : List Codes) (t k : ℕ) (all r : Entries) → k < 10 → length codes ≡ 10 → Through codes t k all
-    → Gains all (noted k receive (getD codes k no-codes .receive) 0 t ++ noted k send (getD codes k no-codes .send) 0 t) r → Through codes t (k + 1) r
+pub through-more : (cs : List Codes) (t k : ℕ) (all r : Entries) → k < 10 → length cs ≡ 10 → Through cs t k all
+    → Gains all (noted k receive (getD cs k no-codes .receive) 0 t ++ noted k send (getD cs k no-codes .send) 0 t) r → Through cs t (k + 1) r
 unfolding codesEntries
-through-more codes t k all r small ten before gains =
-    let c = getD codes k no-codes in
+through-more cs t k all r small ten before gains =
+    let c = getD cs k no-codes in
     let xs = noted k receive (c .receive) 0 t in
     let ys = noted k send (c .send) 0 t in
     let n : length (xs ++ ys) ≤ 2 = omega (arith, length-append xs ys, noted-most k receive (c .receive) 0 t, noted-most k send (c .send) 0 t) in
@@ -112,11 +119,40 @@ through-more codes t k all r small ten before gains =
       whole = rw l (append-assoc (listed all) (xs ++ ys) _ ∙ ap (λ (q : List Entry). listed all ++ q) (append-assoc xs ys _ ∙ rest) ∙ before .whole);
     }
   where
-    rest : noted k receive (getD codes k no-codes .receive) 0 t ++ (noted k send (getD codes k no-codes .send) 0 t ++ codesEntries (k + 1) (drop (k + 1) codes) t) ≡ codesEntries k (drop k codes) t
-    rest = rw (add-one, drop-cons codes k no-codes (omega arith))
+    rest : noted k receive (getD cs k no-codes .receive) 0 t ++ (noted k send (getD cs k no-codes .send) 0 t ++ codesEntries (k + 1) (drop (k + 1) cs) t) ≡ codesEntries k (drop k cs) t
+    rest = rw (add-one, drop-cons cs k no-codes (omega arith))
 
-pub through-all : (codes : List Codes) (t k : ℕ) (all : Entries) → length codes ≤ k → Through codes t k all → all ≡ holding (codesEntries 0 codes t)
+pub through-all : (cs : List Codes) (t k : ℕ) (all : Entries) → length cs ≤ k → Through cs t k all → all ≡ holding (codesEntries 0 cs t)
 unfolding codesEntries
-through-all codes t k all over h =
-    let e : codesEntries k (drop k codes) t ≡ [] = rw (drop-of-length-le codes over) in
+through-all cs t k all over h =
+    let e : codesEntries k (drop k cs) t ≡ [] = rw (drop-of-length-le cs over) in
     h .held ∙ ap holding (sym (append-nil (listed all)) ∙ sym (ap (λ (q : List Entry). listed all ++ q) e) ∙ h .whole)
+
+-- ---- at most two of a frame, twenty of a tick, one of a turn
+
+codes-most : (k : ℕ) (cs : List Codes) (t : ℕ) → length (codesEntries k cs t) ≤ 2 * length cs
+unfolding codesEntries
+codes-most k [] t = omega arith
+codes-most k (c ∷ cs) t =
+    simp length-append
+    (omega (arith, noted-most k receive (c .receive) 0 t, noted-most k send (c .send) 0 t, codes-most (suc k) cs t))
+
+pub frame-few : (a : FrameAnswer) (t : ℕ) → length (entriesOf (frameSays a) t) ≤ 2
+unfolding frameSays entriesOf
+frame-few (FrameAnswer.Refused n) t = omega arith
+frame-few (FrameAnswer.Heard k old w) t = heard-most k old w t
+
+pub tick-few : (a : TickAnswer) (t : ℕ) → length (a .codes) ≡ 10 → length (entriesOf (tickSays a) t) ≤ mostEntries
+unfolding tickSays entriesOf
+tick-few a t ten = go (a .refused)
+  where
+    go : (n : ℕ) → length (entriesOf (unless n (λ m. refused m) (codes (a .codes))) t) ≤ mostEntries
+    go zero = omega (arith, codes-most 0 (a .codes) t)
+    go (suc n) = omega arith
+
+pub turn-few : (a : TurnAnswer) (buffer : List ℕ) (t : ℕ) → length (entriesOf (turnSays a buffer) t) ≤ 1
+unfolding turnSays entriesOf
+turn-few (TurnAnswer.Refused n) buffer t = omega arith
+turn-few (TurnAnswer.None passed) buffer t = omega arith
+turn-few (TurnAnswer.HandedOver id code passed party) buffer t =
+    pick-either (λ (es : List Entry). length es ≤ 1) (leb toBerth id) _ _ (λ u. noted-most (id - toBerth) send code 0 t) (λ u. omega arith)

@@ -4,3 +4,6 @@ pub mod Records
 pub mod Files
 pub mod Held
 pub mod Runs
+pub mod Within
+pub mod Determined
+pub mod Examples

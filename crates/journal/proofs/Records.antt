@@ -1,11 +1,12 @@
 -- One record: what is written reads back equal, and what the reader accepts is what the writer makes. Both by the two laws of numbers, one
 -- for each field of more than a byte; the other fields stand in the record as they are.
+use mathlib.Core.Logic.{_↔_}
 use mathlib.Core.Path.{_≡_, refl, sym, ap, _∙_}
 use Prim.Native.Nat.{ℕ, zero, suc, _+_, _-_, _^_, _≤_, _<_}
 use native.Mathlib.Omega.{arith}
 use mathlib.Core.Bool.{Bool, true, false, not, _&&_, _||_}
-use mathlib.Core.List.{List, [], _∷_, _++_, append-nil}
-use lib.ListN.{length, getD, take, drop, length-append, length-take, length-drop, take-append-drop}
+use mathlib.Core.List.{List, [], _∷_, _++_, append-assoc, append-nil}
+use lib.ListN.{length, getD, take, drop, length-append, length-take, length-drop, take-append-drop, drop-of-length-le}
 use lib.Seq.{drop-cons, drop-drop, take-all, take-at, drop-at, length-take-le}
 use lib.Dec.{T, leb, eqb, ltb}
 use mir.Facts.{leb-yes, ltb-yes, eqb-yes}
@@ -97,3 +98,80 @@ unfolding written reads
 reads-back e out none =
     let w = not-refused e out none in
     rw (none, record-accepted e (drop 16 out) w, entry-back e (drop 16 out) w)
+
+-- ---- what the reader accepts
+
+-- bytes in a part of some bytes
+pub bytes-drop : (n : ℕ) (bs : List ℕ) → Bytes bs → Bytes (drop n bs)
+unfolding Bytes
+bytes-drop zero bs all = all
+bytes-drop (suc n) [] all = tt
+bytes-drop (suc n) (b ∷ bs) (small, all) = bytes-drop n bs all
+
+bytes-take : (n : ℕ) (bs : List ℕ) → Bytes bs → Bytes (take n bs)
+unfolding Bytes
+bytes-take zero bs all = tt
+bytes-take (suc n) [] all = tt
+bytes-take (suc n) (b ∷ bs) (small, all) = (small, bytes-take n bs all)
+
+pub record Accepted (d : List ℕ) : Type 0 where
+  pub long : 16 ≤ length d
+  pub third : getD d 3 0 ≡ 0
+  pub sixth : getD d 6 0 ≡ 0
+  pub seventh : getD d 7 0 ≡ 0
+  pub its-within : within (entryIn d) ≡ true
+
+pub accepted : (d : List ℕ) → accepts d ≡ true → Accepted d
+unfolding accepts
+accepted d e =
+    let a = yes-of e in
+    let b = and-right (leb 16 (length d)) _ a in
+    let c = and-right (eqb (getD d 3 0) 0) _ b in
+    let f = and-right (eqb (getD d 6 0) 0) _ c in
+    record {
+      long = leb-yes {a = 16} {b = length d} (and-left (leb 16 (length d)) _ a);
+      third = eqb-yes (and-left (eqb (getD d 3 0) 0) _ b);
+      sixth = eqb-yes (and-left (eqb (getD d 6 0) 0) _ c);
+      seventh = eqb-yes (and-left (eqb (getD d 7 0) 0) _ f);
+      its-within = is-true (within (entryIn d)) (and-right (eqb (getD d 7 0) 0) _ f);
+    }
+
+-- sixteen bytes by their fields
+by-fields : (d : List ℕ) → 16 ≤ length d
+    → d ≡ getD d 0 0 ∷ getD d 1 0 ∷ getD d 2 0 ∷ getD d 3 0 ∷ (take 2 (drop 4 d) ++ (getD d 6 0 ∷ getD d 7 0 ∷ (take 8 (drop 8 d) ++ drop 16 d)))
+by-fields d h =
+    let e0 = drop-cons d 0 0 (omega arith) in
+    let e1 = drop-cons d 1 0 (omega arith) in
+    let e2 = drop-cons d 2 0 (omega arith) in
+    let e3 = drop-cons d 3 0 (omega arith) in
+    let e6 = drop-cons d 6 0 (omega arith) in
+    let e7 = drop-cons d 7 0 (omega arith) in
+    let four : drop 4 d ≡ take 2 (drop 4 d) ++ drop 6 d = sym (take-append-drop 2 (drop 4 d)) ∙ ap (λ (l : List ℕ). take 2 (drop 4 d) ++ l) (drop-drop 2 4 d) in
+    let eight : drop 8 d ≡ take 8 (drop 8 d) ++ drop 16 d = sym (take-append-drop 8 (drop 8 d)) ∙ ap (λ (l : List ℕ). take 8 (drop 8 d) ++ l) (drop-drop 8 8 d) in
+    cc
+
+-- a record that is accepted is that of its entry
+pub record-back : (d : List ℕ) → Bytes d → accepts d ≡ true → recordOf (entryIn d) ++ drop 16 d ≡ d
+unfolding recordOf entryIn
+record-back d all e =
+    let a = accepted d e in
+    let n = a .long in
+    let xs = take 2 (drop 4 d) in
+    let ys = take 8 (drop 8 d) in
+    let l = bytes-of-number 2 xs (bytes-take 2 (drop 4 d) (bytes-drop 4 d all)) (simp (length-take, length-drop) (omega arith)) in
+    let t = bytes-of-number 8 ys (bytes-take 8 (drop 8 d) (bytes-drop 8 d all)) (simp (length-take, length-drop) (omega arith)) in
+    rw (l, t)
+    (ap (λ (q : List ℕ). getD d 0 0 ∷ getD d 1 0 ∷ getD d 2 0 ∷ 0 ∷ q) (append-assoc xs (0 ∷ 0 ∷ ys) (drop 16 d))
+    ∙ sym (rw (a .third, a .sixth, a .seventh) at (by-fields d n)))
+
+-- WHAT THE READER ACCEPTS IS WHAT THE WRITER MAKES: sixteen bytes are accepted if and only if some entry within the rules writes just these.
+pub accepted-is-written : (d : List ℕ) → Bytes d → length d ≡ 16 → (accepts d ≡ true) ↔ WrittenAs d
+accepted-is-written d all long = (made, back)
+  where
+    made : accepts d ≡ true → WrittenAs d
+    made e =
+        let end : drop 16 d ≡ [] = drop-of-length-le d {i = 16} (omega arith) in
+        record { entry = entryIn d; its-within = accepted d e .its-within; writes = sym (append-nil _) ∙ rw end at (record-back d all e) }
+
+    back : WrittenAs d → accepts d ≡ true
+    back w = rw (← w .writes, ← append-nil (recordOf (w .entry))) (record-accepted (w .entry) [] (w .its-within))

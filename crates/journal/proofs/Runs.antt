@@ -119,7 +119,7 @@ at-answer (shown part) t = tt
 at-answer (changed k) t = tt
 
 -- the count after a call, and after a run and one call more
-count-after : (a : Answer) (t : ℕ) → ticksAfter a t ≡ t + pick (isTick a) 1 0
+pub count-after : (a : Answer) (t : ℕ) → ticksAfter a t ≡ t + pick (isTick a) 1 0
 unfolding ticksAfter
 count-after a t = pick-either (λ (n : ℕ). n ≡ t + pick (isTick a) 1 0) (isTick a) _ _ (λ u. rw (is-true (isTick a) u)) (λ u. rw (is-false (isTick a) u) (omega arith))
 

@@ -35,9 +35,9 @@ bytes-after (b ∷ bs) (small, all) w n =
     rw e (bytes-after bs all (suc w) (n * 256 + b) ∙ rw (q, r) (append-assoc (bytesOf w n) (b ∷ []) bs))
 
 -- WHAT THE NUMBER OF SOME BYTES IS WRITTEN AS, in as many bytes, is these.
-pub bytes-of-number : (bs : List ℕ) → Bytes bs → bytesOf (length bs) (numberOf bs) ≡ bs
+pub bytes-of-number : (w : ℕ) (bs : List ℕ) → Bytes bs → length bs ≡ w → bytesOf w (numberOf bs) ≡ bs
 unfolding bytesOf
-bytes-of-number bs all = rw zero-add at (bytes-after bs all 0 0)
+bytes-of-number w bs all e = rw (← e) (rw zero-add at (bytes-after bs all 0 0))
 
 -- ---- one byte more
 
@@ -64,8 +64,3 @@ bytes-step i above out h =
     drop-cons (set out i (above % 256)) i 0 (lt-length-set out i (above % 256) h)
     ∙ rw (getD-set-same out i (above % 256) 0 h, drop-set-lt (suc i) out i (above % 256) (omega arith)) in
     rw (e, add-one) (sym (append-assoc (bytesOf i (above / 256)) (above % 256 ∷ []) (drop (suc i) out)))
-
-pub bytes-length : (w n : ℕ) → length (bytesOf w n) ≡ w
-unfolding bytesOf
-bytes-length zero n = refl
-bytes-length (suc w) n = simp (length-append, bytes-length w (n / 256)) (omega arith)

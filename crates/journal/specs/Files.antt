@@ -1,5 +1,5 @@
--- What the laws of the journal say: entries and reports compared, the file of some entries, and what is read off a run's answers.
-use Prim.Native.Nat.{ℕ, _+_, _<_}
+-- What the laws of the journal say: the file of some entries, entries and reports compared, and what is read off a run's answers.
+use Prim.Native.Nat.{ℕ, _+_, _^_, _<_}
 use mathlib.Core.Path.{_≡_}
 use mathlib.Core.Bool.{true}
 use mathlib.Core.List.{List, [], _∷_, _++_, map}
@@ -8,7 +8,7 @@ use Rattle.rules.specs.Tests.{pick}
 use Rattle.rules.specs.Answers.{Answer, refused, ready, heard, codes, sent, handed, none, shown, changed, Report, reports}
 use Rattle.rules.specs.declared.Word.{Word}
 use Rattle.rules.specs.declared.Word.the-variants.{Delivered, Begun, Failed, Ignored, TooLong, Took, Going, Waiting}
-use Rattle.journal.specs.Records.{within, delivered, recordOf}
+use Rattle.journal.specs.Records.{tickBytes, within, delivered, recordOf}
 use Rattle.journal.specs.Entries.{kindOf, entriesOf, isTick, journalOf}
 use Rattle.journal.specs.declared.Entry.{Entry}
 
@@ -68,7 +68,7 @@ unfoldable pub lengthsIn : List Entry → List ℕ
 lengthsIn [] = []
 lengthsIn (e ∷ es) = pick (delivered e) (e .length ∷ lengthsIn es) (lengthsIn es)
 
--- those that the words say, in order
+-- those that the words of a run's answers say, in order
 unfoldable pub wordLengths : Word → List ℕ
 wordLengths (Delivered n) = n ∷ []
 wordLengths (Begun n) = []
@@ -79,17 +79,20 @@ wordLengths Took = []
 wordLengths Going = []
 wordLengths Waiting = []
 
+unfoldable pub answerLengths : Answer → List ℕ
+answerLengths (refused n) = []
+answerLengths ready = []
+answerLengths (heard k old w) = wordLengths w
+answerLengths (codes cs) = []
+answerLengths (sent k) = []
+answerLengths (handed id frame code passed party) = []
+answerLengths (none passed) = []
+answerLengths (shown part) = []
+answerLengths (changed k) = []
+
 unfoldable pub lengthsSaid : List Answer → List ℕ
 lengthsSaid [] = []
-lengthsSaid (refused n ∷ rs) = lengthsSaid rs
-lengthsSaid (ready ∷ rs) = lengthsSaid rs
-lengthsSaid (heard k old w ∷ rs) = wordLengths w ++ lengthsSaid rs
-lengthsSaid (codes cs ∷ rs) = lengthsSaid rs
-lengthsSaid (sent k ∷ rs) = lengthsSaid rs
-lengthsSaid (handed id frame code passed party ∷ rs) = lengthsSaid rs
-lengthsSaid (none passed ∷ rs) = lengthsSaid rs
-lengthsSaid (shown part ∷ rs) = lengthsSaid rs
-lengthsSaid (changed k ∷ rs) = lengthsSaid rs
+lengthsSaid (a ∷ rs) = answerLengths a ++ lengthsSaid rs
 
 -- ---- ticks
 
@@ -107,3 +110,12 @@ AllAt t (e ∷ es) = (e .tick ≡ t) × AllAt t es
 pub record Adds (rs : List Answer) (a : Answer) : Type 0 where
   pub entries : journalOf (rs ++ a ∷ []) ≡ journalOf rs ++ entriesOf a (answeredTicks (rs ++ a ∷ []))
   pub ticks : AllAt (answeredTicks (rs ++ a ∷ [])) (entriesOf a (answeredTicks (rs ++ a ∷ [])))
+
+-- ---- the journal of a run
+
+-- its entries, without length, tick and party, are the run's reports, in order, none lost and none made up; the lengths are those of the
+-- messages delivered; and the writer refuses none, while the ticks fit eight bytes
+pub record Journals (rs : List Answer) : Type 0 where
+  pub its-reports : map bareEntry (journalOf rs) ≡ map bareReport (reportsOf rs)
+  pub its-lengths : lengthsIn (journalOf rs) ≡ lengthsSaid rs
+  pub all-within : answeredTicks rs < 256 ^ tickBytes → AllWithin (journalOf rs)

@@ -16,10 +16,10 @@ use Rattle.rules.specs.Turns.{due, handOver, beginsWith, sent as sentBerth}
 use Rattle.rules.specs.Changes.{valueAllowed, changedSettings}
 use Rattle.rules.specs.Events.{Call, frame, tick, send, turn, change, ticks, arrives, sends, changes}
 use Rattle.rules.specs.Stores.{rightStore, areaOf, stored, servedNode, setUpNode, distance, leastDistance, passedOver, reached, cameAt, handedAt}
-use Rattle.rules.specs.Answers.{refused, send as sendSide}
+use Rattle.rules.specs.Answers.{refused, receive, send as sendSide, reported, wordReports, codesReports, reports}
 use Rattle.rules.specs.Cards.{rightCards, addedAt}
 use Rattle.rules.specs.Refusals.{needs, refusal, setUpRefusal}
-use Rattle.rules.specs.Calls.{Outcome, afterFrame, afterTurn, done, outcome, setUpOutcome, final}
+use Rattle.rules.specs.Calls.{Outcome, afterFrame, afterTurn, done, outcome, setUpOutcome, answers, final}
 use Rattle.rules.specs.Alone.{partOf, stateAfter, partAfter, says, hears}
 use Rattle.rules.specs.Clocks.{Idle, mostTime}
 use Rattle.rules.specs.declared.Word.the-variants.{Delivered}
@@ -36,9 +36,14 @@ use Rattle.laws.specs.Free.{LeftAlone, ComesFree, AllComeFree}
 use Rattle.laws.specs.Rounds.{turnOf, StaysDue, Fair}
 use Rattle.laws.specs.Parties.{unnamedHeld, unnamedOutcome, PartiesApart}
 use Rattle.laws.specs.Line.{blank}
-use Rattle.laws.proofs.Examples.{two, twoOwn, twoRun, afresh-computed, afresh-cards, crowd, crowdRun, crowd-computed, harbour, toSix, sixFrames, shared, laptop, late, lateRun, stuck, stuck-sound, live, live-owned, dipped, sharp}
+use Rattle.laws.proofs.Examples.{two, twoOwn, twoRun, two-computed, afresh-computed, afresh-cards, crowd, crowdRun, crowd-computed, harbour, toSix, sixFrames, shared, laptop, late, lateRun, stuck, stuck-sound, live, live-owned, dipped, sharp}
+use Rattle.journal.specs.Numbers.{bytesOf}
+use Rattle.journal.specs.Records.{recordOf}
+use Rattle.journal.specs.Entries.{kindOf, noted, wordEntries, codesEntries, entriesOf, isTick, ticksAfter, journalFrom, journalOf}
+use Rattle.journal.specs.Files.{AllWithin, fileOf, reportsOf, answeredTicks, Journals}
+use Rattle.journal.specs.declared.Entry.{Entry}
 use Rattle.runs.specs.Chains.{Made, AfterSetUp, madeOf, callsOf, outcomesBy, saidBy, leftBy, ownIn, DueIn, historyIn, NamesIn, EachAlone}
-use Rattle.runs.proofs.Runs.{chain-leaves, chain-owns, chain-history, chain-settings, step-change-only, chain-fair, chain-alone-after-set-up, chain-tallies-after-set-up, chain-spaced, chain-names, chain-names-after-set-up, chain-parties-apart, chain-left-alone, chain-comes-free, chain-all-come-free, chain-free-after-set-up}
+use Rattle.runs.proofs.Runs.{chain-says, chain-leaves, chain-owns, chain-history, chain-settings, step-change-only, chain-fair, chain-alone-after-set-up, chain-tallies-after-set-up, chain-spaced, chain-names, chain-names-after-set-up, chain-parties-apart, chain-left-alone, chain-comes-free, chain-all-come-free, chain-free-after-set-up, chain-journals}
 use Rattle.runs.proofs.Every.{every-step, every-chain, every-after-set-up}
 use Rattle.runs.proofs.PoorNodes.{one-more, refusing-again, idle-again-timers, idle-again-message, idle-again-settings, counting-again, fixed-again, fixed-again-bytes}
 
@@ -242,3 +247,33 @@ counting-here o r =
     counting-again (0x21 ∷ 7 ∷ 8 ∷ []) (record { total = 8; got = 6; sn = record { 0 = 1 }; taken = 0 }) 0
     (one-more afterGo (made (frame 0x640 (0x21 ∷ 7 ∷ 8 ∷ [])) o) 0 (arrives (0x21 ∷ 7 ∷ 8 ∷ [])) r (lit< tt) refl) refl refl tt refl
     (λ e. let z : _≡_ {A = ℕ} 0 7 = ap (λ (l : List ℕ). getD l 0 0) e in omega arith)
+
+-- ---- the journal of the run of ten calls: a message sent and one delivered after the first tick, a reception timed out at the second
+
+abbrev ten : List Made
+ten = madeOf two twoRun
+
+ten-said : saidBy ten ≡ answers two twoRun
+ten-said = chain-says two ten (every-chain two twoRun) ∙ ap (answers two) (calls-made two twoRun)
+
+abbrev entryOf : (kind berth code length tick : ℕ) → Entry
+entryOf side k code n t = record { kind = side; berth = k; code = code; length = n; tick = t }
+
+pub journal-here : (journalOf (saidBy ten) ≡ entryOf 2 5 1 0 1 ∷ entryOf 1 5 1 2 1 ∷ entryOf 1 3 4 0 2 ∷ [])
+    × (reportsOf (saidBy ten)
+    ≡ record { berth = 5; side = sendSide; code = 1; party = scheduler } ∷ record { berth = 5; side = receive; code = 1; party = scheduler }
+    ∷ record { berth = 3; side = receive; code = 4; party = scheduler } ∷ [])
+    × (fileOf (journalOf (saidBy ten))
+    ≡ 2 ∷ 5 ∷ 1 ∷ 0 ∷ 0 ∷ 0 ∷ 0 ∷ 0 ∷ 0 ∷ 0 ∷ 0 ∷ 0 ∷ 0 ∷ 0 ∷ 0 ∷ 1 ∷ 1 ∷ 5 ∷ 1 ∷ 0 ∷ 0 ∷ 2 ∷ 0 ∷ 0 ∷ 0 ∷ 0 ∷ 0 ∷ 0 ∷ 0 ∷ 0 ∷ 0 ∷ 1
+    ∷ 1 ∷ 3 ∷ 4 ∷ 0 ∷ 0 ∷ 0 ∷ 0 ∷ 0 ∷ 0 ∷ 0 ∷ 0 ∷ 0 ∷ 0 ∷ 0 ∷ 0 ∷ 2 ∷ [])
+    × (answeredTicks (saidBy ten) ≡ 2)
+unfolding
+    journalFrom entriesOf noted wordEntries codesEntries kindOf isTick ticksAfter reportsOf reports reported wordReports codesReports fileOf recordOf bytesOf
+    answeredTicks
+journal-here = rw (ten-said, two-computed .0) (refl, refl, refl, refl)
+
+pub journals-here : Journals (saidBy ten) × AllWithin (journalOf (saidBy ten))
+journals-here =
+    let j = chain-journals two ten (every-chain two twoRun) in
+    let n = journal-here .3 in
+    (j, j .all-within (omega arith))

@@ -43,6 +43,8 @@ use Rattle.laws.proofs.Free.{run-left-alone, run-comes-free, all-come-free}
 use Rattle.laws.proofs.SideRuns.{side-alone-in-run}
 use Rattle.laws.proofs.Fairness.{fair}
 use Rattle.laws.proofs.Parties.{run-names, names-after-set-up, parties-apart}
+use Rattle.journal.specs.Files.{Journals}
+use Rattle.journal.proofs.Within.{run-journals}
 use Rattle.runs.specs.Chains.{Step, frameStep, tickStep, sendStep, turnStep, showStep, changeStep, Made, Chain, AfterSetUp, callsOf, outcomesBy, saidBy, leftBy, ownIn, DueIn, historyIn, NamesIn, EachAlone}
 
 -- EACH CALL'S PROMISE says that it answered and left the rule's outcome.
@@ -279,3 +281,10 @@ pub chain-free-after-set-up : (h : Held) (s : Settings) (alike : BerthSettings) 
 chain-free-after-set-up h s alike n ms r ten ts c t enough only-ticks =
     let cards = ap (λ (g : Held). length (g .cards)) (chain-leaves (withNode h n) ms (r .chain)) ∙ ten-run (withNode h n) (callsOf ms) ∙ ten in
     chain-all-come-free (leftBy (withNode h n) ms) ts c (chain-in-order h s alike n ms r) cards t enough only-ticks
+
+-- ---- the journal
+
+-- THE JOURNAL OF THE CODE'S RUN. The entries of any chain of calls are its reports and have the lengths of its messages delivered, and the
+-- writer refuses none.
+pub chain-journals : (h : Held) (ms : List Made) → Chain h ms → Journals (saidBy ms)
+chain-journals h ms c = subst Journals (sym (chain-says h ms c)) (run-journals h (callsOf ms))
