@@ -151,7 +151,7 @@ def lines_with_parties(output, become):
 def goes_by_party(records, output, run):
     """A text of where what is run on the same records with other parties prints other lines, but for the parties that they name."""
     for words, become in OTHERS.items():
-        wanted, got = lines_with_parties(output, become).split(b"\n"), run(with_parties(records, become)).split(b"\n")
+        wanted, got = lines_with_parties(output, become).split(b"\n"), run("scenes", with_parties(records, become)).split(b"\n")
         if wanted != got:
             differ = next((pair for pair in zip(wanted, got) if pair[0] != pair[1]), (b"another number of lines", b""))
             return f"{words}: {differ[0].decode()[:200]} became {differ[1].decode()[:200]}"

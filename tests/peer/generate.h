@@ -95,4 +95,8 @@ void generate_free(uint64_t seed, int nodes);
 /* generate_round.c: scenes streams of turns, with one set of due berths after the other */
 void generate_round(uint64_t seed, int sets);
 
+/* generate_journal.c: journals to be read, and requests of the journal's scenes */
+void generate_journal(uint64_t seed, long records);
+void generate_requests(uint64_t seed, long requests);
+
 #endif

@@ -10,6 +10,7 @@
  *   mutants.*, *_mistakes.h                            mistakes that can be put into them
  *   records.*, world.*, line.*, say.*, program.*       the exerciser and the scenes program
  *   words.c                                            a record in words
+ *   journal.*, noting.c, journal_programs.*            the journal of request W4, and its programs
  *   outcomes.h, counting.h, coverage*                  the outcomes wanted, and their counting
  *   dice.*, generate*                                  streams of records from a seed
  */
@@ -19,18 +20,27 @@
 
 #include "coverage.h"
 #include "generate.h"
+#include "journal_programs.h"
 #include "mutants.h"
 #include "program.h"
 
 static const char usage[] =
     "usage: peer exerciser [cards] [--mutant NAME] [--coverage FILE] < RECORDS\n"
     "       peer scenes [--mutant NAME] [--coverage FILE] < RECORDS\n"
+    "       peer exerciser journal [--mutant NAME] < RECORDS > JOURNAL\n"
+    "       peer journal_reader [--mutant NAME] < JOURNAL\n"
+    "       peer journal_scenes [--mutant NAME] < REQUESTS\n"
     "       peer words exerciser|scenes < RECORDS        each record in words\n"
+    "       peer words exerciser journal < RECORDS       the record of each entry of the journal\n"
+    "       peer words journal_reader < JOURNAL          each record of the journal\n"
+    "       peer words journal_scenes < REQUESTS         each request\n"
     "       peer generate exerciser|scenes SEED COUNT    a stream of COUNT records\n"
     "       peer generate free SEED COUNT                a scenes stream of COUNT nodes that come free\n"
     "       peer generate round SEED COUNT               a scenes stream of turns, with COUNT sets of due berths\n"
     "       peer generate settings SEED COUNT            a scenes stream of COUNT changes of berths' settings\n"
     "       peer generate parties SEED COUNT             a scenes stream of COUNT sends for both parties, and more\n"
+    "       peer generate journal_reader SEED COUNT      a journal of COUNT records, good or not\n"
+    "       peer generate journal_scenes SEED COUNT      a stream of COUNT requests\n"
     "       peer mutants                                 their names and sentences\n";
 
 static int fail(const char *why)
@@ -76,6 +86,63 @@ static int run_with_options(enum program program, bool with_cards, int count, ch
     return run(program, with_cards, coverage_name);
 }
 
+/* The programs of the journal; the exerciser's second word is `journal` then. */
+static const struct journal_program {
+    const char *name, *argument;
+    void (*run)(void);
+    void (*say)(void);
+    void (*generate)(uint64_t, long);
+} journal_programs[] = {
+    { "exerciser", "journal", run_exerciser_journal, say_noted_records, NULL },
+    { "journal_reader", NULL, run_journal_reader, say_journal, generate_journal },
+    { "journal_scenes", NULL, run_journal_scenes, say_requests, generate_requests },
+};
+
+/* The one that these words name, and how many of them do; NULL if there is none. */
+static const struct journal_program *read_journal_program(int count, char **words, int *used)
+{
+    for (size_t i = 0; i < sizeof journal_programs / sizeof journal_programs[0]; i++) {
+        const struct journal_program *program = &journal_programs[i];
+        *used = program->argument != NULL ? 2 : 1;
+        if (count >= *used && strcmp(words[0], program->name) == 0
+            && (program->argument == NULL || strcmp(words[1], program->argument) == 0))
+            return program;
+    }
+    return NULL;
+}
+
+static int run_journal_program(const struct journal_program *program, int count, char **options)
+{
+    if (count != 0 && (count != 2 || strcmp(options[0], "--mutant") != 0))
+        return fail("no such option");
+    if (count == 2 && !choose_mutant(options[1]))
+        return fail("no such mutant");
+    program->run();
+    return 0;
+}
+
+/* False where the words ask for nothing that the journal's programs have. */
+static bool do_for_journal(int count, char **words, int *status)
+{
+    int used;
+    const struct journal_program *program = read_journal_program(count - 1, words + 1, &used);
+    *status = 0;
+    if (program != NULL) {
+        *status = run_journal_program(program, count - 1 - used, words + 1 + used);
+        return true;
+    }
+    program = read_journal_program(count - 2, words + 2, &used);
+    if (program != NULL && strcmp(words[1], "words") == 0 && count == 2 + used) {
+        program->say();
+        return true;
+    }
+    if (program != NULL && strcmp(words[1], "generate") == 0 && count == 5 && program->generate != NULL) {
+        program->generate(strtoull(words[3], NULL, 10), strtol(words[4], NULL, 10));
+        return true;
+    }
+    return false;
+}
+
 /* The scenes streams off whose lines a law is read; false if there is none of this name. */
 static bool generate_for_law(const char *name, uint64_t seed, int number)
 {
@@ -98,6 +165,9 @@ static bool generate_for_law(const char *name, uint64_t seed, int number)
 int main(int count, char **words)
 {
     enum program program;
+    int status;
+    if (do_for_journal(count, words, &status))
+        return status;
     if (count >= 2 && read_program(words[1], &program)) {
         bool with_cards = program == EXERCISER && count >= 3 && strcmp(words[2], "cards") == 0;
         int first = with_cards ? 3 : 2;

@@ -23,6 +23,9 @@ static const struct entry {
 #define AS_UNFROZEN(name, sentence) \
     { "request-W1f-" #name, "does not freeze the card: " sentence, never_freezes(count_##name) },
     COUNTS(AS_UNFROZEN)
+#define AS_TURNED(side, code, verdict) \
+    { "request-W4c-" #side "-" #code, #side " code " #code " is " verdict, code_turned(side_##side, code) },
+    JOURNAL_CODES(AS_TURNED)
 };
 
 enum { ENTRIES = sizeof entries / sizeof entries[0] };

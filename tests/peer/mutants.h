@@ -126,6 +126,10 @@
  * fills all ten, d one of that berth's own calls: nothing else moves, e the ranges, f refusals
  * 1 and 5, g 13, h 14, i 15, j the records of scenes.
  *
+ * W4 by sentence: a each nonzero report one record, b its bytes, c the codes, d berth, kind and length, e the
+ * order, f what the reader accepts is what the writer makes, g the first bad record, h 16, i 17; then
+ * the programs: j the exerciser's count of ticks, k the lines of the journal's reader, l the requests of its scenes.
+ *
  * W5 by sentence: a the due berths, b as ten bits, c the next set bit after the one served
  * last, d every answer as it is, e in each call.
  *
@@ -364,6 +368,137 @@
     X(W3j6, "a state has the settings of berth 0")                                    \
     X(W3j7, "a state has STmin before BS")                                            \
     X(W3j8, "settings out of range are not loaded")                                   \
+    X(W4a1, "a single frame that is delivered gives no record")                       \
+    X(W4a2, "a message of several frames that is delivered gives no record")          \
+    X(W4a3, "Failed 5 gives no record")                                               \
+    X(W4a4, "Failed 6 gives no record")                                               \
+    X(W4a5, "Failed 9 gives no record")                                               \
+    X(W4a6, "an old reception gives no record")                                       \
+    X(W4a7, "an old reception that TooLong ends gives no record")                     \
+    X(W4a8, "TooLong gives a record itself, of receive code 7")                       \
+    X(W4a9, "Begun gives a record, as if it were delivered")                          \
+    X(W4a10, "an ignored frame gives a record, of receive code 5")                    \
+    X(W4a11, "a refused frame gives a record, of receive code 5")                     \
+    X(W4a12, "a refused send gives a record, of send code 9")                         \
+    X(W4a13, "a send that is answered gives a record, of send code 1")                \
+    X(W4a14, "each frame handed over gives a record, of send code 1")                 \
+    X(W4a15, "the last frame of several gives no record")                             \
+    X(W4a16, "a single frame handed over gives no record")                            \
+    X(W4a17, "an owed overflow that times out gives no record")                       \
+    X(W4a18, "a tick gives the records of its first berth only")                      \
+    X(W4a19, "of both codes of a berth only the receive side's gives a record")       \
+    X(W4a20, "of both reports of a frame only the first gives a record")              \
+    X(W4a21, "a tick gives no record of berth 9")                                     \
+    X(W4a22, "Going gives a record, of send code 1")                                  \
+    X(W4a23, "the code 0 beside a receive code gives a record too")                   \
+    X(W4a24, "a header of 16 zeros stands before the records")                        \
+    X(W4a25, "a line end stands behind each record")                                  \
+    X(W4a26, "a bad record gives a record, of receive code 5")                        \
+    X(W4a27, "a last part under 16 bytes gives a record of zeros")                    \
+    X(W4a28, "of equal records one behind the other only the first is written")       \
+    X(W4b1, "the tick count has its low byte first")                                  \
+    X(W4b2, "the length has its low byte first")                                      \
+    X(W4b3, "the two zeros stand before the length")                                  \
+    X(W4b4, "the berth stands before the kind")                                       \
+    X(W4b5, "the code stands before the berth")                                       \
+    X(W4b6, "1 is send and 2 is receive")                                             \
+    X(W4b7, "the zero stands before the code")                                        \
+    X(W4b8, "four bytes of the tick count are written")                               \
+    X(W4b9, "one byte of the length is written")                                      \
+    X(W4b10, "byte 3 is left as it was")                                              \
+    X(W4b11, "bytes 6 and 7 are left as they were")                                   \
+    X(W4b12, "bytes 6 and 7 hold the length once more")                               \
+    X(W4b13, "four bytes of the tick count are read")                                 \
+    X(W4b14, "a tick count from 2^63 on is below 0, and refused")                     \
+    X(W4b15, "one byte of the length is read")                                        \
+    X(W4c1, "the two lists of codes are exchanged")                                   \
+    X(W4c2, "a code of either list is taken for both sides")                          \
+    X(W4c3, "the writer takes any code")                                              \
+    X(W4c4, "the reader takes any code")                                              \
+    X(W4d1, "berth 10 is taken")                                                      \
+    X(W4d2, "berth 9 is refused")                                                     \
+    X(W4d3, "berth 0 is refused")                                                     \
+    X(W4d4, "only the low byte of a berth counts")                                    \
+    X(W4d5, "kind 0 is taken")                                                        \
+    X(W4d6, "kind 3 is taken")                                                        \
+    X(W4d7, "a delivered length of 0 is taken")                                       \
+    X(W4d8, "a delivered length of 1 is refused")                                     \
+    X(W4d9, "a delivered length of 4,095 is refused")                                 \
+    X(W4d10, "a delivered length of 4,096 is taken")                                  \
+    X(W4d11, "only the low two bytes of a length count")                              \
+    X(W4d12, "a length beside any receive code is taken")                             \
+    X(W4d13, "a length beside send code 1 is taken")                                  \
+    X(W4d14, "a length beside the other send codes is taken")                         \
+    X(W4d15, "send code 1 needs a length too")                                        \
+    X(W4d16, "the writer leaves out a length that should be 0")                       \
+    X(W4d17, "the record of a message sent has its length")                           \
+    X(W4d18, "the record of the old reception has the new message's length")          \
+    X(W4d19, "a delivered record has length 0")                                       \
+    X(W4d20, "the record of a message sent has the berth served before it")           \
+    X(W4d21, "the record of a message sent has the number of berths passed over")     \
+    X(W4d22, "a tick's records count the berths from 1")                              \
+    X(W4d23, "Failed 6 and 9 are the receive side's")                                 \
+    X(W4d24, "Failed 5 is the send side's")                                           \
+    X(W4e1, "a frame's old reception comes last")                                     \
+    X(W4e2, "a tick's records go from berth 9 down")                                  \
+    X(W4e3, "a tick's records go send before receive")                                \
+    X(W4e4, "all receive records of a tick go before all send records")               \
+    X(W4f1, "the reader does not look at byte 3")                                     \
+    X(W4f2, "the reader does not look at byte 6")                                     \
+    X(W4f3, "the reader does not look at byte 7")                                     \
+    X(W4f4, "the reader looks at the low two bits of a kind")                         \
+    X(W4f5, "the reader looks at the low four bits of a berth")                       \
+    X(W4f6, "the reader takes any berth")                                             \
+    X(W4f7, "the reader looks at the length of a delivered one only")                 \
+    X(W4f8, "the reader takes any delivered length")                                  \
+    X(W4f9, "the reader refuses a tick count of 0")                                   \
+    X(W4f10, "a tick count below that of the record before makes a record bad")       \
+    X(W4f11, "the reader refuses the highest tick count")                             \
+    X(W4f12, "the reader refuses more than 16 bytes")                                 \
+    X(W4f13, "the reader takes the last 16 bytes")                                    \
+    X(W4g1, "the number of the first bad record counts from 0")                       \
+    X(W4g2, "a last part under 16 bytes is left out")                                 \
+    X(W4g3, "a last part under 16 bytes counts as a good one")                        \
+    X(W4g4, "the last bad record's number is told")                                   \
+    X(W4g5, "the number of bad records is told")                                      \
+    X(W4g6, "only the first record is looked at")                                     \
+    X(W4g7, "the reader goes on behind a bad record")                                 \
+    X(W4g8, "15 bytes will do for a record")                                          \
+    X(W4g9, "an empty file has a bad record")                                         \
+    X(W4g10, "a last part under 16 bytes has the number of the record before it")     \
+    X(W4h1, "a room of 15 bytes will do")                                             \
+    X(W4h2, "a room of 16 bytes is refused")                                          \
+    X(W4h3, "a room of 17 bytes is refused")                                          \
+    X(W4h4, "17 is tested before 16")                                                 \
+    X(W4h5, "bytes past 16 are cleared")                                              \
+    X(W4h6, "what has room is written though it is refused with 16")                  \
+    X(W4i1, "a write refused with 17 clears the 16 bytes")                            \
+    X(W4i2, "a write refused with 17 is made all the same")                           \
+    X(W4i3, "no room is refused with 17")                                             \
+    X(W4i4, "a read of under 16 bytes is refused with 16")                            \
+    X(W4i5, "an entry outside the rules is refused with 16")                          \
+    X(W4j1, "a tick's records carry the count before it")                             \
+    X(W4j2, "the count of ticks starts with 1")                                       \
+    X(W4j3, "a bad record of kind 2 counts as a tick")                                \
+    X(W4j4, "every record counts as a tick")                                          \
+    X(W4j5, "only a tick with a code counts")                                         \
+    X(W4j6, "a turn counts as a tick")                                                \
+    X(W4j7, "a frame's records carry the count of the next tick")                     \
+    X(W4k1, "the reader's lines count from 0")                                        \
+    X(W4k2, "the reader prints the tick count in hex")                                \
+    X(W4k3, "the reader prints a tick count from 2^63 on as one below 0")             \
+    X(W4k4, "the reader prints the length of every receive record")                   \
+    X(W4k5, "the reader prints the length of every N_OK")                             \
+    X(W4k6, "the names of codes 3 and 4 are exchanged")                               \
+    X(W4k7, "the names of codes 6 and 9 are exchanged")                               \
+    X(W4k8, "the names of codes 5 and 7 are exchanged")                               \
+    X(W4k9, "the names of codes 1 and 2 are exchanged")                               \
+    X(W4k10, "the words receive and send are exchanged")                              \
+    X(W4k11, "the line of a bad record has its number first")                         \
+    X(W4l1, "a request with 48 bytes is bad")                                         \
+    X(W4l2, "byte 20 of a request to write is not looked at")                         \
+    X(W4l3, "byte 2 of a request to read or check is not looked at")                  \
+    X(W4l4, "what stands behind the bytes to read or check is not looked at")         \
     X(W5a1, "an owed overflow sets no bit")                                           \
     X(W5a2, "an owed go sets no bit")                                                 \
     X(W5a3, "a single due sets no bit")                                               \
@@ -594,16 +729,31 @@
 enum { NO_MUTANT, MUTANTS(AS_MUTANT) REQUEST_MUTANTS(AS_MUTANT) MUTANT_COUNT };
 #undef AS_MUTANT
 
+/* What mutants make of the codes of a journal's records, code by code, where the rules say the opposite. */
+#define JOURNAL_CODES(X)                                                              \
+    X(receive, 0, "taken") X(receive, 1, "refused") X(receive, 2, "refused")          \
+    X(receive, 3, "taken") X(receive, 4, "refused") X(receive, 5, "refused")          \
+    X(receive, 6, "taken") X(receive, 7, "refused") X(receive, 8, "taken")            \
+    X(receive, 9, "taken") X(receive, 10, "taken")                                    \
+    X(send, 0, "taken") X(send, 1, "refused") X(send, 2, "refused")                   \
+    X(send, 3, "refused") X(send, 4, "taken") X(send, 5, "taken")                     \
+    X(send, 6, "refused") X(send, 7, "taken") X(send, 8, "taken")                     \
+    X(send, 9, "refused") X(send, 10, "taken")
+
+enum { CODE_TURNED_MAX = 10, side_receive = 1, side_send };
+
 /*
  * Beside these stand one mutant for each range of the order, which drops that
- * range, and two for each count of a card: one never raises it, the other does
- * not freeze the card for it.
+ * range, two for each count of a card: one never raises it, the other does
+ * not freeze the card for it, and one for each code of a journal's records.
  */
 extern int mutant;
 
 #define range_dropped(fault) (MUTANT_COUNT + (fault))
 #define never_raised(count) (MUTANT_COUNT + FAULT_COUNT + (count))
 #define never_freezes(count) (MUTANT_COUNT + FAULT_COUNT + COUNT_KINDS + (count))
+#define code_turned(kind, code) \
+    (MUTANT_COUNT + FAULT_COUNT + 2 * COUNT_KINDS + (int)(kind) * (CODE_TURNED_MAX + 1) + (int)(code))
 
 /*
  * rule(8, 99a, 7) reads: the rule is 8, and the mutant of corner 99a has 7.

@@ -19,8 +19,10 @@ use Rattle.rules.specs.declared.BerthSettings.{BerthSettings}
 use Rattle.records.specs.Records.{recordOf, risingFrom}
 use Rattle.records.specs.declared.record.Record.{Record}
 use Rattle.text.specs.Building.{textOf}
-use Rattle.text.specs.Answers.{answerText, badText, shortText}
-use Rattle.text.specs.declared.building.Text.{Text}
+use Rattle.text.specs.Answers.{badText, shortText}
+use Rattle.exerciser.specs.declared.Left.{Left}
+use Rattle.exerciser.specs.declared.printed.How.{How}
+use Rattle.exerciser.specs.Printed.{countAfter, printed}
 
 -- A 1,000; BS 8, STmin 00 at every berth
 abbrev pub settings : Settings
@@ -54,26 +56,37 @@ asks d (Record.Send k long first) = send k theScheduler (risingFrom first long) 
 asks d Record.Turn = turn turnBuffer ∷ []
 asks d Record.Bad = []
 
--- the text of its answer; without a call `short` for a part under 16 bytes, else `bad`
-unfoldable pub textFor : ℕ → List ℕ → List Answer → List ℕ
-textFor number d (answer ∷ _) = answerText number answer
-textFor number d [] = pick (ltb (length d) recordLength) (shortText number) (badText number)
+-- the text of its answer; without a call `short` for a part under 16 bytes, else `bad`, and in a journal nothing
+unfoldable pub textFor : How → List ℕ → List Answer → List ℕ
+textFor how d (answer ∷ _) = printed how answer
+textFor how d [] =
+    pick (how .journal) [] (pick (ltb (length d) recordLength) (shortText (how .number)) (badText (how .number)))
 
--- ---- a step: the text that a record prints, and the node, the cards and the stores after it
+-- the tick count after its answer; without a call it stays
+unfoldable pub countFor : ℕ → List Answer → ℕ
+countFor t (answer ∷ _) = countAfter answer t
+countFor t [] = t
 
-unfoldable pub stepText : ℕ → List ℕ → Held → List ℕ
-stepText number d h = textFor number d (answers h (asks d (recordOf d)))
+-- ---- a step: the text that a record prints, and the tick count, the node, the cards and the stores after it
+
+unfoldable pub stepText : How → List ℕ → Held → List ℕ
+stepText how d h = textFor how d (answers h (asks d (recordOf d)))
+
+unfoldable pub stepCount : ℕ → List ℕ → Held → ℕ
+stepCount t d h = countFor t (answers h (asks d (recordOf d)))
 
 unfoldable pub stepHeld : List ℕ → Held → Held
 stepHeld d h = final h (asks d (recordOf d))
 
-pub record Steps (number : ℕ) (d : List ℕ) (h : Held) (text : Text) (h′ : Held) : Type 0 where
-  pub prints : textOf text ≡ stepText number d h
+pub record Steps (how : How) (d : List ℕ) (h : Held) (left : Left) (h′ : Held) : Type 0 where
+  pub prints : textOf (left .text) ≡ stepText how d h
+  pub counts : left .tick ≡ stepCount (how .tick) d h
   pub leaves : h′ ≡ stepHeld d h
 
--- one call of a step: its text, and what it leaves
-pub record Does (number : ℕ) (h : Held) (call : Call) (text : Text) (h′ : Held) : Type 0 where
-  pub prints : textOf text ≡ answerText number (outcome h call .answer)
+-- one call of a step: its text, the tick count, and what it leaves
+pub record Does (how : How) (h : Held) (call : Call) (left : Left) (h′ : Held) : Type 0 where
+  pub prints : textOf (left .text) ≡ printed how (outcome h call .answer)
+  pub counts : left .tick ≡ countAfter (outcome h call .answer) (how .tick)
   pub leaves : h′ ≡ outcome h call .held
 
 -- whatever the store is that a call is not given

@@ -1,22 +1,21 @@
 -- A turn of the exerciser's loop. What is read is free, and it tells all else: the step of the record that stands next, its text put
--- to the output, and the next number; or the end, where nothing stands next.
-use Prim.Native.Nat.{ℕ, _+_, _-_, _%_, _^_}
+-- to the output, the next number and the tick count; or the end, where nothing stands next.
+use Prim.Native.Nat.{ℕ, _-_}
 use mathlib.Core.Path.{_≡_}
-use mathlib.Core.Bool.{Bool, true, false}
+use mathlib.Core.Bool.{Bool, false}
 use mathlib.Core.List.{List}
 use lib.ListN.{take, drop}
 use Rattle.rules.specs.Tests.{pick}
 use Rattle.rules.specs.Nodes.{Held}
 use Rattle.node.specs.Promises.{lent}
-use Rattle.reading.specs.Input.{NextPromise}
+use Rattle.reading.specs.Input.{ends, NextPromise}
 use Rattle.reading.specs.Output.{sinkAfter, bufferAfter}
 use Rattle.reading.specs.declared.input.Kind.{Kind}
 use Rattle.reading.specs.declared.input.Next.{Next}
 use Rattle.reading.specs.declared.input.Source.{Source}
-use Rattle.reading.specs.declared.input.Part.{Part}
-use Rattle.reading.specs.declared.input.Part.the-variants.{Whole, Cut, Long, End}
 use Rattle.exerciser.specs.declared.Progress.{Progress}
-use Rattle.exerciser.specs.Steps.{lentCards, recordLength, stepText, stepHeld}
+use Rattle.exerciser.specs.Printed.{nextHow}
+use Rattle.exerciser.specs.Steps.{lentCards, recordLength, stepText, stepCount, stepHeld}
 
 -- what goes from one turn to the next, with what is lent
 pub record Running : Type 0 where
@@ -29,17 +28,20 @@ pub record Running : Type 0 where
 abbrev pub running : Progress → List ℕ → List ℕ → List ℕ → Running
 running p incoming outgoing output = record { progress = p; incoming = incoming; outgoing = outgoing; output = output }
 
--- the node, the cards and the stores that the next step is lent, and the text that it will print
+-- the node, the cards and the stores that the next step is lent, the text that it will print, and the tick count then
 abbrev pub lentIn : Running → Held
 lentIn r = lent (r .progress .node) (lentCards (r .progress .cards)) (r .incoming) (r .outgoing)
 
 abbrev pub nextText : Running → List ℕ → List ℕ
-nextText r d = stepText (r .progress .number) d (lentIn r)
+nextText r d = stepText (r .progress .how) d (lentIn r)
 
--- a record's turn: its step, the next number, its text put to the output
+abbrev pub nextCount : Running → List ℕ → ℕ
+nextCount r d = stepCount (r .progress .how .tick) d (lentIn r)
+
+-- a record's turn: its step, the next number and the tick count, its text put to the output
 pub record Stepped (r : Running) (d : List ℕ) (r′ : Running) : Type 0 where
   pub leaves : lentIn r′ ≡ stepHeld d (lentIn r)
-  pub counts : r′ .progress .number ≡ (r .progress .number + 1) % 2 ^ 64
+  pub counts : r′ .progress .how ≡ nextHow (r .progress .how) (nextCount r d)
   pub goes-on : r′ .progress .more ≡ r .progress .more
   pub reads : r′ .progress .source ≡ r .progress .source
   pub collects : r′ .progress .sink ≡ sinkAfter (r .progress .sink) (r .output) (nextText r d)
@@ -53,7 +55,7 @@ withSource r source more =
           record {
             node = r .progress .node;
             cards = r .progress .cards;
-            number = r .progress .number;
+            how = r .progress .how;
             source = source;
             sink = r .progress .sink;
             more = more;
@@ -62,13 +64,6 @@ withSource r source more =
       outgoing = r .outgoing;
       output = r .output;
     }
-
--- nothing stands next
-unfoldable pub ends : Part → Bool
-ends Whole = false
-ends Cut = false
-ends Long = false
-ends End = true
 
 -- whatever is read, the record that stands next has its turn; or the run stops
 pub record Turns (input : List ℕ) (r : Running) (input′ : List ℕ) (r′ : Running) : Type 0 where

@@ -1,7 +1,9 @@
 // The exerciser of paper 01: records of sixteen bytes from standard input, a line of text for each to standard output. It keeps
-// a card for each berth (paper 02, W1), and with the word `cards` it prints their lines after its last one.
+// a card for each berth (paper 02, W1), and with the word `cards` it prints their lines after its last one. With the word `journal` it
+// prints no lines, but the journal of its run (paper 02, W4).
 mod asked;
 mod lines;
+mod printed;
 
 ghost use Prim.Native.Nat.{_≤_};
 ghost use mathlib.Core.Path.{_≡_};
@@ -12,9 +14,11 @@ ghost use Rattle.node.specs.Promises.{lent};
 ghost use Rattle.records.specs.Records.{risingFrom};
 ghost use Rattle.text.specs.Building.{textOf};
 ghost use Rattle.exerciser.specs.Lines.{said, lastOutput};
+ghost use Rattle.exerciser.specs.Printed.{firstHow};
 ghost use Rattle.exerciser.specs.Steps.{firstNode, firstCards, lentCards, turnBuffer, textFor, Whatever, Does, Steps};
 ghost use Rattle.exerciser.specs.Turns.{running, Stepped, Turns};
 use crate::asked::Asked;
+use crate::printed::How;
 use libc::STDIN_FILENO;
 use libc::STDOUT_FILENO;
 use reading::input::Kind;
@@ -37,11 +41,12 @@ const RECORD: usize = 16;
 // Of the twelve cards that carumpek::local takes, those of the berths are lent.
 const LENT: usize = 10;
 
-// What a record leaves beside the stores: its text, the node and the cards.
+// What a record leaves beside the stores: its text, the node, the cards and the tick count.
 struct Left {
     text: Text,
     node: Node,
     cards: [Card; 12],
+    tick: u64,
 }
 
 fn first_node() -> Node
@@ -51,43 +56,45 @@ fn first_node() -> Node
 }
 
 fn heard(
-    number: u64,
+    how: How,
     node: Node,
     cards: [Card; 12],
     incoming: &mut [u8],
     identifier: u32,
     payload: &[u8],
 ) -> Left
-    ensures { λ r. ⌜ Whatever (λ outgoing. Does number (lent node (lentCards cards) (now (incoming .entry)) outgoing) (frame identifier (now (payload .entry))) (r .text) (lent (r .node) (lentCards (r .cards)) (now (incoming .exit)) outgoing)) ⌝ }
+    ensures { λ r. ⌜ Whatever (λ outgoing. Does how (lent node (lentCards cards) (now (incoming .entry)) outgoing) (frame identifier (now (payload .entry))) r (lent (r .node) (lentCards (r .cards)) (now (incoming .exit)) outgoing)) ⌝ }
 {
     let out = carumpek::local::frame(node, cards, LENT, incoming, identifier, payload);
     let answer = out.answer;
     let after = out.node;
     let counted = out.cards;
     Left {
-        text: text::answers::frame(number, answer),
+        text: printed::frame(how, answer),
         node: after,
         cards: counted,
+        tick: how.tick,
     }
 }
 
-fn ticked(number: u64, node: Node, cards: [Card; 12]) -> Left
-    ensures { λ r. ⌜ Whatever (λ incoming. Whatever (λ outgoing. Does number (lent node (lentCards cards) incoming outgoing) tick (r .text) (lent (r .node) (lentCards (r .cards)) incoming outgoing))) ⌝ }
+fn ticked(how: How, node: Node, cards: [Card; 12]) -> Left
+    ensures { λ r. ⌜ Whatever (λ incoming. Whatever (λ outgoing. Does how (lent node (lentCards cards) incoming outgoing) tick r (lent (r .node) (lentCards (r .cards)) incoming outgoing))) ⌝ }
 {
     let out = carumpek::local::tick(node, cards, LENT);
     let answer = out.answer;
     let after = out.node;
     let counted = out.cards;
     Left {
-        text: text::answers::tick(number, answer),
+        text: printed::tick(how, answer),
         node: after,
         cards: counted,
+        tick: printed::count(how.tick, answer),
     }
 }
 
 // The scheduler sends. A send is lent no cards.
 fn sent(
-    number: u64,
+    how: How,
     node: Node,
     cards: [Card; 12],
     outgoing: &mut [u8],
@@ -96,7 +103,7 @@ fn sent(
     first: u8,
 ) -> Left
     requires { ⌜ length ≤ 1001 ⌝ }
-    ensures { λ r. ⌜ Whatever (λ incoming. Does number (lent node (lentCards cards) incoming (now (outgoing .entry))) (send berth theScheduler (risingFrom first length)) (r .text) (lent (r .node) (lentCards (r .cards)) incoming (now (outgoing .exit)))) ⌝ }
+    ensures { λ r. ⌜ Whatever (λ incoming. Does how (lent node (lentCards cards) incoming (now (outgoing .entry))) (send berth theScheduler (risingFrom first length)) r (lent (r .node) (lentCards (r .cards)) incoming (now (outgoing .exit)))) ⌝ }
 {
     let mut message = [0u8; 1001];
     records::message::rise(&mut message, first);
@@ -111,14 +118,15 @@ fn sent(
     let answer = out.answer;
     let after = out.node;
     Left {
-        text: text::answers::send(number, answer),
+        text: printed::send(how, answer),
         node: after,
         cards: cards,
+        tick: how.tick,
     }
 }
 
-fn turned(number: u64, node: Node, cards: [Card; 12], outgoing: &[u8]) -> Left
-    ensures { λ r. ⌜ Whatever (λ incoming. Does number (lent node (lentCards cards) incoming (now (outgoing .entry))) (turn turnBuffer) (r .text) (lent (r .node) (lentCards (r .cards)) incoming (now (outgoing .entry)))) ⌝ }
+fn turned(how: How, node: Node, cards: [Card; 12], outgoing: &[u8]) -> Left
+    ensures { λ r. ⌜ Whatever (λ incoming. Does how (lent node (lentCards cards) incoming (now (outgoing .entry))) (turn turnBuffer) r (lent (r .node) (lentCards (r .cards)) incoming (now (outgoing .entry)))) ⌝ }
 {
     let mut buffer = [0u8; 8];
     let out = carumpek::local::turn(node, cards, LENT, outgoing, &mut buffer);
@@ -126,51 +134,56 @@ fn turned(number: u64, node: Node, cards: [Card; 12], outgoing: &[u8]) -> Left
     let after = out.node;
     let counted = out.cards;
     Left {
-        text: text::answers::turn(number, answer, &buffer),
+        text: printed::turn(how, answer, &buffer),
         node: after,
         cards: counted,
+        tick: how.tick,
     }
 }
 
-// A record that asks for no call.
-fn none(number: u64, bytes: &[u8]) -> Text
-    ensures { λ r. ⌜ textOf r ≡ textFor number (now (bytes .entry)) [] ⌝ }
+// A record that asks for no call, of which a journal has nothing.
+fn none(how: How, bytes: &[u8]) -> Text
+    ensures { λ r. ⌜ textOf r ≡ textFor how (now (bytes .entry)) [] ⌝ }
 {
-    if bytes.len() < RECORD {
-        return text::answers::short(number);
+    if how.journal {
+        return Text::empty();
     }
-    text::answers::bad(number)
+    if bytes.len() < RECORD {
+        return text::answers::short(how.number);
+    }
+    text::answers::bad(how.number)
 }
 
 // What one record does.
 fn step(
-    number: u64,
+    how: How,
     bytes: &[u8],
     node: Node,
     cards: [Card; 12],
     incoming: &mut [u8],
     outgoing: &mut [u8],
 ) -> Left
-    ensures { λ r. ⌜ Steps number (now (bytes .entry)) (lent node (lentCards cards) (now (incoming .entry)) (now (outgoing .entry))) (r .text) (lent (r .node) (lentCards (r .cards)) (now (incoming .exit)) (now (outgoing .exit))) ⌝ }
+    ensures { λ r. ⌜ Steps how (now (bytes .entry)) (lent node (lentCards cards) (now (incoming .entry)) (now (outgoing .entry))) r (lent (r .node) (lentCards (r .cards)) (now (incoming .exit)) (now (outgoing .exit))) ⌝ }
 {
     let record = records::record::read(bytes);
     match record {
         Record::Bad => Left {
-            text: none(number, bytes),
+            text: none(how, bytes),
             node: node,
             cards: cards,
+            tick: how.tick,
         },
         Record::Frame { identifier, length } => {
             let end = 8 + length as usize;
-            heard(number, node, cards, incoming, identifier, &bytes[8..end])
+            heard(how, node, cards, incoming, identifier, &bytes[8..end])
         }
-        Record::Tick => ticked(number, node, cards),
+        Record::Tick => ticked(how, node, cards),
         Record::Send {
             berth,
             length,
             first,
-        } => sent(number, node, cards, outgoing, berth, length, first),
-        Record::Turn => turned(number, node, cards, outgoing),
+        } => sent(how, node, cards, outgoing, berth, length, first),
+        Record::Turn => turned(how, node, cards, outgoing),
     }
 }
 
@@ -178,19 +191,23 @@ fn step(
 struct Progress {
     node: Node,
     cards: [Card; 12],
-    number: u64,
+    how: How,
     source: Source,
     sink: Sink,
     more: bool,
 }
 
-fn first() -> Progress
-    ensures { λ r. ⌜ (r .node ≡ firstNode) × (lentCards (r .cards) ≡ firstCards) × (r .number ≡ 1) ⌝ }
+fn first(journal: bool) -> Progress
+    ensures { λ r. ⌜ (r .node ≡ firstNode) × (lentCards (r .cards) ≡ firstCards) × (r .how ≡ firstHow journal) ⌝ }
 {
     Progress {
         node: first_node(),
         cards: [Card::zero(); 12],
-        number: 1,
+        how: How {
+            journal: journal,
+            number: 1,
+            tick: 0,
+        },
         source: Source::of(STDIN_FILENO),
         sink: Sink::of(STDOUT_FILENO),
         more: true,
@@ -209,7 +226,8 @@ fn run_part(
 {
     let node = before.node;
     let cards = before.cards;
-    let left = step(before.number, part, node, cards, incoming, outgoing);
+    let how = before.how;
+    let left = step(how, part, node, cards, incoming, outgoing);
     let next = left.node;
     let counted = left.cards;
     let text = left.text;
@@ -217,7 +235,7 @@ fn run_part(
     let mut after = before;
     after.node = next;
     after.cards = counted;
-    after.number = std::num::wrapping_add_u64(before.number, 1);
+    after.how = how.next(left.tick);
     after.sink = sink.say(output, text);
     after
 }
@@ -262,8 +280,15 @@ fn close(last: Progress, lines: bool, output: &mut [u8])
 
 // A proved loop has to end, and nothing says that the input does. So the loop counts its turns down, from a number that no run
 // uses up.
-fn run(lines: bool, input: &mut [u8], incoming: &mut [u8], outgoing: &mut [u8], output: &mut [u8]) {
-    let mut progress = first();
+fn run(
+    lines: bool,
+    journal: bool,
+    input: &mut [u8],
+    incoming: &mut [u8],
+    outgoing: &mut [u8],
+    output: &mut [u8],
+) {
+    let mut progress = first(journal);
     let mut turns = u64::MAX;
     while turns > 0 && progress.more {
         progress = run_next(progress, input, incoming, outgoing, output);
@@ -272,19 +297,27 @@ fn run(lines: bool, input: &mut [u8], incoming: &mut [u8], outgoing: &mut [u8], 
     close(progress, lines, output);
 }
 
-fn start(lines: bool) {
+fn start(lines: bool, journal: bool) {
     let mut input = io::large_buffer();
     let mut output = io::large_buffer();
     let mut incoming = [0u8; 10000];
     let mut outgoing = [0u8; 10000];
-    run(lines, &mut input, &mut incoming, &mut outgoing, &mut output);
+    run(
+        lines,
+        journal,
+        &mut input,
+        &mut incoming,
+        &mut outgoing,
+        &mut output,
+    );
 }
 
 fn main() {
     let asked = asked::read();
     match asked {
-        Asked::Records => start(false),
-        Asked::Cards => start(true),
+        Asked::Records => start(false, false),
+        Asked::Cards => start(true, false),
+        Asked::Journal => start(false, true),
         Asked::Other => asked::refuse(),
     }
 }

@@ -6,18 +6,23 @@ use native.Mathlib.Omega.{arith}
 use native.Mathlib.Nat.{zero-add}
 use mathlib.Core.Bool.{Bool, true, false}
 use mathlib.Core.List.{List, [], _∷_, _++_, map, append-assoc, append-nil}
-use lib.Dec.{leb, eqb}
-use Rattle.rules.specs.Tests.{pick}
-use Rattle.rules.specs.Numbers.{toBerth, N-OK}
+use lib.Dec.{leb, ltb}
+use Rattle.rules.specs.Tests.{pick, unless}
+use Rattle.rules.specs.Numbers.{berthCount, toBerth, N-OK}
 use Rattle.rules.specs.Parties.{scheduler}
+use Rattle.rules.specs.Nodes.{Held}
+use Rattle.rules.specs.Stores.{passedOver}
+use Rattle.rules.specs.Events.{Call}
+use Rattle.rules.specs.Refusals.{refusal}
+use Rattle.rules.specs.Calls.{done, reply, written, bufferOf, refusedOutcome, outcome}
 use Rattle.rules.specs.Answers.{Answer, refused, ready, heard, codes, sent, handed, none, shown, changed, Side, receive, send, failedSide, reported, wordReports, codesReports, reports}
 use Rattle.rules.specs.declared.Party.{Party}
 use Rattle.rules.specs.declared.Codes.{Codes}
 use Rattle.rules.specs.declared.Word.{Word}
 use Rattle.rules.specs.declared.Word.the-variants.{Delivered, Begun, Failed, Ignored, TooLong, Took, Going, Waiting}
 use Rattle.journal.specs.Entries.{noted, wordEntries, codesEntries, entriesOf, isTick, ticksAfter, journalFrom, journalOf}
-use Rattle.journal.specs.Files.{bareEntry, bareReport, reportsOf, answeredTicks, AllAt, Adds}
-use Rattle.rules.proofs.Cases.{is-true, is-false, pick-either}
+use Rattle.journal.specs.Files.{bareEntry, bareReport, reportsOf, answeredTicks, answersTick, AllAt, Adds}
+use Rattle.rules.proofs.Cases.{is-true, is-false, eqb-is, eqb-not, pick-either}
 use Rattle.journal.specs.declared.Entry.{Entry}
 
 map-append : {X Y : Type 0} (f : X → Y) (xs ys : List X) → map f (xs ++ ys) ≡ map f xs ++ map f ys
@@ -151,3 +156,23 @@ call-adds rs a =
           ∙ rw zero-add (ap (λ (l : List Entry). journalOf rs ++ l) (append-nil _ ∙ ap (entriesOf a) e));
       ticks = at-answer a n;
     }
+
+-- WHAT IS COUNTED: a call's answer is that of an answered tick exactly if the call is a tick that is not refused.
+pub counts-answered : (h : Held) (c : Call) → isTick (outcome h c .answer) ≡ answersTick h c
+unfolding outcome refusedOutcome answersTick isTick reply
+counts-answered h c = go c (refusal h c) refl
+  where
+    go : (c : Call) (n : ℕ) → refusal h c ≡ n
+        → isTick (unless n (refusedOutcome h (bufferOf c)) (record { answer = reply h c; held = done h c; buffer = written h c }) .answer) ≡ answersTick h c
+    go (Call.frame id d) zero e = refl
+    go (Call.frame id d) (suc n) e = refl
+    go Call.tick zero e = sym (eqb-is (refusal h Call.tick) 0 e)
+    go Call.tick (suc n) e = sym (eqb-not (refusal h Call.tick) 0 (λ z. omega arith))
+    go (Call.send k party m) zero e = refl
+    go (Call.send k party m) (suc n) e = refl
+    go (Call.turn buffer) zero e = pick-either (λ (a : Answer). isTick a ≡ false) (ltb (passedOver (h .node)) berthCount) _ _ (λ u. refl) (λ u. refl)
+    go (Call.turn buffer) (suc n) e = refl
+    go (Call.show k choice) zero e = refl
+    go (Call.show k choice) (suc n) e = refl
+    go (Call.change k parameter value) zero e = refl
+    go (Call.change k parameter value) (suc n) e = refl

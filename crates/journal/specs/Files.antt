@@ -1,10 +1,14 @@
 -- What the laws of the journal say: the file of some entries, entries and reports compared, and what is read off a run's answers.
 use Prim.Native.Nat.{ℕ, _+_, _^_, _<_}
 use mathlib.Core.Path.{_≡_}
-use mathlib.Core.Bool.{true}
+use mathlib.Core.Bool.{Bool, true, false}
 use mathlib.Core.List.{List, [], _∷_, _++_, map}
 use lib.ListN.{length}
+use lib.Dec.{eqb}
 use Rattle.rules.specs.Tests.{pick}
+use Rattle.rules.specs.Nodes.{Held}
+use Rattle.rules.specs.Events.{Call}
+use Rattle.rules.specs.Refusals.{refusal}
 use Rattle.rules.specs.Answers.{Answer, refused, ready, heard, codes, sent, handed, none, shown, changed, Report, reports}
 use Rattle.rules.specs.declared.Word.{Word}
 use Rattle.rules.specs.declared.Word.the-variants.{Delivered, Begun, Failed, Ignored, TooLong, Took, Going, Waiting}
@@ -100,6 +104,15 @@ lengthsSaid (a ∷ rs) = answerLengths a ++ lengthsSaid rs
 unfoldable pub answeredTicks : List Answer → ℕ
 answeredTicks [] = 0
 answeredTicks (a ∷ rs) = pick (isTick a) 1 0 + answeredTicks rs
+
+-- a call that is a tick and is not refused
+unfoldable pub answersTick : Held → Call → Bool
+answersTick h (Call.frame id d) = false
+answersTick h Call.tick = eqb (refusal h Call.tick) 0
+answersTick h (Call.send k party m) = false
+answersTick h (Call.turn buffer) = false
+answersTick h (Call.show k choice) = false
+answersTick h (Call.change k parameter value) = false
 
 -- every entry of a list has this tick
 unfoldable pub AllAt : ℕ → List Entry → Type 0

@@ -1,7 +1,7 @@
 -- Input that goes through a buffer: what stands next in it, and what a refill leaves.
 use Prim.Native.Nat.{ℕ, _+_, _-_, _≤_, min}
 use mathlib.Core.Path.{_≡_}
-use mathlib.Core.Bool.{Bool, true, not}
+use mathlib.Core.Bool.{Bool, true, false, not}
 use mathlib.Core.List.{List}
 use lib.ListN.{length, take}
 use lib.IntN.{ℤ}
@@ -38,6 +38,13 @@ extent Kind.Line bytes = indexOf LF bytes
 unfoldable pub behind : Kind → ℕ
 behind (Kind.Record size) = 0
 behind Kind.Line = 1
+
+-- nothing stands next
+unfoldable pub ends : Part → Bool
+ends Whole = false
+ends Cut = false
+ends Long = false
+ends End = true
 
 -- an answer, from the first byte that is held on, and where the next one starts
 abbrev pub answer : Source → Part → ℕ → ℕ → Next

@@ -1,5 +1,5 @@
--- No text of the exerciser is longer than the room for one, and none of a card: each number has at most the places of its type, a
--- frame has eight bytes, a tick ten berths and a card nine counts. So nothing is ever clipped.
+-- No text of the exerciser is longer than the room for one, and none of a card or of an entry: each number has at most the places of
+-- its type, a frame has eight bytes, a tick ten berths and a card nine counts. So nothing is ever clipped.
 use mathlib.Core.Path.{_≡_, refl}
 use Prim.Native.Nat.{ℕ, suc, _+_, _*_, _≤_, _<_}
 use native.Mathlib.Omega.{arith}
@@ -14,9 +14,12 @@ use Rattle.rules.specs.declared.Word.the-variants.{Delivered, Begun, Failed, Ig
 use Rattle.rules.specs.declared.Codes.{Codes}
 use Rattle.rules.specs.Cards.{frozen}
 use Rattle.rules.specs.declared.Card.{Card}
+use Rattle.journal.specs.Records.{receiveKind, sendKind, delivered}
+use Rattle.journal.specs.declared.Entry.{Entry}
 use Rattle.text.specs.Building.{clipped, decimal, hexText}
 use Rattle.text.specs.Answers.{idText, wordText, codeText, codesText, wordsOf, numberedText, answerText, badText, shortText}
-use Rattle.text.specs.Cards.{frozenName, frozenText, failedText, restText, spacedText, countedText, cardLine, cardText}
+use Rattle.text.specs.Cards.{frozenText, failedText, restText, spacedText, countedText, cardLine, cardText}
+use Rattle.text.specs.Entries.{sideText, nameText, lengthText, entryLine, badLine}
 use Rattle.text.proofs.Clip.{clip-short}
 use Rattle.text.proofs.Decimal.{decimal-length, decimal-one}
 
@@ -36,16 +39,18 @@ word-length Took = omega arith
 word-length Going = omega arith
 word-length Waiting = omega arith
 
+-- a text that is picked is one of two
+pick-length : (most : ℕ) (t : Bool) (a b : List ℕ) → length a ≤ most → length b ≤ most → length (pick t a b) ≤ most
+pick-length most true a b h k = h
+pick-length most false a b h k = k
+
 -- a berth below ten has one digit
 code-length : (k : ℕ) (c : Codes) → k < 10 → length (codeText k c) ≤ 10
 unfolding codeText
-code-length k c h = by (eqb (c .receive) 0 && eqb (c .send) 0)
-  where
-    by : (t : Bool) → length (pick t [] (32 ∷ (decimal 3 k ++ (58 ∷ (decimal 3 (c .receive) ++ (58 ∷ decimal 3 (c .send))))))) ≤ 10
-    by true = omega arith
-    by false =
-        simp (decimal-one 2 k h, length-append)
-        (omega (arith, decimal-length 3 (c .receive), decimal-length 3 (c .send)))
+code-length k c h =
+    pick-length 10 (eqb (c .receive) 0 && eqb (c .send) 0) _ _ (omega arith)
+    (simp (decimal-one 2 k h, length-append)
+    (omega (arith, decimal-length 3 (c .receive), decimal-length 3 (c .send))))
 
 codes-length : (k : ℕ) (cs : List Codes) → k + length cs ≤ 10 → length (codesText k cs) ≤ 10 * length cs
 unfolding codesText
@@ -98,11 +103,7 @@ short-whole n = text-whole n _ (omega arith)
 
 frozen-length : (c : Card) → length (frozenText c) ≤ 7
 unfolding frozenText
-frozen-length c = by (frozen c)
-  where
-    by : (t : Bool) → length (pick t frozenName []) ≤ 7
-    by true = omega arith
-    by false = omega arith
+frozen-length c = pick-length 7 (frozen c) _ _ (omega arith) (omega arith)
 
 failed-length : (c : Card) → length (failedText c) ≤ 59
 unfolding failedText
@@ -145,3 +146,45 @@ counted-length c = spaced-length _
 pub look-whole : (n : ℕ) (c : Card) → clipped (cardText n c) ≡ cardText n c
 unfolding cardText
 look-whole n c = text-whole n _ (simp length-append (omega (arith, counted-length c, frozen-length c)))
+
+-- ---- entries
+
+side-length : (kind : ℕ) → length (sideText kind) ≤ 10
+unfolding sideText
+side-length kind =
+    pick-length 10 (eqb kind receiveKind) _ _ (omega arith)
+    (pick-length 10 (eqb kind sendKind) _ _ (omega arith) (simp length-append (omega (arith, decimal-length 3 kind))))
+
+name-length : (code : ℕ) → length (nameText code) ≤ 14
+unfolding nameText
+name-length code =
+    pick-length 14 (eqb code 1) _ _ (omega arith)
+    (pick-length 14 (eqb code 2) _ _ (omega arith)
+    (pick-length 14 (eqb code 3) _ _ (omega arith)
+    (pick-length 14 (eqb code 4) _ _ (omega arith)
+    (pick-length 14 (eqb code 5) _ _ (omega arith)
+    (pick-length 14 (eqb code 6) _ _ (omega arith)
+    (pick-length 14 (eqb code 7) _ _ (omega arith)
+    (pick-length 14 (eqb code 9) _ _ (omega arith) (omega (arith, decimal-length 3 code)))))))))
+
+length-length : (e : Entry) → length (lengthText e) ≤ 18
+unfolding lengthText
+length-length e = pick-length 18 (delivered e) _ _ (omega (arith, decimal-length 10 (e .length))) (omega arith)
+
+pub entry-whole : (n : ℕ) (e : Entry) → clipped (entryLine n e) ≡ entryLine n e
+unfolding entryLine
+entry-whole n e =
+    text-whole n _
+    (simp length-append
+    (omega (
+      arith,
+      decimal-length 20 (e .tick),
+      decimal-length 10 (e .berth),
+      side-length (e .kind),
+      name-length (e .code),
+      length-length e,
+    )))
+
+pub bad-line-whole : (n : ℕ) → clipped (badLine n) ≡ badLine n
+unfolding badLine
+bad-line-whole n = clip-short _ (simp length-append (omega (arith, decimal-length 20 n)))

@@ -13,7 +13,7 @@ unfoldable pub textOf : Text → List ℕ
 textOf text = take (text .length) (text .bytes)
 
 abbrev pub room : ℕ
-room = 192
+room = 320
 
 unfoldable pub clipped : List ℕ → List ℕ
 clipped bytes = take room bytes

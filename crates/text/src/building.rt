@@ -6,8 +6,8 @@ ghost use mathlib.Core.List.{[], _∷_, _++_};
 ghost use lib.ListN.{length, take, drop};
 ghost use Rattle.text.specs.Building.{textOf, clipped, Fronts, decimal, smallPlaces, sizePlaces, hexDigit, hexText};
 
-// The longest text, a card's line, has 166 bytes.
-pub const ROOM: usize = 192;
+// The longest text, a tick's twenty records of a journal, has 320 bytes.
+pub const ROOM: usize = 320;
 
 pub struct Text {
     pub bytes: [u8; ROOM],

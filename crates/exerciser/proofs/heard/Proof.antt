@@ -1,4 +1,5 @@
--- The call's promise and its text's.
+-- The call's promise and its text's; a frame is not counted as a tick.
+use Rattle.exerciser.proofs.Recorded.{frame-counts}
 use Rattle.exerciser.proofs.Promised.{does}
 use borrow.Author.Needs.{needs}
 use Rattle.exerciser.proofs.heard.Statement.{statement}
@@ -14,7 +15,7 @@ same-length : tie.Need-same-length
 same-length c = search needs
 
 returns : tie.Need-returns
-returns c = λ outgoing. does (c .frame2 .ensures) (c .before .before .before .before .before .frame .ensures .promised outgoing)
+returns c = λ outgoing. does (c .frame2 .ensures) (frame-counts _ _) (c .before .before .before .before .before .frame .ensures .promised outgoing)
 
 pub heard-spec : {M : Type 1} → statement M
 heard-spec = tie.close (tie.spec frame-requires frame-requires-2 same-length returns)

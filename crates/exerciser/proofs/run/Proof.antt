@@ -7,11 +7,11 @@ use Rattle.exerciser.proofs.run.Statement.{statement}
 use Rattle.exerciser.proofs.run.Tie as tie
 
 abbrev Inv-loop : tie.InvT-loop
-Inv-loop lines input₀ incoming₀ outgoing₀ output₀ progress₀ turns₀ input incoming outgoing output progress turns =
+Inv-loop lines journal input₀ incoming₀ outgoing₀ output₀ progress₀ turns₀ input incoming outgoing output progress turns =
     (length input ≡ length input₀) × (length incoming ≡ length incoming₀) × (length outgoing ≡ length outgoing₀) × (length output ≡ length output₀)
 
 abbrev μ-loop : tie.MeasureT-loop
-μ-loop lines input₀ incoming₀ outgoing₀ output₀ progress₀ turns₀ input incoming outgoing output progress turns = turns
+μ-loop lines journal input₀ incoming₀ outgoing₀ output₀ progress₀ turns₀ input incoming outgoing output progress turns = turns
 
 first-requires : tie.Need-first-requires Inv-loop μ-loop
 first-requires c κs = tt

@@ -1,13 +1,8 @@
 -- What stands next is what reading promises; where it is not the end, the part is run.
 use mathlib.Core.Path.{_≡_, refl}
-use mathlib.Core.Bool.{true, false}
-use mathlib.Core.List.{[], _∷_}
-use denote.Enum.Declared.{tagOf}
-use types.Run.{OneOf, miss}
-use Rattle.reading.proofs.input.Part.{the-type}
-use Rattle.reading.specs.declared.input.Part.{Part}
-use Rattle.reading.specs.declared.input.Part.the-variants.{Whole, Cut, Long, End}
-use Rattle.exerciser.specs.Turns.{ends}
+use mathlib.Core.Bool.{true}
+use Rattle.reading.specs.Input.{ends}
+use Rattle.reading.proofs.Ends.{not-end}
 use borrow.Author.Needs.{needs}
 use Rattle.exerciser.proofs.run_next.Statement.{statement}
 use Rattle.exerciser.proofs.run_next.Tie as tie
@@ -22,13 +17,6 @@ same-length : tie.Need-same-length
 same-length c = search needs
 
 -- a part that is not the end, as a `match` knows it by its tag
-not-end : (p : Part) → OneOf (0 ∷ 1 ∷ 2 ∷ []) (tagOf the-type p) → ends p ≡ false
-unfolding ends
-not-end Whole o = refl
-not-end Cut o = refl
-not-end Long o = refl
-not-end End o = absurd (miss (0 ∷ 1 ∷ 2 ∷ []) 3 tt o)
-
 returns : tie.Need-returns
 unfolding ends
 returns c =

@@ -1,4 +1,4 @@
--- The step's promise, and that its text is put.
+-- The step's promise, how the next is printed, and that its text is put.
 use mathlib.Core.Path.{refl}
 use borrow.Author.Needs.{needs}
 use Rattle.exerciser.proofs.run_part.Statement.{statement}
@@ -7,8 +7,8 @@ use Rattle.exerciser.proofs.run_part.Tie as tie
 step-requires : tie.Need-step-requires
 step-requires c κs = search needs
 
-wrapping-add-u64-requires : tie.Need-wrapping-add-u64-requires
-wrapping-add-u64-requires c κs = search needs
+next-requires : tie.Need-next-requires
+next-requires c κs = search needs
 
 say-requires : tie.Need-say-requires
 say-requires c κs = search needs
@@ -29,7 +29,7 @@ returns c =
     let s = c .before .before .say .ensures in
     record {
       leaves = p .leaves;
-      counts = c .before .before .before .before .wrapping-add-u64 .ensures;
+      counts = rw (p .counts) at (c .before .before .before .before .next2 .ensures);
       goes-on = refl;
       reads = refl;
       collects = rw (p .prints) at (s .0);
@@ -41,7 +41,7 @@ run-part-spec =
     tie.close
     (tie.spec
     step-requires
-    wrapping-add-u64-requires
+    next-requires
     say-requires
     same-length
     same-length-2

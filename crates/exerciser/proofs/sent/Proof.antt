@@ -1,4 +1,4 @@
--- The message is the front of the longest one.
+-- The message is the front of the longest one; a send is not counted as a tick.
 use Prim.Native.Nat.{_≤_}
 use mathlib.Core.Path.{_≡_, sym}
 use native.Mathlib.Omega.{arith}
@@ -7,6 +7,7 @@ use lib.Seq.{length-take-le}
 use Rattle.records.specs.Records.{risingFrom}
 use Rattle.records.proofs.Rising.{rising-front}
 use Rattle.exerciser.specs.Steps.{lentCards}
+use Rattle.exerciser.proofs.Recorded.{send-counts}
 use Rattle.exerciser.proofs.Promised.{does}
 use borrow.Author.Needs.{needs}
 use Rattle.exerciser.proofs.sent.Statement.{statement}
@@ -44,7 +45,7 @@ same-length c = search needs
 returns : tie.Need-returns
 returns c = λ incoming.
     let s = c .before .before .before .before in
-    does (c .send2 .ensures) (rw (risen (s .before .before .before .before)) at (s .send .ensures (lentCards (s .before .before .before .before .before .before .before .args .cards)) incoming))
+    does (c .send2 .ensures) (send-counts _ _) (rw (risen (s .before .before .before .before)) at (s .send .ensures (lentCards (s .before .before .before .before .before .before .before .args .cards)) incoming))
 
 pub sent-spec : {M : Type 1} → statement M
 sent-spec =

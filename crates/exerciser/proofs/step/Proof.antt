@@ -72,7 +72,7 @@ returns : tie.Need-returns
 unfolding asks
 returns c =
     let r = c .before .before .before in
-    stays _ (rw (was-read r, c .before .enum-told .given .1)) (c .none .ensures) refl
+    stays _ (rw (was-read r, c .before .enum-told .given .1)) (c .none .ensures) refl refl
 
 same-length : tie.Need-same-length
 same-length c = search needs

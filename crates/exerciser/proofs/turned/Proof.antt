@@ -1,4 +1,5 @@
--- The call's promise and its text's.
+-- The call's promise and its text's; a turn is not counted as a tick.
+use Rattle.exerciser.proofs.Recorded.{turn-counts}
 use Rattle.exerciser.proofs.Promised.{does}
 use borrow.Author.Needs.{needs}
 use Rattle.exerciser.proofs.turned.Statement.{statement}
@@ -17,7 +18,7 @@ turn-requires-2 : tie.Need-turn-requires-2
 turn-requires-2 c κs = search needs
 
 returns : tie.Need-returns
-returns c = λ incoming. does (c .turn2 .ensures) (c .before .before .before .before .before .turn .ensures .promised incoming)
+returns c = λ incoming. does (c .turn2 .ensures) (turn-counts _ _ _) (c .before .before .before .before .before .turn .ensures .promised incoming)
 
 pub turned-spec : {M : Type 1} → statement M
 turned-spec =

@@ -1,0 +1,2 @@
+-- What the journal's reader does.
+pub mod Turns
