@@ -12,7 +12,7 @@ use Rattle.rules.specs.Nodes.{Held}
 use Rattle.rules.specs.Answers.{Answer}
 use Rattle.rules.specs.Events.{Call}
 use Rattle.rules.specs.Calls.{outcome, answers, final}
-use Rattle.rules.proofs.Cases.{Tested, holds, fails, test-cases}
+use Rattle.rules.proofs.Cases.{holds, fails, test-cases}
 use Rattle.records.specs.Records.{recordOf}
 use Rattle.records.specs.declared.record.Record.{Record}
 use Rattle.journal.specs.Entries.{isTick, ticksAfter, journalFrom, journalOf}
