@@ -6,23 +6,32 @@ use mathlib.Core.Bool.{true}
 use mathlib.Core.List.{List, [], _∷_, _++_, append-assoc}
 use native.Mathlib.Omega.{arith}
 use native.Mathlib.Nat.{mod-eq-of-lt}
-use lib.ListN.{length}
-use Rattle.rules.specs.Tests.{pick}
-use Rattle.rules.specs.Nodes.{Held}
+use lib.ListN.{length, set, replicate}
+use Rattle.rules.specs.Tests.{pick, all, each, firstUnmet}
+use Rattle.rules.specs.Numbers.{berthCount}
+use Rattle.rules.specs.Nodes.{freshWith, withRx, Held}
+use Rattle.rules.specs.Ranges.{takingInRange, inBlock, berthInOrder, inOrder}
+use Rattle.rules.specs.Frames.{firstSn}
+use Rattle.rules.specs.Ticks.{ran, codesOf}
+use Rattle.rules.specs.Cards.{rightCards}
+use Rattle.rules.specs.Refusals.{needs, refusal}
 use Rattle.rules.specs.Answers.{Answer}
 use Rattle.rules.specs.Events.{Call}
-use Rattle.rules.specs.Calls.{outcome, answers, final}
+use Rattle.rules.specs.Calls.{done, reply, outcome, answers, final}
+use Rattle.rules.specs.declared.Rx.{Rx}
 use Rattle.rules.proofs.Cases.{holds, fails, test-cases}
-use Rattle.records.specs.Records.{recordOf}
+use Rattle.records.specs.Records.{unusedIn, recordOf}
 use Rattle.records.specs.declared.record.Record.{Record}
-use Rattle.journal.specs.Entries.{isTick, ticksAfter, journalFrom, journalOf}
+use Rattle.journal.specs.Numbers.{bytesOf}
+use Rattle.journal.specs.Records.{recordOf as journalRecord}
+use Rattle.journal.specs.Entries.{kindOf, noted, codesEntries, entriesOf, isTick, ticksAfter, journalFrom, journalOf}
 use Rattle.journal.specs.Files.{AllWithin, fileOf, answeredTicks}
 use Rattle.journal.specs.declared.Entry.{Entry}
 use Rattle.journal.proofs.Runs.{count-after}
 use Rattle.journal.proofs.Within.{run-journals}
 use Rattle.exerciser.specs.declared.printed.How.{How}
 use Rattle.exerciser.specs.Printed.{firstHow, nextHow, countAfter, recordFor, recordsOf, printed}
-use Rattle.exerciser.specs.Steps.{asks, textFor, countFor, stepText, stepCount, stepHeld}
+use Rattle.exerciser.specs.Steps.{berthSettings, firstCards, asks, textFor, countFor, stepText, stepCount, stepHeld}
 use Rattle.exerciser.specs.Journal.{textsOf, callsOf}
 
 -- ---- the records of some entries
@@ -87,3 +96,34 @@ pub prints-the-file : (ds : List (List ℕ)) (h : Held) → answeredTicks (answe
 prints-the-file ds h few =
     let all = run-journals h (callsOf ds) .all-within (omega arith) in
     all-print ds h 1 0 (omega arith) ∙ records-file (journalOf (answers h (callsOf ds))) all
+
+-- ---- a record that is bad, and the tick at which berth 3's reception times out
+
+abbrev waiting : Held
+waiting =
+    record {
+      node =
+          record {
+            settings = record { area = 8 };
+            served = 9;
+            berths =
+                set (replicate berthCount (freshWith berthSettings)) 3
+                (withRx (freshWith berthSettings) (Rx.Awaits (record { total = 8; got = 6; sn = firstSn; taken = 0 }) 999) 0);
+          };
+      incoming = [];
+      outgoing = [];
+      cards = firstCards;
+    }
+
+abbrev badAndTick : List (List ℕ)
+badAndTick = (7 ∷ []) ∷ (2 ∷ replicate 15 0) ∷ []
+
+waiting-computed : (answeredTicks (answers waiting (callsOf badAndTick)) ≡ 1)
+    × (fileOf (journalOf (answers waiting (callsOf badAndTick))) ≡ 1 ∷ 3 ∷ 4 ∷ replicate 12 0 ++ 1 ∷ [])
+unfolding
+    callsOf asks recordOf unusedIn each answers outcome done reply refusal needs firstUnmet rightCards inOrder all berthInOrder takingInRange inBlock
+    codesOf ran answeredTicks isTick journalFrom ticksAfter entriesOf codesEntries noted kindOf fileOf journalRecord bytesOf
+waiting-computed = (refl, refl)
+
+pub file-here : textsOf (firstHow true) badAndTick waiting ≡ 1 ∷ 3 ∷ 4 ∷ replicate 12 0 ++ 1 ∷ []
+file-here = let n = waiting-computed .0 in prints-the-file badAndTick waiting (omega arith) ∙ waiting-computed .1

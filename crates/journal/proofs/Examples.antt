@@ -1,22 +1,22 @@
 -- Records, files and entries that meet the premises of the laws, and some on the other side of an edge, computed.
 use mathlib.Core.Path.{_≡_, refl}
-use Prim.Native.Nat.{ℕ, zero, suc, _+_}
+use Prim.Native.Nat.{ℕ, _+_}
 use mathlib.Core.Bool.{true, false}
 use mathlib.Core.List.{List, [], _∷_, _++_}
 use lib.ListN.{replicate}
 use lib.Dec.{lit<}
 use Rattle.rules.specs.Tests.{firstUnmet}
-use Rattle.rules.specs.Answers.{Paper, Answer, heard, codes, handed, failedSide}
+use Rattle.rules.specs.Answers.{heard, codes, handed}
 use Rattle.rules.specs.Parties.{scheduler}
 use Rattle.rules.specs.declared.Codes.{Codes}
 use Rattle.rules.specs.declared.Word.the-variants.{Delivered, TooLong}
 use Rattle.journal.specs.Numbers.{bytesOf, numberAfter, numberOf}
 use Rattle.journal.specs.Records.{oneOf, codeAllowed, lengthAllowed, within, recordOf, entryIn, accepts, entryPaper, checkPaper, writeRefusal, written, reads, checks, checksFrom}
 use Rattle.journal.specs.Entries.{kindOf, noted, wordEntries, codesEntries, entriesOf, isTick, ticksAfter, journalFrom, journalOf}
-use Rattle.journal.specs.Files.{Bytes, AllWithin, fileOf, WrittenAs, Made}
+use Rattle.journal.specs.Files.{Bytes, WrittenAs, Made}
 use Rattle.journal.specs.declared.Entry.{Entry}
 use Rattle.journal.specs.declared.CheckAnswer.{CheckAnswer}
-use Rattle.journal.proofs.Widths.{number-of-bytes, bytes-of-number}
+use Rattle.journal.proofs.Widths.{number-of-bytes}
 use Rattle.journal.proofs.Records.{reads-back, accepted-is-written}
 use Rattle.journal.proofs.Files.{good-is-made}
 

@@ -1,20 +1,17 @@
 -- Whole files: what `check` calls good is what the writer makes, record by record, since the reader accepts just the records that it makes.
 use mathlib.Core.Logic.{_↔_}
 use mathlib.Core.Path.{_≡_, refl, sym, ap, _∙_}
-use Prim.Native.Nat.{ℕ, zero, suc, _+_, _-_, _*_, _/_, _≤_, _<_}
+use Prim.Native.Nat.{ℕ, zero, suc, _+_, _-_, _/_, _≤_, _<_}
 use native.Mathlib.Omega.{arith}
 use native.Mathlib.Nat.{zero-add}
-use mathlib.Core.Bool.{Bool, true, false, _&&_}
+use mathlib.Core.Bool.{Bool, true, false}
 use mathlib.Core.List.{List, [], _∷_, _++_}
-use lib.ListN.{length, getD, take, drop, length-append, length-drop}
+use lib.ListN.{length, getD, drop, length-drop}
 use lib.Seq.{drop-drop}
-use lib.Dec.{T, leb, eqb}
-use mir.Facts.{leb-yes}
 use Rattle.rules.specs.Tests.{pick}
 use Rattle.rules.specs.Answers.{Paper}
-use Rattle.rules.proofs.Cases.{Tested, holds, fails, is-true, yes-of, and-left, and-right, test-cases}
-use Rattle.journal.specs.Records.{outside, within, recordOf, entryIn, accepts, refusedPaper, entryPaper, readPaper, checkPaper, reads, checksFrom, checks}
-use Rattle.journal.specs.Files.{Bytes, AllWithin, fileOf, WrittenAs, Made}
+use Rattle.journal.specs.Records.{outside, recordOf, entryIn, accepts, refusedPaper, entryPaper, readPaper, checkPaper, reads, checksFrom, checks}
+use Rattle.journal.specs.Files.{Bytes, AllWithin, fileOf, Made}
 use Rattle.journal.specs.declared.Entry.{Entry}
 use Rattle.journal.specs.declared.ReadAnswer.{ReadAnswer}
 use Rattle.journal.specs.declared.CheckAnswer.{CheckAnswer}

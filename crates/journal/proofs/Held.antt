@@ -4,7 +4,7 @@ use Prim.Native.Nat.{ℕ, zero, suc, _+_, _-_, _*_, _≤_, _<_}
 use native.Mathlib.Omega.{arith}
 use native.Mathlib.Numerals.{add-one}
 use mathlib.Core.List.{List, [], _∷_, _++_, append-assoc, append-nil}
-use lib.ListN.{length, getD, take, drop, set, replicate, length-append, drop-of-length-le}
+use lib.ListN.{length, getD, drop, set, length-append, drop-of-length-le}
 use lib.Dec.{leb}
 use lib.Seq.{drop-cons, set-append-seam, take-append-seam}
 use Rattle.rules.specs.Parties.{scheduler}
@@ -18,7 +18,7 @@ use Rattle.rules.proofs.Cases.{pick-either}
 use Rattle.rules.specs.declared.Codes.{Codes}
 use Rattle.rules.specs.declared.Word.{Word}
 use Rattle.rules.specs.declared.Word.the-variants.{Delivered, Begun, Failed, Ignored, TooLong, Took, Going, Waiting}
-use Rattle.journal.specs.Entries.{kindOf, noted, wordEntries, codesEntries, entriesOf, mostEntries, noEntry, holding, listed, Gains}
+use Rattle.journal.specs.Entries.{kindOf, noted, wordEntries, codesEntries, entriesOf, mostEntries, holding, listed, Gains}
 use Rattle.journal.specs.declared.Entry.{Entry}
 use Rattle.journal.specs.declared.entries.Entries.{Entries}
 

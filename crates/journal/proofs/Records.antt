@@ -6,15 +6,14 @@ use Prim.Native.Nat.{ℕ, zero, suc, _+_, _-_, _^_, _≤_, _<_}
 use native.Mathlib.Omega.{arith}
 use mathlib.Core.Bool.{Bool, true, false, not, _&&_, _||_}
 use mathlib.Core.List.{List, [], _∷_, _++_, append-assoc, append-nil}
-use lib.ListN.{length, getD, take, drop, length-append, length-take, length-drop, take-append-drop, drop-of-length-le}
-use lib.Seq.{drop-cons, drop-drop, take-all, take-at, drop-at, length-take-le}
+use lib.ListN.{length, getD, take, drop, length-take, length-drop, take-append-drop, drop-of-length-le}
+use lib.Seq.{drop-cons, drop-drop}
 use lib.Dec.{T, leb, eqb, ltb}
 use mir.Facts.{leb-yes, ltb-yes, eqb-yes}
-use Rattle.rules.specs.Tests.{pick, unless, firstUnmet}
-use Rattle.rules.specs.Answers.{Paper}
-use Rattle.rules.proofs.Cases.{met, is-true, yes-of, no-of, and-left, and-right, leb-is, eqb-is}
+use Rattle.rules.specs.Tests.{pick}
+use Rattle.rules.proofs.Cases.{met, is-true, yes-of, no-of, and-left, and-right, leb-is}
 use Rattle.journal.specs.Numbers.{bytesOf, numberAfter, numberOf}
-use Rattle.journal.specs.Records.{recordSize, codeAllowed, within, lengthAllowed, delivered, recordOf, entryIn, accepts, entryPaper, writeRefusal, writes, written, reads}
+use Rattle.journal.specs.Records.{codeAllowed, within, lengthAllowed, delivered, recordOf, entryIn, accepts, entryPaper, writeRefusal, writes, written, reads}
 use Rattle.journal.specs.Files.{Bytes, WrittenAs}
 use Rattle.journal.specs.declared.Entry.{Entry}
 use Rattle.journal.proofs.Widths.{number-of-bytes, bytes-of-number}
@@ -74,7 +73,7 @@ pub record-behind : (e : Entry) (rest : List ℕ) → drop 16 (recordOf e ++ res
 unfolding recordOf bytesOf
 record-behind e rest = refl
 
-entry-back : (e : Entry) (rest : List ℕ) → within e ≡ true → entryIn (recordOf e ++ rest) ≡ e
+pub entry-back : (e : Entry) (rest : List ℕ) → within e ≡ true → entryIn (recordOf e ++ rest) ≡ e
 unfolding entryIn recordOf bytesOf numberAfter
 entry-back e rest w =
     let f = within-fits e w in

@@ -1,12 +1,12 @@
 -- Numbers high byte first, over the width: a number's bytes make the number, and bytes are those of their number. What is above the last byte
 -- is the number of the bytes before it, so each law follows byte by byte.
-use mathlib.Core.Path.{_≡_, refl, sym, ap, _∙_}
+use mathlib.Core.Path.{_≡_, refl, sym, _∙_}
 use Prim.Native.Nat.{ℕ, zero, suc, _+_, _*_, _/_, _%_, _^_, _≤_, _<_}
 use native.Mathlib.Omega.{arith}
 use native.Mathlib.Nat.{add-zero, zero-add, pow-suc, pow-le-pow-right}
 use native.Mathlib.Numerals.{add-one}
 use mathlib.Core.List.{List, [], _∷_, _++_, append-assoc, append-nil}
-use lib.ListN.{length, getD, drop, set, length-append}
+use lib.ListN.{length, getD, drop, set}
 use lib.Seq.{drop-cons, drop-set-lt, getD-set-same, lt-length-set}
 use Rattle.journal.specs.Numbers.{bytesOf, numberAfter, numberOf}
 use Rattle.journal.specs.Files.{Bytes}

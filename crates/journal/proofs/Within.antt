@@ -5,37 +5,35 @@ use Prim.Native.Nat.{ℕ, zero, suc, _+_, _-_, _^_, _≤_, _<_}
 use native.Mathlib.Omega.{arith}
 use mathlib.Core.Bool.{Bool, true, false, _&&_}
 use mathlib.Core.List.{List, [], _∷_, _++_, map}
-use lib.ListN.{length, length-map}
+use lib.ListN.{length}
 use lib.Dec.{T, leb, eqb, ltb}
 use mir.Facts.{leb-yes}
 use Rattle.rules.specs.Tests.{pick, unless}
-use Rattle.rules.specs.Numbers.{berthCount, toBerth, N-OK, goStatus, waitStatus, overflowStatus, consecutiveMost, singleMost}
+use Rattle.rules.specs.Numbers.{berthCount, toBerth, goStatus, waitStatus, overflowStatus, consecutiveMost}
 use Rattle.rules.specs.Nodes.{berthAt, Held}
-use Rattle.rules.specs.Ranges.{AreaRange, BerthRange, RxRange, InOrder}
+use Rattle.rules.specs.Ranges.{AreaRange, BerthRange, RxRange}
 use Rattle.rules.specs.Frames.{low, singleFits, announced, firstFits, consecutiveFits, flowFits}
 use Rattle.rules.specs.Arrivals.{Heard, Told, Came, ignored, oldCode, singleCame, aboveArea, turnedAway, begun, firstCame, missing, completed, took, wrongSn, awaitedCame, consecutiveCame, byStatus, flowIgnored, flowCame, heardBy, toldBy, frameCame}
-use Rattle.rules.specs.Ticks.{ran, rxCode, txCode, codesOf}
+use Rattle.rules.specs.Ticks.{rxCode, txCode, codesOf}
 use Rattle.rules.specs.Turns.{flowDue, toGo, messageCode, HandedOver, handOver}
 use Rattle.rules.specs.Stores.{passedOver, reached, cameAt, handedAt}
-use Rattle.rules.specs.Answers.{Answer, refused, ready, heard, codes, sent, handed, none, shown, changed, Side, receive, send, failedSide}
+use Rattle.rules.specs.Answers.{Answer, handed, Side, receive, send, failedSide}
 use Rattle.rules.specs.Events.{Call, senderOf}
 use Rattle.rules.specs.Refusals.{refusal}
 use Rattle.rules.specs.Calls.{done, reply, written, bufferOf, refusedOutcome, outcome, answers}
 use Rattle.rules.specs.declared.Settings.{Settings}
-use Rattle.rules.specs.declared.Taking.{Taking}
 use Rattle.rules.specs.declared.Berth.{Berth}
 use Rattle.rules.specs.declared.Rx.{Rx}
 use Rattle.rules.specs.declared.Tx.{Tx}
-use Rattle.rules.specs.declared.Codes.{Codes}
 use Rattle.rules.specs.declared.Word.{Word}
 use Rattle.rules.specs.declared.Word.the-variants.{Delivered, Begun, Failed, Ignored, TooLong, Took, Going, Waiting}
 use Rattle.rules.proofs.Cases.{leb-is, ltb-is, and-left, pick-either, ran-either}
 use Rattle.rules.proofs.Ranges.{in-order-range}
-use Rattle.rules.proofs.Answered.{frame-answered, tick-answered, turn-answered}
+use Rattle.rules.proofs.Answered.{frame-answered, tick-answered}
 use Rattle.rules.proofs.Order.{single-small, reached-small}
 use Rattle.rules.proofs.Facts.{frame-either}
 use Rattle.journal.specs.Records.{oneOf, codeAllowed, lengthAllowed, delivered, within}
-use Rattle.journal.specs.Entries.{kindOf, noted, wordEntries, codesEntries, entriesOf, ticksAfter, journalFrom, journalOf}
+use Rattle.journal.specs.Entries.{kindOf, noted, wordEntries, codesEntries, entriesOf, ticksAfter, journalFrom}
 use Rattle.journal.specs.Files.{AllWithin, lengthsIn, wordLengths, answerLengths, lengthsSaid, answeredTicks, Journals}
 use Rattle.journal.specs.declared.Entry.{Entry}
 use Rattle.journal.proofs.Runs.{count-after, entries-are-reports}

@@ -14,17 +14,19 @@ use Rattle.journal.specs.Records.{receiveKind, sendKind}
 use Rattle.journal.specs.declared.Entry.{Entry}
 use Rattle.journal.specs.declared.entries.Entries.{Entries}
 
+-- kind: 1 receive, 2 send
 unfoldable pub kindOf : Side → ℕ
 kindOf receive = receiveKind
 kindOf send = sendKind
 
 -- ---- the entries of an answer, with the tick count that they carry
 
--- each nonzero report becomes one
+-- each nonzero report becomes one: of a berth's side its code, with this length
 unfoldable pub noted : ℕ → Side → ℕ → ℕ → ℕ → List Entry
 noted k side zero n t = []
 noted k side (suc c) n t = record { kind = kindOf side; berth = k; code = suc c; length = n; tick = t } ∷ []
 
+-- a message delivered has its length; Failed 5 is the receive side's, 6 and 9 are the send side's; TooLong itself gives none
 unfoldable pub wordEntries : ℕ → Word → ℕ → List Entry
 wordEntries k (Delivered n) t = noted k receive N-OK n t
 wordEntries k (Begun n) t = []
@@ -40,7 +42,7 @@ unfoldable pub codesEntries : ℕ → List Codes → ℕ → List Entry
 codesEntries k [] t = []
 codesEntries k (c ∷ cs) t = noted k receive (c .receive) 0 t ++ (noted k send (c .send) 0 t ++ codesEntries (suc k) cs t)
 
--- a frame's old reception comes first
+-- a frame's old reception comes first; a turn has that of a message's last frame, code 1; a refused call has none
 unfoldable pub entriesOf : Answer → ℕ → List Entry
 entriesOf (refused n) t = []
 entriesOf ready t = []

@@ -24,8 +24,8 @@ pub const NO_ROOM: u8 = 16;
 
 pub const OUTSIDE: u8 = 17;
 
-// One report: kind, berth and code, the length of a message delivered, else 0, and the tick count. Plain numbers: what is to be written, and
-// what is read, may be outside the rules.
+// One report: kind, berth and code, the length of a message delivered, else 0, and the tick count. They are plain numbers, so that an entry
+// outside the rules can be given, and is refused.
 pub struct Entry {
     pub kind: u8,
     pub berth: u32,

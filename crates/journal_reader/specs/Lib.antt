@@ -1,2 +1,3 @@
 -- What the journal's reader does.
 pub mod Turns
+pub mod Lines

@@ -1,11 +1,10 @@
 -- The invariant: the records behind so many good ones are what is left to check. A record that is read has sixteen bytes.
-use Prim.Native.Nat.{ℕ, suc, _+_, _-_, _*_, _/_, _≤_, _<_}
-use mathlib.Core.Path.{_≡_, refl, sym, ap, _∙_}
-use mathlib.Core.Bool.{Bool, true, false}
-use mathlib.Core.List.{List, []}
+use Prim.Native.Nat.{ℕ, _+_, _-_, _/_, _≤_}
+use mathlib.Core.Path.{_≡_, sym, ap, _∙_}
+use mathlib.Core.List.{List}
 use native.Mathlib.Omega.{arith}
 use lib.ListN.{length, drop, length-drop}
-use Rattle.journal.specs.Records.{accepts, readPaper, checkPaper, reads, checksFrom, checks}
+use Rattle.journal.specs.Records.{readPaper, reads, checksFrom, checks}
 use lib.Seq.{take-all}
 use borrow.Author.Needs.{needs}
 use Rattle.journal.proofs.Files.{Onward, check-on, check-bad, check-end, read-refused, read-accepted}

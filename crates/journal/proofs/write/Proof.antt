@@ -1,6 +1,5 @@
 -- The definition makes the same tests; the record stands in front of the rest of the buffer.
-use mathlib.Core.Path.{_≡_, refl, sym, ap, _∙_}
-use mathlib.Core.Bool.{true, false}
+use mathlib.Core.Path.{refl, sym, _∙_}
 use borrow.Author.Tests.{lt-leb, le-leb, not-true, not-false}
 use Rattle.rules.specs.Tests.{firstUnmet}
 use Rattle.journal.specs.Numbers.{bytesOf}

@@ -1,3 +1,4 @@
+-- The definition makes the same tests.
 use Rattle.rules.specs.Frames.{kind}
 use Rattle.journal.specs.Records.{codeAllowed}
 use borrow.Author.Tests.{eq-eqb, ne-eqb}

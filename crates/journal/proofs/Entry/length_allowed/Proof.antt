@@ -1,3 +1,4 @@
+-- The definition makes the same test.
 use Rattle.journal.specs.Records.{lengthAllowed}
 use Rattle.journal.proofs.Entry.length_allowed.Statement.{statement}
 use Rattle.journal.proofs.Entry.length_allowed.Tie as tie

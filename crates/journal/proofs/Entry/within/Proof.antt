@@ -1,3 +1,4 @@
+-- The definition makes the same tests; every tick count of a u64 has eight bytes.
 use Rattle.journal.specs.Records.{within}
 use Prim.Native.Nat.{_^_}
 use mathlib.Core.Path.{_≡_, sym, _∙_}

@@ -1,9 +1,7 @@
 -- A frame's old reception comes first, then its word: at most two.
-use mathlib.Core.Path.{_≡_}
 use native.Mathlib.Omega.{arith}
-use lib.ListN.{length-append}
-use Rattle.rules.specs.Answers.{receive, frameSays}
-use Rattle.journal.specs.Entries.{noted, wordEntries, entriesOf}
+use Rattle.rules.specs.Answers.{frameSays}
+use Rattle.journal.specs.Entries.{entriesOf}
 use Rattle.journal.proofs.Held.{gains-then, gains-all, heard-most}
 use borrow.Author.Needs.{needs}
 use Rattle.journal.proofs.entries.of_frame.Statement.{statement}

@@ -1,12 +1,10 @@
 -- The invariant: the number so far is that of the bytes passed, and goes on to that of all; it fits as many bytes.
-use Prim.Native.Nat.{ℕ, suc, _+_, _-_, _*_, _^_, _≤_, _<_}
-use mathlib.Core.Path.{_≡_, refl, sym, ap, _∙_}
-use mathlib.Core.List.{List, [], _∷_}
+use Prim.Native.Nat.{ℕ, _-_, _^_, _≤_, _<_}
+use mathlib.Core.Path.{_≡_, refl, _∙_}
 use native.Mathlib.Omega.{arith}
 use lib.ListN.{length, getD, drop, drop-of-length-le}
 use Rattle.journal.specs.Numbers.{numberAfter}
 use Rattle.journal.proofs.Widths.{number-step, more-fits, more-in-eight}
-use borrow.Author.Needs.{needs}
 use Rattle.journal.proofs.numbers.read.Statement.{statement}
 use Rattle.journal.proofs.numbers.read.Tie as tie
 

@@ -1,0 +1,2 @@
+-- The law of the lines that are printed.
+pub mod Lines
