@@ -100,7 +100,7 @@ def noted_in(journal):
         if before and before.tick == entry.tick and {before.code, entry.code} <= {2, 3, 4}:
             seen["a tick with both codes of a berth" if before.berth == entry.berth else "a tick with codes of several"] += 1
         if before and before[:3] == (RECEIVE, entry.berth, 7) and entry.kind == RECEIVE and entry.code == 1:
-            seen["a frame with two records"] += 1
+            seen["a 7, and right behind it a 1 of the same berth"] += 1
         before = entry
     return seen
 
@@ -137,10 +137,10 @@ def asked_again(request, answer):
         pieces, number = records_in(held), int(answer.split()[-1])
         good = answer.startswith("all good ")
         yield from ((request_to_read(piece), "read") for piece in pieces[:number - (not good)])
-        if not good:
-            yield request_to_read(b"".join(pieces[number - 1:number])), "refused 17"
-        elif number != len(pieces):
-            yield request_to_read(b""), f"a verdict on all {len(pieces)} records"
+        if number != len(pieces) if good else not 1 <= number <= len(pieces):
+            yield request_to_read(b""), f"a verdict on {len(pieces)} records"
+        elif not good:
+            yield request_to_read(pieces[number - 1]), "refused 17"
 
 
 def reads_back(requests, output, run):
@@ -180,7 +180,7 @@ def not_noted(seen):
     """A text of what the streams of the journal together should have seen, and have not."""
     pairs = [(kind, code) for kind in SIDES for code in CODES[kind]]
     wanted = [("code", *pair) for pair in pairs] + [("berth", *one) for one in product(SIDES, BERTHS)]
-    wanted += ["a tick with both codes of a berth", "a tick with codes of several", "a frame with two records"]
+    wanted += ["a tick with both codes of a berth", "a tick with codes of several", "a 7, and right behind it a 1 of the same berth"]
     wanted += [(word, *pair) for word, pair in product(("written", "read"), pairs)]
     wanted += [("refused", WRITE, 16), ("refused", WRITE, 17), ("refused", READ, 17), "bad", "short"]
     wanted += [f"all good {n}" for n in range(4)] + [f"first bad {n}" for n in range(1, 4)]

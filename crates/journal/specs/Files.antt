@@ -33,7 +33,7 @@ unfoldable pub fileOf : List Entry → List ℕ
 fileOf [] = []
 fileOf (e ∷ es) = recordOf e ++ fileOf es
 
--- some entry within the rules writes just these bytes
+-- some entry within the rules writes just these bytes: they are its record, which is all that `written` leaves of sixteen bytes
 pub record WrittenAs (d : List ℕ) : Type 0 where
   pub entry : Entry
   pub its-within : within entry ≡ true

@@ -7,7 +7,7 @@ unfoldable pub bytesOf : ℕ → ℕ → List ℕ
 bytesOf zero n = []
 bytesOf (suc width) n = bytesOf width (n / 256) ++ (n % 256 ∷ [])
 
--- the number in some bytes: each further one multiplies what is there by 256
+-- the number in some bytes: what is there is multiplied by 256, and the next one added
 unfoldable pub numberAfter : ℕ → List ℕ → ℕ
 numberAfter n [] = n
 numberAfter n (b ∷ bs) = numberAfter (n * 256 + b) bs

@@ -1,5 +1,5 @@
 -- Paper 02, W4: an entry, its record of sixteen bytes, and what the three calls answer and leave.
-use Prim.Native.Nat.{ℕ, zero, suc, _+_, _/_, _^_}
+use Prim.Native.Nat.{ℕ, zero, suc, _+_, _-_, _/_, _^_}
 use mathlib.Core.Bool.{Bool, false, _&&_, _||_}
 use mathlib.Core.List.{List, [], _∷_, _++_}
 use lib.ListN.{length, getD, take, drop}
@@ -72,7 +72,7 @@ delivered e = eqb (e .kind) receiveKind && eqb (e .code) N-OK
 unfoldable pub lengthAllowed : Entry → Bool
 lengthAllowed e = pick (delivered e) (leb leastLength (e .length) && leb (e .length) mostLength) (eqb (e .length) 0)
 
--- a tick count has eight bytes
+-- within the rules: a code of its kind, a berth of the ten, a length where there may be one, and a tick count that eight bytes hold
 unfoldable pub within : Entry → Bool
 within e =
     codeAllowed (e .kind) (e .code) && (ltb (e .berth) berthCount && (lengthAllowed e && ltb (e .tick) (256 ^ tickBytes)))
@@ -139,7 +139,7 @@ reads d = pick (accepts d) (entryPaper (entryIn d)) (refusedPaper outside)
 
 -- the records of a file; a last part under sixteen bytes counts as one
 abbrev pub recordCount : List ℕ → ℕ
-recordCount file = (length file + 15) / recordSize
+recordCount file = (length file + (recordSize - 1)) / recordSize
 
 -- so many records are left, behind so many good ones
 unfoldable pub checksFrom : ℕ → ℕ → List ℕ → Paper

@@ -14,7 +14,7 @@ use rules::Word;
 
 pub const MOST: usize = 20;
 
-// So many entries at the front of the list.
+// So many entries at the front of the list, blank ones behind.
 pub struct Entries {
     pub count: usize,
     pub list: [Entry; MOST],

@@ -8,7 +8,7 @@ ghost use mathlib.Core.Bool.{true};
 ghost use mathlib.Core.List.{_++_};
 ghost use Prim.Native.Nat.{_≤_};
 ghost use lib.ListN.{length, drop};
-ghost use Rattle.journal.specs.Records.{recordSize, receiveCodes, sendCodes, oneOf, codeAllowed, lengthAllowed, within, recordOf, entryIn, writePaper, readPaper, checkPaper, writes, written, reads, checks};
+ghost use Rattle.journal.specs.Records.{recordSize, receiveCodes, sendCodes, oneOf, codeAllowed, delivered, lengthAllowed, within, recordOf, entryIn, writePaper, readPaper, checkPaper, writes, written, reads, checks};
 
 pub const RECORD: usize = 16;
 
@@ -83,10 +83,17 @@ impl Entry {
         false
     }
 
+    // Whether it is of a message delivered, which alone has a length.
+    pub fn delivered(self) -> bool
+        ensures { λ r. ⌜ r ≡ delivered self ⌝ }
+    {
+        (self.kind == RECEIVE) & (self.code == rules::N_OK)
+    }
+
     fn length_allowed(self) -> bool
         ensures { λ r. ⌜ r ≡ lengthAllowed self ⌝ }
     {
-        if (self.kind == RECEIVE) & (self.code == rules::N_OK) {
+        if self.delivered() {
             return (LEAST_LENGTH <= self.length) & (self.length <= MOST_LENGTH);
         }
         self.length == 0

@@ -13,8 +13,8 @@ use Rattle.journal.specs.Files.{AllWithin}
 use Rattle.journal.specs.declared.Entry.{Entry}
 use Rattle.journal.proofs.Records.{entry-back, record-accepted}
 use Rattle.text.specs.Entries.{entryLine, badLine}
-use Rattle.journal_reader.specs.Turns.{recordText}
-use Rattle.journal_reader.specs.Lines.{after, textsOf, linesOf, behind}
+use Rattle.journal_reader.specs.Turns.{recordText, after}
+use Rattle.journal_reader.specs.Lines.{textsOf, linesOf, behind}
 
 -- a record that was written, and others behind it
 one-line : (n : ℕ) (e : Entry) (ds : List (List ℕ)) → AllWithin (e ∷ []) → textsOf n (recordOf e ∷ ds) ≡ entryLine n e ++ textsOf (after n) ds
@@ -59,6 +59,6 @@ behind-counts n (e ∷ es) few =
 abbrev arrived : Entry
 arrived = record { kind = 1; berth = 3; code = 1; length = 258; tick = 65536 }
 
-pub stops-here : textsOf 1 (recordOf arrived ∷ replicate 16 0 ∷ recordOf arrived ∷ []) ≡ entryLine 1 arrived ++ ([] ++ badLine 2)
+pub stops-here : textsOf 1 (recordOf arrived ∷ replicate 16 0 ∷ recordOf arrived ∷ []) ≡ entryLine 1 arrived ++ badLine 2
 unfolding linesOf behind AllWithin accepts entryIn numberAfter within codeAllowed lengthAllowed oneOf
 stops-here = stops-at-bad 1 (arrived ∷ []) (replicate 16 0) (recordOf arrived ∷ []) (refl, tt) refl ∙ append-assoc (entryLine 1 arrived) [] (badLine 2)

@@ -1,15 +1,11 @@
 -- Paper 02, W4: what the journal's reader prints of a list of records, and the lines of a list of entries.
-use Prim.Native.Nat.{ℕ, _+_, _%_, _^_}
+use Prim.Native.Nat.{ℕ}
 use mathlib.Core.List.{List, [], _∷_, _++_}
 use Rattle.rules.specs.Tests.{pick}
 use Rattle.journal.specs.Records.{accepts}
 use Rattle.journal.specs.declared.Entry.{Entry}
 use Rattle.text.specs.Entries.{entryLine}
-use Rattle.journal_reader.specs.Turns.{recordText}
-
--- the next number
-abbrev pub after : ℕ → ℕ
-after n = (n + 1) % 2 ^ 64
+use Rattle.journal_reader.specs.Turns.{recordText, after}
 
 -- the texts of its turns from this number on, one behind the other; behind a bad record no more
 unfoldable pub textsOf : ℕ → List (List ℕ) → List ℕ

@@ -19,6 +19,10 @@ use Rattle.journal_reader.specs.declared.Progress.{Progress}
 unfoldable pub recordText : ℕ → List ℕ → List ℕ
 recordText number d = pick (accepts d) (entryLine number (entryIn d)) (badLine number)
 
+-- the next number
+abbrev pub after : ℕ → ℕ
+after n = (n + 1) % 2 ^ 64
+
 -- what goes from one turn to the next, with the output that is lent
 pub record Running : Type 0 where
   pub progress : Progress
@@ -32,7 +36,7 @@ unfoldable pub told : List ℕ → Running → Running
 told d r =
     running
     (record {
-      number = (r .progress .number + 1) % 2 ^ 64;
+      number = after (r .progress .number);
       source = r .progress .source;
       sink = sinkAfter (r .progress .sink) (r .output) (recordText (r .progress .number) d);
       more = accepts d;

@@ -43,7 +43,9 @@ use Rattle.laws.proofs.Free.{run-left-alone, run-comes-free, all-come-free}
 use Rattle.laws.proofs.SideRuns.{side-alone-in-run}
 use Rattle.laws.proofs.Fairness.{fair}
 use Rattle.laws.proofs.Parties.{run-names, names-after-set-up, parties-apart}
-use Rattle.journal.specs.Files.{Journals}
+use Rattle.journal.specs.Entries.{isTick}
+use Rattle.journal.specs.Files.{answersTick, Journals}
+use Rattle.journal.proofs.Runs.{counts-answered}
 use Rattle.journal.proofs.Within.{run-journals}
 use Rattle.runs.specs.Chains.{Step, frameStep, tickStep, sendStep, turnStep, showStep, changeStep, Made, Chain, AfterSetUp, callsOf, outcomesBy, saidBy, leftBy, ownIn, DueIn, historyIn, NamesIn, EachAlone}
 
@@ -288,3 +290,7 @@ chain-free-after-set-up h s alike n ms r ten ts c t enough only-ticks =
 -- writer refuses none.
 pub chain-journals : (h : Held) (ms : List Made) → Chain h ms → Journals (saidBy ms)
 chain-journals h ms c = subst Journals (sym (chain-says h ms c)) (run-journals h (callsOf ms))
+
+-- WHAT IS COUNTED, OF THE CODE: a call's answer is that of an answered tick exactly if the call is a tick that is not refused.
+pub step-counts : (h : Held) (c : Call) (o : Outcome) → Step h c o → isTick (o .answer) ≡ answersTick h c
+step-counts h c o s = ap (λ (q : Outcome). isTick (q .answer)) (step-is s) ∙ counts-answered h c

@@ -39,7 +39,7 @@ fn name(text: Text, code: u8) -> Text
 fn length(text: Text, entry: Entry) -> Text
     ensures { λ r. ⌜ textOf r ≡ clipped (textOf text ++ lengthText entry) ⌝ }
 {
-    if (entry.kind == journal::RECEIVE) & (entry.code == rules::N_OK) {
+    if entry.delivered() {
         return text.put_all(b" length ").size(entry.length);
     }
     text
