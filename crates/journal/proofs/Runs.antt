@@ -5,7 +5,7 @@ use Prim.Native.Nat.{ℕ, zero, suc, _+_, _-_}
 use native.Mathlib.Omega.{arith}
 use native.Mathlib.Nat.{zero-add}
 use mathlib.Core.Bool.{Bool, true, false}
-use mathlib.Core.List.{List, [], _∷_, _++_, map, append-assoc, append-nil}
+use mathlib.Core.List.{List, [], _∷_, _++_, map, map-append, append-assoc, append-nil}
 use lib.Dec.{leb, ltb}
 use Rattle.rules.specs.Tests.{pick, unless}
 use Rattle.rules.specs.Numbers.{berthCount, toBerth, N-OK}
@@ -24,10 +24,6 @@ use Rattle.journal.specs.Entries.{noted, wordEntries, codesEntries, entr
 use Rattle.journal.specs.Files.{bareEntry, bareReport, reportsOf, answeredTicks, answersTick, AllAt, Adds}
 use Rattle.rules.proofs.Cases.{is-true, is-false, eqb-is, eqb-not, pick-either}
 use Rattle.journal.specs.declared.Entry.{Entry}
-
-map-append : {X Y : Type 0} (f : X → Y) (xs ys : List X) → map f (xs ++ ys) ≡ map f xs ++ map f ys
-map-append f [] ys = refl
-map-append f (x ∷ xs) ys = ap (λ (l : List _). f x ∷ l) (map-append f xs ys)
 
 -- ---- entries and reports
 

@@ -1,14 +1,15 @@
 -- The paper's number and values are one-to-one: from them each answer can be read back.
 use mathlib.Core.Path.{_≡_, refl, sym, ap, _∙_}
-use Prim.Native.Nat.{ℕ}
+use Prim.Native.Nat.{ℕ, zero, suc}
 use mathlib.Core.List.{List, [], _∷_}
 use lib.ListN.{getD, drop}
 use lib.Dec.{eqb}
-use Rattle.rules.specs.Tests.{pick}
-use Rattle.rules.specs.Answers.{Answer, refused, ready, heard, codes, sent, handed, none, shown, changed, Paper, wordPaper, codesPaper, paperOf}
+use Rattle.rules.specs.Tests.{pick, unless}
+use Rattle.rules.specs.Answers.{Answer, refused, ready, heard, codes, sent, handed, none, shown, changed, Paper, tickSays, wordPaper, codesPaper, paperOf}
 use Rattle.rules.specs.declared.Word.{Word}
 use Rattle.rules.specs.declared.Word.the-variants.{Delivered, Begun, Failed, Ignored, TooLong, Took, Going, Waiting}
 use Rattle.rules.specs.declared.Codes.{Codes}
+use Rattle.rules.specs.declared.TickAnswer.{TickAnswer}
 
 wordRead : List ℕ → Word
 wordRead l =
@@ -67,3 +68,12 @@ paper-back (changed k) = refl
 -- ONE-TO-ONE: two answers with the same number and values are the same
 pub paper-one : (a b : Answer) → paperOf a ≡ paperOf b → a ≡ b
 paper-one a b e = sym (paper-back a) ∙ ap paperRead e ∙ paper-back b
+
+-- a tick's answer whose refusal is not 0 says just that
+pub tick-refused : (a : TickAnswer) → (a .refused ≡ 0 → ⊥) → tickSays a ≡ refused (a .refused)
+unfolding tickSays
+tick-refused a f = go (a .refused) f
+  where
+    go : (n : ℕ) → (n ≡ 0 → ⊥) → unless n (λ m. refused m) (codes (a .codes)) ≡ refused n
+    go zero f = absurd (f refl)
+    go (suc n) f = refl

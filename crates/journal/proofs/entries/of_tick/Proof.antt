@@ -1,12 +1,11 @@
 -- The invariant: so many berths are through (Held). A refused tick has no entry.
-use Prim.Native.Nat.{ℕ, zero, suc, _-_, _≤_}
-use mathlib.Core.Path.{_≡_, refl, sym, _∙_}
-use mathlib.Core.List.{[]}
+use Prim.Native.Nat.{_-_, _≤_}
+use mathlib.Core.Path.{_≡_, sym, _∙_}
 use native.Mathlib.Omega.{arith}
 use lib.ListN.{length, length-map}
-use Rattle.rules.specs.Tests.{unless}
-use Rattle.rules.specs.Answers.{Answer, refused, codes, tickSays}
-use Rattle.journal.specs.Entries.{entriesOf, holding}
+use Rattle.rules.specs.Answers.{tickSays}
+use Rattle.rules.proofs.Answers.{tick-refused}
+use Rattle.journal.specs.Entries.{entriesOf}
 use Rattle.journal.proofs.Held.{Through, through-none, through-more, through-all}
 use Rattle.journal.proofs.entries.of_tick.Statement.{statement}
 use Rattle.journal.proofs.entries.of_tick.Tie as tie
@@ -17,17 +16,12 @@ Inv-loop tick cs all₀ k₀ all k = (k ≤ 10) × (length cs ≡ 10) × Through
 abbrev μ-loop : tie.MeasureT-loop
 μ-loop tick cs all₀ k₀ all k = 10 - k
 
-refuses : (done : Answer) (n t : ℕ) → (n ≡ 0 → ⊥) → holding [] ≡ holding (entriesOf (unless n (λ m. refused m) done) t)
-unfolding entriesOf
-refuses done zero t f = absurd (f refl)
-refuses done (suc n) t f = refl
-
 none-requires : tie.Need-none-requires Inv-loop μ-loop
 none-requires c κs = tt
 
 returns : tie.Need-returns Inv-loop μ-loop
-unfolding tickSays
-returns c = c .none .ensures ∙ refuses _ _ _ (c .before .if1 .taken)
+unfolding entriesOf
+returns c = rw (tick-refused (c .before .before .before .args .answer) (c .before .if1 .taken)) (c .none .ensures)
 
 none-requires-2 : tie.Need-none-requires-2 Inv-loop μ-loop
 none-requires-2 c κs = tt

@@ -1,11 +1,10 @@
 -- A refusal is its text; else the parts in order, and the whole has room, since an answer has ten pairs.
 use mathlib.Core.List.{append-assoc}
-use Prim.Native.Nat.{ℕ, zero, suc}
-use mathlib.Core.Path.{_≡_, refl}
+use mathlib.Core.Path.{_≡_}
 use native.Mathlib.Omega.{arith}
 use lib.ListN.{length}
-use Rattle.rules.specs.Tests.{unless}
-use Rattle.rules.specs.Answers.{Answer, refused, codes, tickSays}
+use Rattle.rules.specs.Answers.{codes, tickSays}
+use Rattle.rules.proofs.Answers.{tick-refused}
 use Rattle.text.specs.Answers.{numberedText, wordsOf, answerText}
 use Rattle.text.proofs.Clip.{array-length, clip-more}
 use Rattle.text.proofs.Lengths.{answer-whole}
@@ -13,17 +12,11 @@ use borrow.Author.Needs.{needs}
 use Rattle.text.proofs.answers.tick.Statement.{statement}
 use Rattle.text.proofs.answers.tick.Tie as tie
 
-refuses : (done : Answer) (n : ℕ) → (n ≡ 0 → ⊥) → unless n (λ m. refused m) done ≡ refused n
-refuses done zero f = absurd (f refl)
-refuses done (suc n) f = refl
-
 refused-requires : tie.Need-refused-requires
 refused-requires c κs = search needs
 
 returns : tie.Need-returns
-unfolding tickSays
-returns c =
-    rw (refuses _ (c .before .before .before .args .answer .refused) (c .before .if1 .taken)) (c .refused .ensures)
+returns c = rw (tick-refused (c .before .before .before .args .answer) (c .before .if1 .taken)) (c .refused .ensures)
 
 numbered-requires : tie.Need-numbered-requires
 numbered-requires c κs = search needs
