@@ -99,4 +99,18 @@ void generate_round(uint64_t seed, int sets);
 void generate_journal(uint64_t seed, long records);
 void generate_requests(uint64_t seed, long requests);
 
+/* generate_candump.c: logs to be read; a line has room for TEXT_ROOM bytes, and its length is answered */
+enum { TEXT_ROOM = 160 };
+void generate_log(uint64_t seed, long lines);
+int put_good_line(struct dice *dice, char *text, uint64_t time);
+int put_spoilt_line(struct dice *dice, char *text, uint64_t time);
+void put_name(struct dice *dice, char *name);
+void spoil_name(struct dice *dice, char *name);
+int some_identifier(struct dice *dice);
+uint64_t some_part(struct dice *dice);      /* of a millisecond, in microseconds */
+
+/* generate_log_records.c: records to be written as a log, and requests of candump's scenes */
+void generate_log_records(uint64_t seed, long records);
+void generate_line_requests(uint64_t seed, long requests);
+
 #endif

@@ -11,6 +11,7 @@
  *   records.*, world.*, line.*, say.*, program.*       the exerciser and the scenes program
  *   words.c                                            a record in words
  *   journal.*, noting.c, journal_programs.*            the journal of request W4, and its programs
+ *   candump.*, candump_programs.*                      the lines of request W10, and their programs
  *   outcomes.h, counting.h, coverage*                  the outcomes wanted, and their counting
  *   dice.*, generate*                                  streams of records from a seed
  */
@@ -18,6 +19,7 @@
 #include <stdlib.h>
 #include <string.h>
 
+#include "candump_programs.h"
 #include "coverage.h"
 #include "generate.h"
 #include "journal_programs.h"
@@ -30,10 +32,16 @@ static const char usage[] =
     "       peer exerciser journal [--mutant NAME] < RECORDS > JOURNAL\n"
     "       peer journal_reader [--mutant NAME] < JOURNAL\n"
     "       peer journal_scenes [--mutant NAME] < REQUESTS\n"
+    "       peer candump_converter read [turns] [--mutant NAME] < LOG > RECORDS\n"
+    "       peer candump_converter write NAME [--mutant NAME] < RECORDS > LOG\n"
+    "       peer candump_scenes [--mutant NAME] < REQUESTS\n"
     "       peer words exerciser|scenes < RECORDS        each record in words\n"
     "       peer words exerciser journal < RECORDS       the record of each entry of the journal\n"
     "       peer words journal_reader < JOURNAL          each record of the journal\n"
     "       peer words journal_scenes < REQUESTS         each request\n"
+    "       peer words candump_converter read [turns] < LOG      the line of each record that is made\n"
+    "       peer words candump_converter write NAME < RECORDS    the record of each line that is written\n"
+    "       peer words candump_scenes < REQUESTS         each request\n"
     "       peer generate exerciser|scenes SEED COUNT    a stream of COUNT records\n"
     "       peer generate free SEED COUNT                a scenes stream of COUNT nodes that come free\n"
     "       peer generate round SEED COUNT               a scenes stream of turns, with COUNT sets of due berths\n"
@@ -41,6 +49,9 @@ static const char usage[] =
     "       peer generate parties SEED COUNT             a scenes stream of COUNT sends for both parties, and more\n"
     "       peer generate journal_reader SEED COUNT      a journal of COUNT records, good or not\n"
     "       peer generate journal_scenes SEED COUNT      a stream of COUNT requests\n"
+    "       peer generate candump_converter read SEED COUNT      a log of COUNT lines, good or not, or of a few\n"
+    "       peer generate candump_converter write SEED COUNT     COUNT records for a log, good or not\n"
+    "       peer generate candump_scenes SEED COUNT      a stream of COUNT requests\n"
     "       peer mutants                                 their names and sentences\n";
 
 static int fail(const char *why)
@@ -143,6 +154,61 @@ static bool do_for_journal(int count, char **words, int *status)
     return false;
 }
 
+/* The words before the option, and the mutant chosen; -1 if there is none of that name. */
+static int words_before_mutant(int count, char **words)
+{
+    if (count < 2 || strcmp(words[count - 2], "--mutant") != 0)
+        return count;
+    return choose_mutant(words[count - 1]) ? count - 2 : -1;
+}
+
+/* A program of candump on these words, the first of which is its name. */
+static int run_candump_program(int count, char **words)
+{
+    count = words_before_mutant(count, words);
+    if (count < 1)
+        return fail("no such mutant");
+    if (strcmp(words[0], "candump_converter") == 0)
+        run_candump_converter(count - 1, words + 1);
+    else
+        run_candump_scenes();
+    return 0;
+}
+
+static void generate_for_candump(const char *what, const char *seed, const char *number)
+{
+    uint64_t from = strtoull(seed, NULL, 10);
+    long count = strtol(number, NULL, 10);
+    if (strcmp(what, "read") == 0)
+        generate_log(from, count);
+    else if (strcmp(what, "write") == 0)
+        generate_log_records(from, count);
+    else
+        generate_line_requests(from, count);
+}
+
+/* False where the words ask for nothing that candump's programs have. */
+static bool do_for_candump(int count, char **words, int *status)
+{
+    int place = count > 2 && (strcmp(words[1], "words") == 0 || strcmp(words[1], "generate") == 0) ? 2 : 1;
+    bool converter = count > place && strcmp(words[place], "candump_converter") == 0;
+    bool scenes = count > place && strcmp(words[place], "candump_scenes") == 0;
+    *status = 0;
+    if (!converter && !scenes)
+        return false;
+    if (place == 1)
+        *status = run_candump_program(count - 1, words + 1);
+    else if (strcmp(words[1], "generate") == 0 && count == (converter ? 6 : 5))
+        generate_for_candump(words[count - 3], words[count - 2], words[count - 1]);
+    else if (strcmp(words[1], "words") == 0 && converter)
+        say_candump(count - 3, words + 3);
+    else if (strcmp(words[1], "words") == 0)
+        say_line_requests();
+    else
+        return false;
+    return true;
+}
+
 /* The scenes streams off whose lines a law is read; false if there is none of this name. */
 static bool generate_for_law(const char *name, uint64_t seed, int number)
 {
@@ -166,7 +232,7 @@ int main(int count, char **words)
 {
     enum program program;
     int status;
-    if (do_for_journal(count, words, &status))
+    if (do_for_journal(count, words, &status) || do_for_candump(count, words, &status))
         return status;
     if (count >= 2 && read_program(words[1], &program)) {
         bool with_cards = program == EXERCISER && count >= 3 && strcmp(words[2], "cards") == 0;

@@ -137,6 +137,10 @@
  * until the message ends, d the report names it, e the exerciser sends as 0, f nothing else goes by the
  * party, g 18, h the range, j the records of scenes.
  *
+ * W10 by sentence: a the time, b the name, c the identifier, d hash and data, e the line; f a record of kind 1,
+ * g one of kind 2 per whole millisecond, h the turns, i 20, j 21; k a written time, l the records, m the written
+ * line, n the chosen name; then the programs: o what the converter tells, p the requests of candump's scenes.
+ *
  * W11 by sentence: a no stored byte outside the area, b the refusal is out, c the
  * number unused, d no other answer changes.
  *
@@ -683,6 +687,191 @@
     X(W6j13, "byte 10 of a send is not looked at")                                    \
     X(W6j14, "a load of the node's own loses the names")                              \
     X(W6j15, "a load of the receive side loses the name")                             \
+    X(W10a1, "seconds of 11 digits are read")                                         \
+    X(W10a2, "seconds of 10 digits are refused")                                      \
+    X(W10a3, "the seconds may be missing")                                            \
+    X(W10a4, "the seconds have ten digits")                                           \
+    X(W10a5, "leading zeros of the seconds are refused")                              \
+    X(W10a6, "leading zeros do not count among the ten digits")                       \
+    X(W10a7, "fewer than six decimals will do")                                       \
+    X(W10a8, "more than six decimals will do")                                        \
+    X(W10a9, "the seconds are kept in 32 bits")                                       \
+    X(W10a10, "the microseconds are kept in 32 bits")                                 \
+    X(W10a11, "the byte before 0 is a digit of a time")                               \
+    X(W10a12, "the byte behind 9 is a digit of a time")                               \
+    X(W10a13, "a comma will do for the point")                                        \
+    X(W10a14, "the last three decimals are not looked at")                            \
+    X(W10a15, "a space before the seconds will do")                                   \
+    X(W10a16, "a plus before the seconds will do")                                    \
+    X(W10b1, "a name may be empty")                                                   \
+    X(W10b2, "a name of 16 letters will do")                                          \
+    X(W10b3, "a name of 15 letters is refused")                                       \
+    X(W10b4, "a name may have an underscore")                                         \
+    X(W10b5, "a name may have a hyphen")                                              \
+    X(W10b6, "a name may have no digits")                                             \
+    X(W10b7, "a name may have no letters A to Z")                                     \
+    X(W10b8, "a name may have no letters a to z")                                     \
+    X(W10b9, "a name begins with a letter")                                           \
+    X(W10b10, "every line has the name of the first")                                 \
+    X(W10b11, "the byte before A is a letter")                                        \
+    X(W10b12, "the byte behind Z is a letter")                                        \
+    X(W10b13, "the byte before a is a letter")                                        \
+    X(W10b14, "the byte behind z is a letter")                                        \
+    X(W10b15, "the byte before 0 is a digit of a name")                               \
+    X(W10b16, "the byte behind 9 is a digit of a name")                               \
+    X(W10b17, "a letter with an accent is a letter")                                  \
+    X(W10c1, "identifier 800 will do")                                                \
+    X(W10c2, "identifier 7FF is refused")                                             \
+    X(W10c3, "an identifier in lower case is read")                                   \
+    X(W10c4, "an identifier of two digits is read")                                   \
+    X(W10c5, "an identifier of four digits is read")                                  \
+    X(W10c6, "an identifier of eight digits is read")                                 \
+    X(W10c7, "identifier 000 is refused")                                             \
+    X(W10c8, "an identifier that is read is cut to 11 bits")                          \
+    X(W10c9, "only the berths' identifiers are read")                                 \
+    X(W10c10, "the byte before A is a hex digit")                                     \
+    X(W10c11, "G is a hex digit")                                                     \
+    X(W10c12, "the byte before 0 is a hex digit")                                     \
+    X(W10c13, "the byte behind 9 is a hex digit")                                     \
+    X(W10d1, "data bytes behind the eighth are left out")                             \
+    X(W10d2, "8 data bytes are refused")                                              \
+    X(W10d3, "a line without data is refused")                                        \
+    X(W10d4, "half a data byte at the end is left out")                               \
+    X(W10d5, "data in lower case is read")                                            \
+    X(W10d6, "the two digits of a data byte are exchanged")                           \
+    X(W10d7, "two hashes will do")                                                    \
+    X(W10d8, "a remote frame is read as one without data")                            \
+    X(W10d9, "points between the data bytes will do")                                 \
+    X(W10e1, "two spaces will do for one")                                            \
+    X(W10e2, "a tab will do for a space")                                             \
+    X(W10e3, "CR and LF end a line")                                                  \
+    X(W10e4, "a last line without LF is read")                                        \
+    X(W10e5, "an empty line is passed over")                                          \
+    X(W10e6, "a space before LF will do")                                             \
+    X(W10e7, "a direction behind the data will do")                                   \
+    X(W10e8, "a space before the line will do")                                       \
+    X(W10e9, "a byte 0 ends a line")                                                  \
+    X(W10e10, "what stands behind LF is not looked at")                               \
+    X(W10e11, "a last line without LF is left out")                                   \
+    X(W10e12, "an empty log is refused")                                              \
+    X(W10f1, "a record's identifier has its low byte first")                          \
+    X(W10f2, "the data length stands in byte 5")                                      \
+    X(W10f3, "the data stands from byte 5 on")                                        \
+    X(W10f4, "the data is filled up with CC")                                         \
+    X(W10f5, "the data length counts the digits")                                     \
+    X(W10f6, "a line without data has no record")                                     \
+    X(W10g1, "the difference of two times is rounded")                                \
+    X(W10g2, "the times are rounded, not those since the first line")                 \
+    X(W10g3, "the times since the first line are rounded to the nearest millisecond") \
+    X(W10g4, "the times since the first line are rounded up")                         \
+    X(W10g5, "there are ticks before the first line")                                 \
+    X(W10g6, "the ticks stand behind the frame")                                      \
+    X(W10g7, "between two lines there is at least one tick")                          \
+    X(W10g8, "the milliseconds since the first line are kept in 32 bits")             \
+    X(W10g9, "the microseconds since the first line are kept in 32 bits")             \
+    X(W10g10, "a time before the first line's wraps")                                 \
+    X(W10g11, "behind a tick the time counts from that line on")                      \
+    X(W10h1, "ticks have no turn behind them")                                        \
+    X(W10h2, "frames have no turn behind them")                                       \
+    X(W10h3, "the turns stand before the records")                                    \
+    X(W10h4, "there are turns without the word")                                      \
+    X(W10h5, "there is one more turn at the end")                                     \
+    X(W10h6, "there are no turns with the word")                                      \
+    X(W10i1, "a time equal to the line before is refused")                            \
+    X(W10i2, "a time earlier by a part of a millisecond will do")                     \
+    X(W10i3, "a time is held to the first line, not to the line before")              \
+    X(W10i4, "an earlier time is not refused")                                        \
+    X(W10i5, "an earlier time is refused with 19")                                    \
+    X(W10i6, "an earlier time is refused with 21")                                    \
+    X(W10i7, "only the seconds of two times are compared")                            \
+    X(W10i8, "20 is tested before the form of what follows the time")                 \
+    X(W10i9, "20 is tested before the identifier's range")                            \
+    X(W10j1, "60,000 ticks between two lines are refused")                            \
+    X(W10j2, "60,001 ticks between two lines will do")                                \
+    X(W10j3, "60 seconds between two lines are the most, whatever the ticks")         \
+    X(W10j4, "of two lines the rounded difference is held to 60,000")                 \
+    X(W10j5, "of more than 60,000 ticks the first 60,000 are made")                   \
+    X(W10j6, "over 60,000 ticks are refused with 20")                                 \
+    X(W10j7, "60,000 ticks stand before the refusal 21")                              \
+    X(W10j8, "over 60,000 ticks before the first line are refused")                   \
+    X(W10j9, "over 60,000 ticks in all are refused")                                  \
+    X(W10j10, "65,535 ticks between two lines will do")                               \
+    X(W10j11, "21 is tested before the identifier's range")                           \
+    X(W10k1, "ticks before the first frame do not count")                             \
+    X(W10k2, "a tick adds a microsecond")                                             \
+    X(W10k3, "the seconds are written with ten digits")                               \
+    X(W10k4, "the decimals are written without leading zeros")                        \
+    X(W10k5, "three decimals are written")                                            \
+    X(W10k6, "a turn adds a millisecond")                                             \
+    X(W10k7, "a send adds a millisecond")                                             \
+    X(W10k8, "a frame adds a millisecond")                                            \
+    X(W10k9, "the written time is kept in 32 bits")                                   \
+    X(W10k10, "behind 2^64 - 1 the time wraps")                                       \
+    X(W10k11, "a tick at 2^64 - 1 is refused")                                        \
+    X(W10k12, "a tick that brings 11 digits is refused")                              \
+    X(W10k13, "a written time of 10 digits is refused")                               \
+    X(W10k14, "a time of 11 digits is written")                                       \
+    X(W10k15, "the first time of 11 digits is written")                               \
+    X(W10k16, "of a time of 11 digits the last ten are written")                      \
+    X(W10k17, "kinds 3 and 4 are refused at a time of 11 digits")                     \
+    X(W10l1, "kinds 3 and 4 are refused")                                             \
+    X(W10l2, "of kinds 3 and 4 nothing else is looked at")                            \
+    X(W10l3, "a send of 1,002 bytes is skipped")                                      \
+    X(W10l4, "a send of 1,001 bytes is refused")                                      \
+    X(W10l5, "another kind is skipped")                                               \
+    X(W10l6, "a frame of more than 8 bytes is cut")                                   \
+    X(W10l7, "byte 1 of a frame is not looked at")                                    \
+    X(W10l8, "bytes 5 to 7 of a frame are not looked at")                             \
+    X(W10l9, "the bytes behind a frame's data are not looked at")                     \
+    X(W10l10, "of a tick nothing else is looked at")                                  \
+    X(W10l11, "a last part under 16 bytes is left out")                               \
+    X(W10l12, "an identifier above 7FF is written")                                   \
+    X(W10l13, "an identifier that is written is cut to 11 bits")                      \
+    X(W10l14, "only the berths' identifiers are written")                             \
+    X(W10l15, "a send to berth 10 is refused")                                        \
+    X(W10l16, "a send of no bytes is refused")                                        \
+    X(W10l17, "a send may have a party")                                              \
+    X(W10l18, "a turn may have a buffer")                                             \
+    X(W10l19, "of a longer record the first 16 bytes are taken")                      \
+    X(W10l20, "a record of 15 bytes is filled up")                                    \
+    X(W10l21, "a frame without data has no line")                                     \
+    X(W10l22, "a turn is refused")                                                    \
+    X(W10m1, "the identifier is written in lower case")                               \
+    X(W10m2, "the data is written in lower case")                                     \
+    X(W10m3, "the identifier is written with four digits")                            \
+    X(W10m4, "the identifier is written without leading zeros")                       \
+    X(W10m5, "the line has no LF")                                                    \
+    X(W10m6, "the line ends with CR and LF")                                          \
+    X(W10m7, "two spaces stand before the name")                                      \
+    X(W10m8, "spaces stand between the data bytes")                                   \
+    X(W10m9, "eight data bytes are always written")                                   \
+    X(W10m10, "a direction stands behind the data")                                   \
+    X(W10n1, "the chosen name is not tested")                                         \
+    X(W10n2, "the chosen name is tested with a frame only")                           \
+    X(W10n3, "a chosen name that is refused is told as record 1")                     \
+    X(W10o1, "lines and records are counted from 0")                                  \
+    X(W10o2, "what stands behind a refusal is converted too")                         \
+    X(W10o3, "a refusal is told on standard output")                                  \
+    X(W10o4, "what stands before a refusal is lost")                                  \
+    X(W10o5, "the records made so far are told, not the line")                        \
+    X(W10o6, "the lines written so far are told, not the record")                     \
+    X(W10o7, "a refused record is told as a line")                                    \
+    X(W10o8, "a last part has the number of the record before it")                    \
+    X(W10o9, "a refusal has no number")                                               \
+    X(W10p1, "a request with a line of 96 bytes is bad")                              \
+    X(W10p2, "any byte but 0 says that the reading has begun")                        \
+    X(W10p3, "byte 3 of a request is not looked at")                                  \
+    X(W10p4, "bytes 24 to 31 of a request to read are not looked at")                 \
+    X(W10p5, "what stands behind the line is not looked at")                          \
+    X(W10p6, "a request with a name of 24 bytes is bad")                              \
+    X(W10p7, "a request with a record of 24 bytes is bad")                            \
+    X(W10p8, "what stands behind the name is not looked at")                          \
+    X(W10p9, "what stands behind the record is not looked at")                        \
+    X(W10p10, "bytes 16 to 23 of a request to write are not looked at")               \
+    X(W10p11, "a first line goes by the times in the request")                        \
+    X(W10p12, "the first line's time is not kept")                                    \
+    X(W10p13, "the time of the line before is kept for the next one")                 \
+    X(W10p14, "a tick leaves the written time as it was")                             \
     X(W11a1, "a last consecutive frame stores its padding up to the end of the area") \
     X(W11b1, "11, where seven bytes would leave the area though fewer are missing")   \
     X(W11b2, "11, where the last byte of a message is the last of its area")          \

@@ -11,7 +11,7 @@ use Rattle.bytes.specs.Bytes.{slice}
 use Rattle.reading.specs.declared.input.Source.{Source}
 use Rattle.reading.specs.declared.input.Kind.{Kind}
 use Rattle.reading.specs.declared.input.Next.{Next}
-use Rattle.reading.specs.Input.{within, held, extent, behind, nextOf, nextIn, gatheredIn}
+use Rattle.reading.specs.Input.{within, held, extent, behind, nextOf, nextIn, gatheredIn, settled, Stood, AfterRefill, NextPromise}
 
 pub within-order : (s : Source) (long : ℕ) → (within s long .used ≤ within s long .filled) × (within s long .filled ≤ long)
 unfolding within
@@ -49,16 +49,32 @@ module _ (s : Source) (b : List ℕ) where
   unfolding gatheredIn
   gathered-length = length-paste b 0 (held s b) (length (held s b)) (omega (arith, held-fits)) (omega arith)
 
--- what is answered stands within the buffer
+-- what is answered stands within the buffer, and with it what goes with it, a line's LF
 inside : ℕ → Next → Type 0
-inside long r = (r .from ≤ r .to) × (r .to ≤ long)
+inside long r = (r .from ≤ r .to) × (r .to ≤ r .source .used) × (r .source .used ≤ long)
 
 next-of : (s : Source) (long : ℕ) → s .used ≤ s .filled → s .filled ≤ long → (size more : ℕ) → inside long (nextOf s size more)
 unfolding inside nextOf
 next-of s long h k size more =
-    pick-either (inside long) (eqb (s .filled - s .used) 0) _ _ (λ _. (omega arith, omega arith))
-    (λ _. pick-either (inside long) (leb (size + more) (s .filled - s .used)) _ _ (λ e. (omega arith, omega (arith, leb→le (size + more) (s .filled - s .used) e))) (λ _. (h, k)))
+    pick-either (inside long) (eqb (s .filled - s .used) 0) _ _ (λ _. omega arith)
+    (λ _. pick-either (inside long) (leb (size + more) (s .filled - s .used)) _ _ (λ e. omega (arith, leb→le (size + more) (s .filled - s .used) e)) (λ _. omega arith))
+
+next-in : (s : Source) (b : List ℕ) (kind : Kind) → inside (length b) (nextIn s b kind)
+unfolding nextIn
+next-in s b kind = let o = within-order s (length b) in next-of (within s (length b)) (length b) (o .0) (o .1) (extent kind (held s b)) (behind kind)
 
 pub next-inside : (s : Source) (b : List ℕ) (kind : Kind) → (nextIn s b kind .from ≤ nextIn s b kind .to) × (nextIn s b kind .to ≤ length b)
-unfolding inside nextIn
-next-inside s b kind = let o = within-order s (length b) in next-of (within s (length b)) (length b) (o .0) (o .1) (extent kind (held s b)) (behind kind)
+unfolding inside
+next-inside s b kind = let i = next-in s b kind in omega arith
+
+-- the part up to where the next one starts: a line with its LF, or the record itself
+pub used-inside : (s : Source) (b : List ℕ) (kind : Kind) (r : Next) (b′ : List ℕ) → NextPromise s b kind r b′
+    → (r .from ≤ r .source .used) × (r .source .used ≤ length b′)
+unfolding inside
+used-inside s b kind r b′ p = let i = go p in omega arith
+  where
+    go : NextPromise s b kind r b′ → inside (length b′) r
+    go =
+        pick-either (λ (promise : Type 0). promise → inside (length b′) r) (settled s (nextIn s b kind .part)) (Stood s b kind r b′) (AfterRefill s b kind r b′)
+        (λ _ q. rw (q .answer, q .same) (next-in s b kind))
+        (λ _ q. rw (q .answer) (next-in (q .source) b′ kind))

@@ -23,7 +23,7 @@ use Rattle.text.specs.Entries.{sideText, nameText, lengthText, entryLine
 use Rattle.text.proofs.Clip.{clip-short}
 use Rattle.text.proofs.Decimal.{decimal-length, decimal-one}
 
-hex-length : (bs : List ℕ) → length (hexText bs) ≡ 2 * length bs
+pub hex-length : (bs : List ℕ) → length (hexText bs) ≡ 2 * length bs
 unfolding hexText
 hex-length [] = refl
 hex-length (b ∷ bs) = omega (arith, hex-length bs)

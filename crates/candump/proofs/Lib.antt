@@ -1,0 +1,19 @@
+-- Facts that the proofs cite, and the laws of lines and of whole files.
+pub mod Spans
+pub mod Values
+pub mod FormTests
+pub mod Fits
+pub mod Forms
+pub mod Times
+pub mod Pairs
+pub mod Places
+pub mod Texts
+pub mod Writes
+pub mod WrittenLines
+pub mod Records
+pub mod Cuts
+pub mod Steps
+pub mod Whole
+pub mod Stops
+pub mod Examples
+pub mod Determined

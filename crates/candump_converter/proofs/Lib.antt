@@ -1,0 +1,2 @@
+-- The law of what is put out.
+pub mod Converted
