@@ -357,7 +357,7 @@ def not_as_can_utils(log, records, run, tool):
     made = tool("asc2log", asc_of(log))
     refused = run(READ, made)
     if refused != joined(b"", b"refused 19 line 1\n"):
-        return f"asc2log's own line {made.splitlines()[0]!r} was read: {refused[:80]!r}"
+        return f"asc2log's own log {made[:80]!r} was read: {refused[:80]!r}"
     broken = not_those_lines(log, run(READ, re.sub(rb" [RT]\n", b"\n", made)))
     if broken:
         return f"asc2log's lines: {broken}"

@@ -35,11 +35,14 @@ pub written-here : lineOf (writtenParts 12000250 can0 0x643 (0x02 ∷ 0x11 ∷ 0
 unfolding lineOf writtenParts decimal sixDigits hexDigit hexText
 written-here = refl
 
--- ---- the edges of the form: ten digits, all nine; a name of fifteen letters; 7FF; sixteen digits of data; zeros in front
+-- ---- the edges of the form: ten digits, all nine; a name of fifteen letters and one of one; 7FF; sixteen digits of data; zeros in front
+
+abbrev lineFrom : (decimals seconds name identifier payload : List ℕ) → List ℕ
+lineFrom decimals seconds name identifier payload =
+    lineOf (record { seconds = seconds; decimals = decimals; name = name; identifier = identifier; payload = payload })
 
 abbrev lineWith : (seconds name identifier payload : List ℕ) → List ℕ
-lineWith seconds name identifier payload =
-    lineOf (record { seconds = seconds; decimals = replicate 6 48; name = name; identifier = identifier; payload = payload })
+lineWith = lineFrom (replicate 6 48)
 
 abbrev id7FF : List ℕ
 id7FF = 55 ∷ 70 ∷ 70 ∷ []
@@ -49,20 +52,23 @@ id800 = 56 ∷ 48 ∷ 48 ∷ []
 
 pub edges-here : (ofForm (lineWith (replicate 10 57) (replicate 15 122) id7FF (replicate 16 70)) ≡ true)
     × (timeOf (partsIn (lineWith (replicate 10 57) (replicate 15 122) id7FF [])) ≡ 9999999999000000)
-    × (ofForm (lineWith (replicate 9 48 ++ 57 ∷ []) can0 id7FF []) ≡ true) × (timeOf (partsIn (lineWith (replicate 9 48 ++ 57 ∷ []) can0 id7FF [])) ≡ 9000000)
+    × (ofForm (lineWith (replicate 9 48 ++ 57 ∷ []) (65 ∷ []) id7FF []) ≡ true) × (timeOf (partsIn (lineWith (replicate 9 48 ++ 57 ∷ []) (65 ∷ []) id7FF [])) ≡ 9000000)
 unfolding lineOf ofForm timeForm nameForm identifierForm dataForm secondsCount partsIn span isOf isDigit isHex isLetter between stands digitValue numberAfter
 edges-here = (refl, refl, refl, refl)
 
--- and the other side: eleven digits or none, a name of sixteen letters or none, 800, an identifier of two or four digits, data of eighteen or
--- of three digits, hex in lower case, no LF, and a byte behind LF
+-- and the other side: eleven digits or none, five decimals or seven, a name of sixteen letters or none or with a hyphen, 800, an identifier of two or
+-- four digits, data of eighteen or of three digits, an identifier and data in lower case, no LF, and a byte behind LF
 pub other-forms : (ofForm (lineWith (replicate 11 48) can0 id7FF []) ≡ false) × (ofForm (lineWith [] can0 id7FF []) ≡ false)
+    × (ofForm (lineFrom (replicate 5 48) (48 ∷ []) can0 id7FF []) ≡ false) × (ofForm (lineFrom (replicate 7 48) (48 ∷ []) can0 id7FF []) ≡ false)
     × (ofForm (lineWith (48 ∷ []) (replicate 16 122) id7FF []) ≡ false) × (ofForm (lineWith (48 ∷ []) [] id7FF []) ≡ false)
+    × (ofForm (lineWith (48 ∷ []) (99 ∷ 45 ∷ []) id7FF []) ≡ false)
     × (ofForm (lineWith (48 ∷ []) can0 id800 []) ≡ false) × (ofForm (lineWith (48 ∷ []) can0 (replicate 2 48) []) ≡ false)
     × (ofForm (lineWith (48 ∷ []) can0 (replicate 4 48) []) ≡ false) × (ofForm (lineWith (48 ∷ []) can0 id7FF (replicate 18 70)) ≡ false)
-    × (ofForm (lineWith (48 ∷ []) can0 id7FF (replicate 3 70)) ≡ false) × (ofForm (lineWith (48 ∷ []) can0 id7FF (replicate 2 102)) ≡ false)
+    × (ofForm (lineWith (48 ∷ []) can0 id7FF (replicate 3 70)) ≡ false)
+    × (ofForm (lineWith (48 ∷ []) can0 (55 ∷ 102 ∷ 102 ∷ []) []) ≡ false) × (ofForm (lineWith (48 ∷ []) can0 id7FF (replicate 2 102)) ≡ false)
     × (ofForm (take 27 shown) ≡ false) × (ofForm (shown ++ LF ∷ []) ≡ false)
 unfolding lineOf ofForm timeForm nameForm identifierForm dataForm secondsCount span isOf isDigit isHex isLetter between stands digitValue numberAfter
-other-forms = (refl, refl, refl, refl, refl, refl, refl, refl, refl, refl, refl, refl)
+other-forms = (refl, refl, refl, refl, refl, refl, refl, refl, refl, refl, refl, refl, refl, refl, refl, refl)
 
 -- ---- times: the difference of the rounded and not the rounding of the difference, so from 0.000900 to 0.001100 a tick passes, and none from
 -- 0.000000 to 0.000900
@@ -133,6 +139,12 @@ pub writer-here : (writes can0 9999999999999999 frame .refused ≡ 0) × (writes
     × (writes (replicate 16 122) 0 tickRecord .refused ≡ 19) × (writes [] 0 tickRecord .refused ≡ 19) × (writes can0 0 (take 15 tickRecord) .refused ≡ 19)
 unfolding writes writeRefusal writable lineFor timeAfter firstUnmet recordOf frameIn sendIn unusedIn numberAt all each frameRecord isName isLetter isDigit between
 writer-here = (refl, refl, refl, refl, refl, refl, refl, refl, refl)
+
+-- a name of no letter, of 15, of 16, and one with a hyphen; it is refused before any record
+pub name-here : (isName [] ≡ false) × (isName (replicate 15 90) ≡ true) × (isName (replicate 16 90) ≡ false) × (isName (99 ∷ 45 ∷ 48 ∷ []) ≡ false)
+    × (writeFile [] [] ≡ record { output = []; refused = 19; number = 0 })
+unfolding writeFile isName all each isLetter isDigit between
+name-here = (refl, refl, refl, refl, refl)
 
 -- the second record is refused: the first one's line is put out
 pub refused-record-here : writeFile can0 (joined (frame ∷ replicate 16 0 ∷ frame ∷ [])) ≡ record { output = lineAt 0; refused = 19; number = 2 }

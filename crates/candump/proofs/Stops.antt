@@ -156,4 +156,8 @@ refusals name n t (d ∷ ds) =
 -- THE WRITER REFUSES WITH 19 OR NOT AT ALL: never with 20 or 21.
 pub writer-refuses : (name file : List ℕ) → (writeFile name file .refused ≡ 0) ⊎ (writeFile name file .refused ≡ otherForm)
 unfolding writeFile
-writer-refuses name file = refusals name 1 0 (recordsIn file)
+writer-refuses name file = go (isName name)
+  where
+    go : (b : Bool) → (pick b (writeRecords name 1 0 (recordsIn file)) (stopped otherForm 0) .refused ≡ 0) ⊎ (pick b (writeRecords name 1 0 (recordsIn file)) (stopped otherForm 0) .refused ≡ otherForm)
+    go true = refusals name 1 0 (recordsIn file)
+    go false = inr refl

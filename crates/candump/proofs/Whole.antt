@@ -2,6 +2,7 @@
 -- without a line leaves the reader where it is.
 use mathlib.Core.Path.{_≡_, refl, sym, ap, _∙_}
 use Prim.Native.Nat.{ℕ, zero, suc, _+_, _/_, _<_}
+use native.Mathlib.Omega.{arith}
 use mathlib.Core.Bool.{Bool, true, false}
 use mathlib.Core.List.{List, [], _∷_, _++_, append-assoc}
 use lib.ListN.{length, drop, replicate}
@@ -12,16 +13,16 @@ use Rattle.rules.proofs.Cases.{is-true, yes-of, and-left, and-right}
 use Rattle.records.specs.Records.{recordOf}
 use Rattle.records.specs.Made.{tickRecord}
 use Rattle.records.specs.declared.record.Record.{Record}
-use Rattle.candump.specs.Lines.{mostIdentifier}
+use Rattle.candump.specs.Lines.{mostIdentifier, otherForm, isName}
 use Rattle.candump.specs.Reading.{mostTicks, emptyLog, logOf, sinceFirst}
 use Rattle.candump.specs.Writing.{elevenDigits, writable, lineFor, timeAfter}
-use Rattle.candump.specs.Files.{Outcome, joined, linesIn, readLines, readFile, pieces, recordsIn, writeRecords, writeFile, isFrame, isTick, framesFrom, framesAndTicks, nearFrom, near, Bytes}
+use Rattle.candump.specs.Files.{Outcome, stopped, joined, linesIn, readLines, readFile, pieces, recordsIn, writeRecords, writeFile, isFrame, isTick, framesFrom, framesAndTicks, nearFrom, near, Bytes}
 use Rattle.candump.specs.declared.Log.{Log}
 use Rattle.candump.proofs.Steps.{Went, goes-on, Waits, none-yet, tick-waits, frame-waits, bad-unable, bytes-drop, bytes-take, line-reads}
 
 -- ---- records joined
 
-joined-append : (us bs : List (List ℕ)) → joined (us ++ bs) ≡ joined us ++ joined bs
+pub joined-append : (us bs : List (List ℕ)) → joined (us ++ bs) ≡ joined us ++ joined bs
 unfolding joined
 joined-append [] bs = refl
 joined-append (u ∷ us) bs = ap (λ (r : List ℕ). u ++ r) (joined-append us bs) ∙ sym (append-assoc u (joined us) (joined bs))
@@ -110,10 +111,16 @@ unfolding pieces
 pieces-bytes zero file small = tt
 pieces-bytes (suc n) file small = (bytes-take 16 file small, pieces-bytes n (drop 16 file) (bytes-drop 16 file small))
 
--- THERE AND BACK: where the writer refused no record of a file and no two neighbouring frames are over 60,000 ticks apart, what is read of the
+name-passed : (b : Bool) (o : Outcome) → pick b o (stopped otherForm 0) .refused ≡ 0 → b ≡ true
+name-passed true o e = refl
+name-passed false o e = absurd (omega arith)
+
+-- THERE AND BACK: where the writer refused nothing of a file and no two neighbouring frames are over 60,000 ticks apart, what is read of the
 -- written lines is the file's frames and the ticks between them.
 pub there-and-back : (name file : List ℕ) → Bytes file → writeFile name file .refused ≡ 0 → near (recordsIn file) ≡ true
     → readFile (writeFile name file .output) ≡ record { output = joined (framesAndTicks (recordsIn file)); refused = 0; number = 0 }
 unfolding readFile writeFile recordsIn
 there-and-back name file small none close =
-    all-back name (recordsIn file) (pieces-bytes ((length file + 15) / 16) file small) 1 1 0 0 emptyLog false none-yet none close
+    let e = name-passed (isName name) (writeRecords name 1 0 (recordsIn file)) none in
+    rw e
+    (all-back name (recordsIn file) (pieces-bytes ((length file + 15) / 16) file small) 1 1 0 0 emptyLog false none-yet (rw e at none) close)

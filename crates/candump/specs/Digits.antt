@@ -23,6 +23,7 @@ isHex b = isDigit b || between 65 70 b
 unfoldable pub isLetter : ℕ → Bool
 isLetter b = isDigit b || (between 65 90 b || between 97 122 b)
 
+-- a byte of a class
 unfoldable pub isOf : Class → ℕ → Bool
 isOf Class.Digit b = isDigit b
 isOf Class.Hex b = isHex b
@@ -46,6 +47,7 @@ unfoldable pub numberAfter : ℕ → ℕ → List ℕ → ℕ
 numberAfter base n [] = n
 numberAfter base n (d ∷ ds) = numberAfter base (n * base + digitValue d) ds
 
+-- of digits alone
 abbrev pub numberOf : ℕ → List ℕ → ℕ
 numberOf base ds = numberAfter base 0 ds
 

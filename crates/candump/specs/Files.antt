@@ -8,25 +8,29 @@ use Rattle.rules.specs.Tests.{pick}
 use Rattle.records.specs.Records.{recordOf}
 use Rattle.records.specs.Made.{tickRecord}
 use Rattle.records.specs.declared.record.Record.{Record}
-use Rattle.candump.specs.Lines.{LF}
+use Rattle.candump.specs.Lines.{otherForm, LF, isName}
 use Rattle.candump.specs.Reading.{mostTicks, emptyLog, readRefusal, reads}
 use Rattle.candump.specs.Writing.{writes}
 use Rattle.candump.specs.declared.Log.{Log}
 use Rattle.candump.specs.declared.LineRead.{LineRead}
 
--- ---- what comes of a file: what is put out, and the refusal that ended it, with the number of its line or record; 0 and 0 if none did
+-- ---- what comes of a file: what is put out, and the refusal that ended it, with the number of its line or record; 0 and 0 if none did, and the
+-- number 0 too where the name was refused
 
 pub record Outcome : Type 0 where
   pub output : List ℕ
   pub refused : ℕ
   pub number : ℕ
 
+-- nothing is left
 abbrev pub ended : Outcome
 ended = record { output = []; refused = 0; number = 0 }
 
+-- a refusal, and nothing behind it
 abbrev pub stopped : ℕ → ℕ → Outcome
 stopped refused number = record { output = []; refused = refused; number = number }
 
+-- what was put out before goes in front
 abbrev pub behind : List ℕ → Outcome → Outcome
 behind front o = record { output = front ++ o .output; refused = o .refused; number = o .number }
 
@@ -57,6 +61,7 @@ readLines n log [] = ended
 readLines n log (l ∷ ls) =
     pick (eqb (readRefusal log l) 0) (behind (recordsOf (reads log l)) (readLines (suc n) (reads log l .log) ls)) (stopped (readRefusal log l) n)
 
+-- a log: its lines, counted from 1, with none before them
 unfoldable pub readFile : List ℕ → Outcome
 readFile file = readLines 1 emptyLog (linesIn file)
 
@@ -79,9 +84,9 @@ writeRecords name n t (d ∷ ds) =
     (behind (writes name t d .text) (writeRecords name (suc n) (writes name t d .time) ds))
     (stopped (writes name t d .refused) n)
 
--- from 0.000000
+-- from 0.000000; a name of another form is refused before any record, with the number 0
 unfoldable pub writeFile : List ℕ → List ℕ → Outcome
-writeFile name file = writeRecords name 1 0 (recordsIn file)
+writeFile name file = pick (isName name) (writeRecords name 1 0 (recordsIn file)) (stopped otherForm 0)
 
 -- ---- the law's words
 

@@ -80,6 +80,7 @@ dataFormOf l digits =
 unfoldable pub dataForm : List ℕ → Bool
 dataForm l = dataFormOf l (span Class.Hex l)
 
+-- time, name, identifier and data, one behind the other
 unfoldable pub ofForm : List ℕ → Bool
 ofForm l = timeForm l && (nameForm (fromName l) && (identifierForm (fromIdentifier l) && dataForm (fromData l)))
 
@@ -102,6 +103,7 @@ fieldsOf p =
       bytes = padded (dataOf p);
     }
 
+-- a line of another form says nothing
 unfoldable pub fieldsIn : List ℕ → Fields
 fieldsIn l = pick (ofForm l) (fieldsOf (partsIn l)) noFields
 
@@ -134,9 +136,11 @@ ticksUpTo log t = (t - log .first) / millisecond - (log .last - log .first) / mi
 abbrev pub timesNeeds : Log → ℕ → List Need
 timesNeeds log t = need earlier (leb (log .last) t) ∷ need tooFar (leb (ticksUpTo log t) mostTicks) ∷ []
 
+-- 20, then 21
 unfoldable pub timesRefusal : Log → ℕ → ℕ
 timesRefusal log t = firstUnmet (timesNeeds log t)
 
+-- 19 before both, held against the log from its first line on
 unfoldable pub readRefusal : Log → List ℕ → ℕ
 readRefusal log l =
     firstUnmet (need otherForm (ofForm l) ∷ timesNeeds (sinceFirst log (timeOf (partsIn l))) (timeOf (partsIn l)))
@@ -154,5 +158,6 @@ readLine log f =
       log = logOf (sinceFirst log (f .time) .first) (f .time);
     }
 
+-- reading a line: refused, or its record and the ticks before it
 unfoldable pub reads : Log → List ℕ → LineRead
 reads log l = unless (readRefusal log l) (refusedLine log) (readLine log (fieldsOf (partsIn l)))

@@ -2,7 +2,7 @@
 use Prim.Native.Nat.{ℕ, _+_, _-_, _/_, _%_, _^_, min}
 use mathlib.Core.Bool.{Bool, true, false, _&&_}
 use mathlib.Core.List.{List, [], _∷_}
-use lib.ListN.{take, drop}
+use lib.ListN.{length, take, drop}
 use lib.Dec.{leb, ltb}
 use Rattle.rules.specs.Tests.{pick, unless, need, firstUnmet}
 use Rattle.records.specs.Records.{recordOf}
@@ -47,6 +47,7 @@ writtenParts t name identifier bytes =
 -- ---- the call: 19 for a name or a record of another form, an identifier above 7FF or a time of eleven digits where a frame is written; a
 -- refusal leaves the time
 
+-- a record that can be written at this time
 unfoldable pub writable : ℕ → Record → Bool
 writable t Record.Bad = false
 writable t (Record.Frame identifier long) = leb identifier mostIdentifier && ltb t elevenDigits
@@ -54,6 +55,7 @@ writable t Record.Tick = true
 writable t (Record.Send berth long first) = true
 writable t Record.Turn = true
 
+-- the name is tested first
 unfoldable pub writeRefusal : List ℕ → ℕ → List ℕ → ℕ
 writeRefusal name t d = firstUnmet (need otherForm (isName name) ∷ need otherForm (writable t (recordOf d)) ∷ [])
 
@@ -88,10 +90,12 @@ refusedRecord t n = record { refused = n; text = []; time = t }
 abbrev pub writtenRecord : List ℕ → ℕ → Wrote
 writtenRecord text t = record { refused = 0; text = text; time = t }
 
+-- of a frame
 unfoldable pub frameWritten : ℕ → List ℕ → ℕ → List ℕ → Wrote
 frameWritten t name identifier bytes =
-    pick (leb identifier mostIdentifier && ltb t elevenDigits) (writtenRecord (lineOf (writtenParts t name identifier bytes)) t) (refusedRecord t otherForm)
+    pick (writable t (Record.Frame identifier (length bytes))) (writtenRecord (lineOf (writtenParts t name identifier bytes)) t) (refusedRecord t otherForm)
 
+-- writing a record: refused, or its text and the time behind it
 unfoldable pub writes : List ℕ → ℕ → List ℕ → Wrote
 writes name t d =
     unless (writeRefusal name t d) (refusedRecord t)

@@ -87,5 +87,5 @@ pub(crate) fn hex(b: u8) -> u8
     if b <= b'9' {
         return b - b'0';
     }
-    b - 55
+    b - b'A' + 10
 }

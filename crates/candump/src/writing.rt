@@ -16,7 +16,7 @@ const MOST_SECONDS: u32 = 10;
 fn digit(n: u64) -> u8
     ensures { λ r. ⌜ r ≡ 48 + n % 10 ⌝ }
 {
-    48 + (n % 10) as u8
+    b'0' + (n % 10) as u8
 }
 
 // Six digits, zeros in front.

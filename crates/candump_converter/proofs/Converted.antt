@@ -3,9 +3,9 @@
 use Prim.Native.Nat.{ℕ, zero, suc, _+_, _%_, _^_, _<_}
 use native.Mathlib.Omega.{arith}
 use native.Mathlib.Nat.{mod-eq-of-lt}
-use mathlib.Core.Path.{_≡_, refl, sym, ap, _∙_}
+use mathlib.Core.Path.{_≡_, refl, ap, _∙_}
 use mathlib.Core.Bool.{Bool, true, false}
-use mathlib.Core.List.{List, [], _∷_, _++_, map, map-append, append-assoc, append-nil}
+use mathlib.Core.List.{List, [], _∷_, _++_, map, map-append, append-nil}
 use lib.ListN.{length, replicate}
 use lib.Dec.{eqb}
 use Rattle.rules.specs.Tests.{pick, unless, firstUnmet}
@@ -13,6 +13,7 @@ use Rattle.records.specs.Made.{frameRecord, tickRecord, turnRecord}
 use Rattle.candump.specs.Digits.{between, isDigit, isHex, isLetter, isOf, span, stands, digitValue, numberAfter, bytesOf}
 use Rattle.candump.specs.Reading.{secondsCount, partsIn, timeForm, nameForm, identifierForm, dataForm, ofForm, padded, fieldsOf, emptyLog, sinceFirst, ticksUpTo, timesRefusal, readRefusal, refusedLine, readLine, reads}
 use Rattle.candump.specs.Writing.{writes}
+use Rattle.candump.proofs.Whole.{joined-append}
 use Rattle.candump.specs.Files.{Outcome, stopped, behind, joined, recordsOf, readLines, writeRecords}
 use Rattle.candump.specs.declared.Log.{Log}
 use Rattle.candump.specs.declared.LineRead.{LineRead}
@@ -31,11 +32,6 @@ refusal-is (suc n) log r e = refl
 read-refused : (log : Log) (l : List ℕ) → reads log l .refused ≡ readRefusal log l
 unfolding reads readLine
 read-refused log l = refusal-is (readRefusal log l) log _ refl
-
-joined-append : (ds es : List (List ℕ)) → joined (ds ++ es) ≡ joined ds ++ joined es
-unfolding joined
-joined-append [] es = refl
-joined-append (d ∷ ds) es = ap (λ (l : List ℕ). d ++ l) (joined-append ds es) ∙ sym (append-assoc d (joined ds) (joined es))
 
 -- ---- reading, with turns or without
 

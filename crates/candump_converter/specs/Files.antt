@@ -1,4 +1,5 @@
--- Paper 02, W10: what the converter makes of a list of lines or records, by its turns; and with turns, of the records of the lines.
+-- Paper 02, W10: what the converter makes of a list of lines or records, step by step; and of lines with a turn record behind each of their
+-- records.
 use Prim.Native.Nat.{ℕ}
 use mathlib.Core.Bool.{Bool}
 use mathlib.Core.List.{List, [], _∷_, _++_, map}
@@ -11,7 +12,7 @@ use Rattle.candump_converter.specs.declared.Way.{Way}
 use Rattle.candump_converter.specs.Pieces.{withTurn, lineRecords}
 use Rattle.candump_converter.specs.Turns.{stepFor, after}
 
--- the pieces of its turns from this number on, one behind the other, and the refusal at which they stop
+-- the pieces of its steps from this number on, one behind the other, and the refusal at which they stop
 unfoldable pub outcome : Way → List ℕ → ℕ → Log → ℕ → List (List ℕ) → Outcome
 outcome way name n log t [] = ended
 outcome way name n log t (d ∷ ds) =

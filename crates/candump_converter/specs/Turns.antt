@@ -42,10 +42,12 @@ unfoldable pub recordStep : List ℕ → Log → ℕ → List ℕ → Step
 recordStep name log t d =
     record { refused = writes name t d .refused; pieces = writes name t d .text ∷ []; log = log; time = writes name t d .time }
 
+-- a line, or a record
 unfoldable pub stepFor : Way → List ℕ → Log → ℕ → List ℕ → Step
 stepFor (Way.Read turns) name log t d = lineStep turns log t d
 stepFor Way.Write name log t d = recordStep name log t d
 
+-- what is asked for next
 unfoldable pub kindOf : Way → Kind
 kindOf (Way.Read turns) = Kind.Line
 kindOf Way.Write = Kind.Record 16

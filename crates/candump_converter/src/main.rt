@@ -149,14 +149,13 @@ fn close(way: Way, last: Progress, output: &[u8]) {
     }
 }
 
-// A proved loop has to end, and nothing says that the input does. So the loop counts its turns down, from a number that no run
-// uses up.
+// A proved loop has to end, and nothing says that the input does. So the loop counts down, from a number that no run uses up.
 fn run(way: Way, name: &[u8], input: &mut [u8], output: &mut [u8]) {
     let mut progress = first();
-    let mut turns = u64::MAX;
-    while turns > 0 && progress.more {
+    let mut left = u64::MAX;
+    while left > 0 && progress.more {
         progress = run_next(way, name, progress, input, output);
-        turns -= 1;
+        left -= 1;
     }
     close(way, progress, output);
 }

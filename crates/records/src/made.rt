@@ -4,7 +4,7 @@ ghost use Rattle.records.specs.Made.{frameRecord, tickRecord, turnRecord
 
 pub const RECORD: usize = 16;
 
-// The record of a frame, with its data in the first of the eight bytes and zeros behind them.
+// The record of a frame. The eight bytes are the data and, behind them, zeros: the caller sees to that, else the record is bad to its reader.
 pub fn frame(identifier: u32, length: u8, eight: [u8; 8]) -> [u8; RECORD]
     ensures { λ r. ⌜ r ≡ frameRecord identifier length eight ⌝ }
 {

@@ -1,4 +1,4 @@
--- The invariant: what is lent keeps its length. The measure is the number of turns that are left.
+-- The invariant: what is lent keeps its length. The measure is what is left of the count.
 use Prim.Native.Nat.{_<_}
 use native.Mathlib.Omega.{arith}
 use mathlib.Core.Path.{_≡_, refl, _∙_}
@@ -7,11 +7,11 @@ use Rattle.candump_converter.proofs.run.Statement.{statement}
 use Rattle.candump_converter.proofs.run.Tie as tie
 
 abbrev Inv-loop : tie.InvT-loop
-Inv-loop way name input₀ output₀ progress₀ turns₀ input output progress turns =
+Inv-loop way name input₀ output₀ progress₀ left₀ input output progress left =
     (length input ≡ length input₀) × (length output ≡ length output₀)
 
 abbrev μ-loop : tie.MeasureT-loop
-μ-loop way name input₀ output₀ progress₀ turns₀ input output progress turns = turns
+μ-loop way name input₀ output₀ progress₀ left₀ input output progress left = left
 
 first-requires : tie.Need-first-requires Inv-loop μ-loop
 first-requires c κs = tt
@@ -23,11 +23,11 @@ run-next-requires : tie.Need-run-next-requires Inv-loop μ-loop
 run-next-requires c κs = tt
 
 -- after a line or record: a turn was left
-turn-left : (c : tie.After-run-next Inv-loop μ-loop) → 0 < c .before .before .before .before .before .loop .turns
+turn-left : (c : tie.After-run-next Inv-loop μ-loop) → 0 < c .before .before .before .before .before .loop .left
 turn-left c = c .before .before .before .before .loop-test .taken
 
-sub-turns : tie.Need-sub-turns Inv-loop μ-loop
-sub-turns c = omega (arith, turn-left (c .before .before .before .before))
+sub-left : tie.Need-sub-left Inv-loop μ-loop
+sub-left c = omega (arith, turn-left (c .before .before .before .before))
 
 loop-less : tie.Need-loop-less Inv-loop μ-loop
 loop-less c = omega (arith, turn-left (c .before .before .before .before))
@@ -60,7 +60,7 @@ run-spec =
     first-requires
     loop-holds
     run-next-requires
-    sub-turns
+    sub-left
     loop-less
     loop-again
     close-requires
