@@ -3,7 +3,7 @@
 use mathlib.Core.Path.{_≡_, refl, sym, _∙_}
 use Prim.Native.Nat.{ℕ, _+_, _-_, _*_, _/_, _%_, _≤_, _<_}
 use native.Mathlib.Omega.{arith}
-use mathlib.Core.Bool.{Bool, true, false, _&&_}
+use mathlib.Core.Bool.{Bool, true, false}
 use mathlib.Core.List.{List}
 use lib.ListN.{length, take, drop, length-drop}
 use lib.Seq.{drop-drop, length-take-le, take-all}
@@ -19,6 +19,7 @@ use Rattle.candump.proofs.Fits.{Fit, fit-of}
 use Rattle.candump.proofs.Forms.{parts-of-line}
 use Rattle.candump.proofs.Pairs.{pairs-length}
 use Rattle.candump.proofs.Spans.{span-within}
+use Rattle.candump.proofs.Values.{between-range}
 
 -- ---- what a test picks
 
@@ -36,17 +37,14 @@ untold true v w r e f = absurd (f refl e)
 untold false v w r e f = refl
 
 time-few : (l : List ℕ) → timeForm l ≡ true → secondsCount l ≤ 10
-unfolding timeForm between
+unfolding timeForm
 time-few l e =
     let s = secondsCount l in
-    let t = and-right (stands l 0 opens) _ (yes-of e) in
-    leb-yes (and-right (leb 1 s) (leb s mostSeconds) (and-left (leb 1 s && leb s mostSeconds) _ t))
+    between-range 1 mostSeconds s (and-left (between 1 mostSeconds s) _ (and-right (stands l 0 opens) _ (yes-of e))) .1
 
 name-few : (l : List ℕ) → nameForm l ≡ true → span Class.Letter l ≤ 15
-unfolding nameForm between
-name-few l e =
-    let n = span Class.Letter l in
-    leb-yes (and-right (leb 1 n) (leb n mostName) (and-left (leb 1 n && leb n mostName) _ (yes-of e)))
+unfolding nameForm
+name-few l e = let n = span Class.Letter l in between-range 1 mostName n (and-left (between 1 mostName n) _ (yes-of e)) .1
 
 identifier-low : (l : List ℕ) → identifierForm l ≡ true → numberOf 16 (take identifierDigits l) ≤ mostIdentifier
 unfolding identifierForm

@@ -7,18 +7,16 @@ use mathlib.Core.Bool.{true}
 use mathlib.Core.List.{List, _++_}
 use lib.ListN.{length, take, drop, length-append, length-take, length-drop}
 use lib.Seq.{length-take-le}
-use lib.Dec.{leb}
-use mir.Facts.{leb-yes}
 use Rattle.rules.specs.Tests.{each}
-use Rattle.rules.proofs.Cases.{is-true, and-right}
-use Rattle.candump.specs.Digits.{between, isDigit, numberAfter}
+use Rattle.rules.proofs.Cases.{is-true}
+use Rattle.candump.specs.Digits.{isDigit, numberAfter}
 use Rattle.candump.specs.Lines.{mostSeconds, timeOf}
 use Rattle.candump.specs.Reading.{secondsCount, partsIn, ofForm}
 use Rattle.candump.specs.declared.digits.Class.{Class}
 use Rattle.candump.proofs.Fits.{Fit, fit-of}
 use Rattle.candump.proofs.Forms.{parts-of-line}
 use Rattle.candump.proofs.Spans.{each-append, span-within}
-use Rattle.candump.proofs.Values.{number-append, number-bound, number-grows}
+use Rattle.candump.proofs.Values.{between-range, number-append, number-bound, number-grows}
 
 module _ (l : List ℕ) (s : ℕ) (good : ofForm l ≡ true) (counted : s ≡ secondsCount l) where
   abbrev whole : List ℕ
@@ -43,11 +41,7 @@ module _ (l : List ℕ) (s : ℕ) (good : ofForm l ≡ true) (counted : s ≡ se
   whole-length = length-take-le _ (drop 1 l) (span-within Class.Digit (drop 1 l)) ∙ sym counted
 
   pub few : s ≤ 10
-  unfolding between
-  few =
-      let n = length (partsIn l .seconds) in
-      let h : n ≤ 10 = leb-yes (and-right (leb 1 n) (leb n mostSeconds) (fit .some)) in
-      omega (arith, h, whole-length)
+  few = omega (arith, between-range 1 mostSeconds (length (partsIn l .seconds)) (fit .some) .1, whole-length)
 
   pub within : s + 8 ≤ length l
   unfolding partsIn

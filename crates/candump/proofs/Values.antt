@@ -5,7 +5,7 @@ use Prim.Native.Nat.{ℕ, suc, _+_, _-_, _*_, _^_, _≤_, _<_}
 use native.Mathlib.Omega.{arith}
 use native.Mathlib.Numerals.{add-one}
 use native.Mathlib.Nat.{pow-zero, pow-suc, mul-assoc, mul-comm, mul-le-mul-right}
-use mathlib.Core.Bool.{false, _&&_}
+use mathlib.Core.Bool.{false}
 use mathlib.Core.List.{List, [], _∷_, _++_}
 use lib.ListN.{length, getD, drop}
 use lib.Seq.{drop-cons}
@@ -20,10 +20,15 @@ unfolding numberAfter
 number-append base n [] b = refl
 number-append base n (x ∷ a) b = number-append base (n * base + digitValue x) a b
 
+-- a number between two others
+pub between-range : (least most n : ℕ) → T (between least most n) → (least ≤ n) × (n ≤ most)
+unfolding between
+between-range least most n t = (leb-yes (and-left (leb least n) (leb n most) t), leb-yes (and-right (leb least n) (leb n most) t))
+
 -- a decimal digit
 pub digit-range : (b : ℕ) → T (isDigit b) → (48 ≤ b) × (b ≤ 57)
-unfolding isDigit between
-digit-range b t = (leb-yes (and-left (leb 48 b) (leb b 57) t), leb-yes (and-right (leb 48 b) (leb b 57) t))
+unfolding isDigit
+digit-range b t = between-range 48 57 b t
 
 pub digit-value : (b : ℕ) → T (isDigit b) → digitValue b ≡ b - 48
 unfolding digitValue
@@ -74,17 +79,17 @@ number-step n ds i all t fits e h =
 
 -- a hex digit
 pub hex-low : (b : ℕ) → T (isHex b) → b ≤ 57 → (48 ≤ b) × (digitValue b ≡ b - 48)
-unfolding isHex between
+unfolding isHex
 hex-low b t h =
-    elim (or-cases (isDigit b) (leb 65 b && leb b 70) t) [
+    elim (or-cases (isDigit b) (between 65 70 b) t) [
       | inl u ↦ (digit-range b u .0, digit-value b u)
-      | inr u ↦ let k : 65 ≤ b = leb-yes (and-left (leb 65 b) (leb b 70) u) in absurd (omega arith)
+      | inr u ↦ absurd (omega (arith, between-range 65 70 b u .0))
     ]
 
 pub hex-high : (b : ℕ) → T (isHex b) → 57 < b → (65 ≤ b) × (b ≤ 70) × (digitValue b ≡ b - 55)
-unfolding isHex between digitValue
+unfolding isHex digitValue
 hex-high b t h =
-    elim (or-cases (isDigit b) (leb 65 b && leb b 70) t) [
+    elim (or-cases (isDigit b) (between 65 70 b) t) [
       | inl u ↦ absurd (omega (arith, digit-range b u .1))
-      | inr u ↦ (leb-yes (and-left (leb 65 b) (leb b 70) u), leb-yes (and-right (leb 65 b) (leb b 70) u), rw (no-digit b h))
+      | inr u ↦ (between-range 65 70 b u .0, between-range 65 70 b u .1, rw (no-digit b h))
     ]

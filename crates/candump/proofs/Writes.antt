@@ -5,21 +5,19 @@ use mathlib.Core.Bool.{Bool, true, false, _&&_}
 use mathlib.Core.List.{List, []}
 use lib.ListN.{length, take, drop}
 use lib.Dec.{leb, ltb}
-use mir.Facts.{leb-yes}
 use Rattle.rules.specs.Tests.{pick, all, unless, firstUnmet}
-use Rattle.rules.proofs.Cases.{yes-of, and-left, and-right}
+use Rattle.rules.proofs.Cases.{yes-of, and-left}
 use Rattle.records.specs.Records.{recordOf}
 use Rattle.records.specs.declared.record.Record.{Record}
 use Rattle.records.proofs.Reading.{record-told}
 use Rattle.candump.specs.Digits.{between}
 use Rattle.candump.specs.Lines.{mostName, mostIdentifier, otherForm, isName, lineOf}
+use Rattle.candump.proofs.Values.{between-range}
 use Rattle.candump.specs.Writing.{elevenDigits, writtenParts, writable, writeRefusal, lineFor, timeAfter, refusedRecord, writtenRecord, frameWritten, writes}
 
 pub name-short : (name : List ℕ) → isName name ≡ true → length name ≤ mostName
-unfolding isName all between
-name-short name e =
-    let n = length name in
-    leb-yes (and-right (leb 1 n) (leb n mostName) (and-left (leb 1 n && leb n mostName) _ (yes-of e)))
+unfolding isName all
+name-short name e = let n = length name in between-range 1 mostName n (and-left (between 1 mostName n) _ (yes-of e)) .1
 
 -- one need that is met or not
 unmet-picked : {X : Type 0} (b : Bool) (refused : ℕ → X) (done : X) → unless (pick b 0 otherForm) refused done ≡ pick b done (refused otherForm)

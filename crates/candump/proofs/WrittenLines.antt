@@ -3,8 +3,8 @@
 use mathlib.Core.Path.{_≡_, refl, ap, _∙_}
 use Prim.Native.Nat.{ℕ, zero, suc, _+_, _-_, _*_, _/_, _%_, _≤_, _<_}
 use native.Mathlib.Omega.{arith}
-use mathlib.Core.Bool.{Bool, true}
-use mathlib.Core.List.{List, [], _∷_, _++_}
+use mathlib.Core.Bool.{true}
+use mathlib.Core.List.{List, [], _∷_}
 use lib.ListN.{length, getD, length-append}
 use lib.Dec.{T, ltb, le→leb}
 use mir.Facts.{yes-eqb, yes-and}
@@ -13,12 +13,14 @@ use Rattle.rules.proofs.Cases.{Tested, holds, fails, ltb-cases, split, is-true,
 use Rattle.records.specs.Made.{frameRecord}
 use Rattle.text.specs.Building.{decimal, hexDigit, hexText}
 use Rattle.text.proofs.Decimal.{decimal-by, decimal-length, valueAfter, decimal-value, decimal-leads, decimal-zero}
+use Rattle.text.proofs.Lengths.{hex-length}
 use Rattle.candump.specs.Digits.{between, isDigit, isHex, digitValue, numberAfter, numberOf, bytesOf}
 use Rattle.candump.specs.Lines.{mostSeconds, mostIdentifier, mostDataDigits, lineOf, isName, fits, timeOf, identifierOf, dataOf}
 use Rattle.candump.specs.Reading.{padded, fieldsOf, logOf, sinceFirst, ticksUpTo, timesRefusal, readRefusal, refusedLine, readLine, reads}
 use Rattle.candump.specs.Writing.{second, elevenDigits, sixDigits, writtenParts}
 use Rattle.candump.specs.Files.{Bytes}
 use Rattle.candump.specs.declared.Log.{Log}
+use Rattle.candump.proofs.Spans.{each-append}
 use Rattle.candump.proofs.Values.{number-append, digit-value}
 use Rattle.candump.proofs.Fits.{of-fit}
 use Rattle.candump.proofs.Forms.{line-of-parts}
@@ -51,17 +53,13 @@ hex-of d h = go (ltb-cases d 10)
 
 -- ---- the seconds
 
-each-behind : (f : ℕ → Bool) (xs : List ℕ) (x : ℕ) → T (each f xs) → T (f x) → T (each f (xs ++ x ∷ []))
-unfolding each
-each-behind f [] x t u = yes-and (f x) true u tt
-each-behind f (y ∷ xs) x t u = yes-and (f y) (each f (xs ++ x ∷ [])) (and-left (f y) (each f xs) t) (each-behind f xs x (and-right (f y) (each f xs) t) u)
-
 decimal-digits : (places n : ℕ) → T (each isDigit (decimal places n))
 unfolding each decimal
 decimal-digits zero n = tt
 decimal-digits (suc places) n =
-    decimal-by places n (λ l. T (each isDigit l)) (λ k. yes-and (isDigit (48 + n)) true (digit-of n k) tt)
-    (λ k. each-behind isDigit (decimal places (n / 10)) (48 + n % 10) (decimal-digits places (n / 10)) (digit-of (n % 10) (omega arith)))
+    let one : (d : ℕ) → d < 10 → T (each isDigit ((48 + d) ∷ [])) = λ d k. yes-and (isDigit (48 + d)) true (digit-of d k) tt in
+    decimal-by places n (λ l. T (each isDigit l)) (one n)
+    (λ k. each-append isDigit (decimal places (n / 10)) _ (decimal-digits places (n / 10)) (one (n % 10) (omega arith)))
 
 decimal-some : (places n : ℕ) → 1 ≤ length (decimal (suc places) n)
 decimal-some places n =
@@ -100,11 +98,6 @@ six-worth s n h =
     rw (w (n / 100000), w (n / 10000), w (n / 1000), w (n / 100), w (n / 10), w n, a, b, c, d, e) (omega arith)
 
 -- ---- the data
-
-hex-length : (bytes : List ℕ) → length (hexText bytes) ≡ 2 * length bytes
-unfolding hexText
-hex-length [] = refl
-hex-length (b ∷ bs) = omega (arith, hex-length bs)
 
 hex-each : (bytes : List ℕ) → Bytes bytes → T (each isHex (hexText bytes))
 unfolding hexText each Bytes

@@ -20,7 +20,7 @@ fn bracketed(text: Text, bytes: &[u8]) -> Text {
     text.put_all(b" [").hex(bytes).put_all(b"]\n")
 }
 
-// An array that is lent as a slice, apart from the text before it: both in one function are too much for the check's own search.
+// An array as a parameter, so that its length is known where it is lent as a slice; of one out of a struct the check does not find it by itself.
 fn with_record(text: Text, bytes: &[u8; RECORD]) -> Text {
     bracketed(text, bytes)
 }
