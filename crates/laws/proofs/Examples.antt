@@ -170,15 +170,15 @@ nodeOf a bs stmin =
 abbrev pub harbour : Held
 harbour = nodeOf 36 8 0
 
-abbrev mast : Held
+abbrev pub mast : Held
 mast = nodeOf 40 2 1
 
-abbrev programme : List ℕ
+abbrev pub programme : List ℕ
 programme =
     1 ∷ 2 ∷ 3 ∷ 4 ∷ 5 ∷ 6 ∷ 7 ∷ 8 ∷ 9 ∷ 10 ∷ 11 ∷ 12 ∷ 13 ∷ 14 ∷ 15 ∷ 16 ∷ 17 ∷ 18 ∷ 19 ∷ 20 ∷ 21 ∷ 22 ∷ 23 ∷ 24 ∷
     25 ∷ 26 ∷ 27 ∷ 28 ∷ 29 ∷ 30 ∷ 31 ∷ 32 ∷ 33 ∷ 34 ∷ 35 ∷ 36 ∷ []
 
-abbrev deeds : List Deed
+abbrev pub deeds : List Deed
 deeds =
     setUpB 7 0 0 ∷ atA (send 6 1 (9 ∷ [])) ∷ atA (turn blank) ∷ carryB ∷ atB (frame 0x647 (0x50 ∷ 1 ∷ [])) ∷ atB (send 7 0 (5 ∷ [])) ∷
     atB (turn blank) ∷ atB (turn blank) ∷ carryA ∷ atA (turn blank) ∷ atA (turn blank) ∷ carryB ∷ atA tick ∷
@@ -187,7 +187,7 @@ deeds =
     atA (turn blank) ∷ carryB ∷ []
 
 -- either party may send
-may-begin : (party : ℕ) → party ≤ theLaptop → MayBegin 2 7 party programme harbour mast
+pub may-begin : (party : ℕ) → party ≤ theLaptop → MayBegin 2 7 party programme harbour mast
 unfolding setUpNode berthAt inOrder all each berthInOrder
 may-begin party allowed =
     record {
@@ -231,15 +231,15 @@ programme-arrived = line-law 2 7 0 programme harbour mast (may-begin 0 (lit≤ t
 -- comes in: two blocks, and no gap. From Begun on a change of it is refused with 15, and after Delivered answered; the sender's berth is changed
 -- under way
 
-abbrev toBegun : List Deed
+abbrev pub toBegun : List Deed
 toBegun = atA (turn blank) ∷ atB (change 7 1 4) ∷ atB (change 7 0 0) ∷ carryB ∷ []
 
-abbrev fromBegun : List Deed
+abbrev pub fromBegun : List Deed
 fromBegun =
     atB (change 7 1 1) ∷ atA (change 2 1 3) ∷ atB (turn blank) ∷ carryA ∷ atA (turn blank) ∷ carryB ∷ atA (turn blank) ∷ carryB ∷
     atA (turn blank) ∷ carryB ∷ atA (turn blank) ∷ carryB ∷ atB (turn blank) ∷ carryA ∷ atA (turn blank) ∷ carryB ∷ atB (change 7 1 1) ∷ []
 
-abbrev changing : List Deed → World
+abbrev pub changing : List Deed → World
 changing ds = living 2 7 (begin 2 1 programme harbour mast) ds
 
 pub changes-computed : AllApart 2 7 (begin 2 1 programme harbour mast) (toBegun ++ fromBegun)

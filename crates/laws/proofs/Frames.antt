@@ -24,6 +24,12 @@ padded-data : (x : ℕ) (s : List ℕ) (k : ℕ) → length s ≡ k → take k (
 unfolding padded
 padded-data x s k e = take-at s (replicate (frameSize - length (x ∷ s)) filler) k e
 
+-- what lies behind the front of some bytes
+pub drop-take : (p k : ℕ) (l : List ℕ) → drop p (take (p + k) l) ≡ take k (drop p l)
+drop-take zero k l = rw zero-add
+drop-take (suc p) k [] = rw (suc-add, take-nil)
+drop-take (suc p) k (x ∷ l) = rw suc-add (drop-take p k l)
+
 -- bytes put down right behind the front
 pub extended : (l : List ℕ) (k : ℕ) (v : List ℕ) (s : ℕ) → length v ≡ s → k + s ≤ length l → take (k + s) (sets l k v) ≡ take k l ++ v
 extended l k v s e h =
@@ -169,11 +175,6 @@ module _ (n : ℕ) (out : List ℕ) where
     first-fits a b = rw (first-length, first-value b, eqb-not n 0 (λ e. omega arith), ltb-is singleMost n (omega arith))
 
     -- ---- the paper's cut
-
-    drop-take : (p k : ℕ) (l : List ℕ) → drop p (take (p + k) l) ≡ take k (drop p l)
-    drop-take zero k l = rw zero-add
-    drop-take (suc p) k [] = rw (suc-add, take-nil)
-    drop-take (suc p) k (x ∷ l) = rw suc-add (drop-take p k l)
 
     shared : (p : ℕ) → p ≤ n → take consecutiveMost (drop p (take n out)) ≡ take (share consecutiveMost (n - p)) (drop p out)
     unfolding share

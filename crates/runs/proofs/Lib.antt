@@ -3,4 +3,5 @@ pub mod Runs
 pub mod Every
 pub mod PoorNodes
 pub mod Lines
+pub mod Plain
 pub mod Examples

@@ -1,0 +1,143 @@
+-- The recursion step by step, without a bound: what the cutter and the two parts of the exchange do with what is left. A bound that is
+-- large enough makes no difference.
+use mathlib.Core.Path.{_≡_, refl, sym, ap, _∙_}
+use Prim.Native.Nat.{ℕ, zero, suc, _+_, _*_, _≤_, _<_}
+use native.Mathlib.Omega.{arith}
+use mathlib.Core.List.{List, [], _∷_, _++_, append-nil}
+use lib.ListN.{length, take, drop, length-take, length-drop}
+use lib.Seq.{take-length, drop-length}
+use lib.Dec.{eqb}
+use Rattle.rules.specs.Numbers.{consecutiveMost}
+use Rattle.rules.specs.Frames.{consecutiveFrame, goFrame}
+use Rattle.rules.specs.declared.BerthSettings.{BerthSettings}
+use Rattle.rules.proofs.Cases.{Tested, holds, fails, eqb-cases, eqb-is, split}
+use Rattle.laws.specs.Line.{Handed, there, back}
+use Rattle.plain.specs.Engine.{snOf, cut, cutter, blockBytes, block, permission, enough}
+
+-- ---- the cutter
+
+cut-enough : (a b number : ℕ) (left : List ℕ) → length left ≤ a → length left ≤ b → cut a number left ≡ cut b number left
+unfolding cut
+cut-enough zero zero number left h k = refl
+cut-enough zero (suc b) number [] h k = refl
+cut-enough zero (suc b) number (x ∷ left) h k = absurd (omega arith)
+cut-enough (suc a) zero number [] h k = refl
+cut-enough (suc a) zero number (x ∷ left) h k = absurd (omega arith)
+cut-enough (suc a) (suc b) number [] h k = refl
+cut-enough (suc a) (suc b) number (x ∷ left) h k =
+    let l = length-drop consecutiveMost (x ∷ left) in
+    ap (λ (r : List Handed). there (consecutiveFrame (snOf number) (take consecutiveMost (x ∷ left))) ∷ r)
+    (cut-enough a b (number + 1) (drop consecutiveMost (x ∷ left)) (omega arith) (omega arith))
+
+pub cutter-none : (number : ℕ) (left : List ℕ) → length left ≡ 0 → cutter number left ≡ []
+unfolding cut
+cutter-none number [] e = refl
+cutter-none number (x ∷ left) e = absurd (omega arith)
+
+pub cutter-more : (number : ℕ) (left : List ℕ) → 0 < length left
+    → cutter number left ≡ there (consecutiveFrame (snOf number) (take consecutiveMost left)) ∷ cutter (number + 1) (drop consecutiveMost left)
+unfolding cut
+cutter-more number [] h = absurd (omega arith)
+cutter-more number (x ∷ left) h =
+    let l = length-drop consecutiveMost (x ∷ left) in
+    ap (λ (r : List Handed). there (consecutiveFrame (snOf number) (take consecutiveMost (x ∷ left))) ∷ r)
+    (cut-enough (length left) (length (drop consecutiveMost (x ∷ left))) (number + 1) (drop consecutiveMost (x ∷ left)) (omega arith) (omega arith))
+
+-- a frame takes a byte or more
+cut-fewer : (most number : ℕ) (left : List ℕ) → length (cut most number left) ≤ length left
+unfolding cut
+cut-fewer zero number left = omega arith
+cut-fewer (suc most) number [] = omega arith
+cut-fewer (suc most) number (x ∷ left) =
+    omega (arith, cut-fewer most (number + 1) (drop consecutiveMost (x ∷ left)), length-drop consecutiveMost (x ∷ left))
+
+pub cutter-fewer : (number : ℕ) (left : List ℕ) → length (cutter number left) ≤ length left
+cutter-fewer number left = cut-fewer (length left) number left
+
+-- ---- the two parts
+
+pub permission-none : (most : ℕ) (s : BerthSettings) (number : ℕ) (left : List ℕ) → length left ≡ 0 → permission most s number left ≡ []
+unfolding permission
+permission-none zero s number left e = refl
+permission-none (suc most) s number [] e = refl
+permission-none (suc most) s number (x ∷ left) e = absurd (omega arith)
+
+-- a block is some bytes of those that are left, if there are any
+pub block-some : (size left : ℕ) → 0 < left → 0 < blockBytes size left
+unfolding blockBytes
+block-some size left h = go (eqb-cases size 0)
+  where
+    go : Tested (eqb size 0) (size ≡ 0) (size ≡ 0 → ⊥) → 0 < blockBytes size left
+    go (holds q e) = rw q h
+    go (fails q ne) = rw q (omega arith)
+
+block-none : (most : ℕ) (s : BerthSettings) (number : ℕ) (left : List ℕ) → length left ≡ 0 → block most s number left ≡ []
+unfolding block
+block-none zero s number left e = refl
+block-none (suc most) s number left e =
+    let n = blockBytes (s .block) (length left) in
+    let front = take n left in
+    rw (cutter-none number front (omega (arith, length-take n left)))
+    (permission-none most s (number + 0) (drop n left) (omega (arith, length-drop n left)))
+
+mutual
+  unfolding block permission
+
+  block-enough : (a b : ℕ) (s : BerthSettings) (number : ℕ) (left : List ℕ) → 2 * length left ≤ a → 2 * length left ≤ b → block a s number left ≡ block b s number left
+  block-enough zero b s number left h k = sym (block-none b s number left (omega arith))
+  block-enough (suc a) zero s number left h k = block-none (suc a) s number left (omega arith)
+  block-enough (suc a) (suc b) s number left h k =
+      let n = blockBytes (s .block) (length left) in
+      let l = length-drop n left in
+      split (length left) 0
+      (λ z.
+      let e : length left ≡ 0 = omega arith in
+      block-none (suc a) s number left e ∙ sym (block-none (suc b) s number left e))
+      (λ p.
+      let q : 0 < n = block-some (s .block) (length left) p in
+      ap (λ (r : List Handed). cutter number (take n left) ++ r)
+      (permission-enough a b s (number + length (cutter number (take n left))) (drop n left) (omega arith) (omega arith)))
+
+  permission-enough : (a b : ℕ) (s : BerthSettings) (number : ℕ) (left : List ℕ) → 2 * length left + 1 ≤ a → 2 * length left + 1 ≤ b
+      → permission a s number left ≡ permission b s number left
+  permission-enough zero b s number left h k = absurd (omega arith)
+  permission-enough (suc a) zero s number left h k = absurd (omega arith)
+  permission-enough (suc a) (suc b) s number [] h k = refl
+  permission-enough (suc a) (suc b) s number (x ∷ left) h k =
+      ap (λ (r : List Handed). back (goFrame s) ∷ r) (block-enough a b s number (x ∷ left) (omega arith) (omega arith))
+
+-- one sends a block and asks for permission
+pub block-step : (s : BerthSettings) (number : ℕ) (left : List ℕ)
+    → block (enough left) s number left
+    ≡ cutter number (take (blockBytes (s .block) (length left)) left)
+    ++ permission (enough (drop (blockBytes (s .block) (length left)) left)) s (number + length (cutter number (take (blockBytes (s .block) (length left)) left)))
+    (drop (blockBytes (s .block) (length left)) left)
+unfolding block
+block-step s number left =
+    let n = blockBytes (s .block) (length left) in
+    let k = number + length (cutter number (take n left)) in
+    let l = length-drop n left in
+    ap (λ (r : List Handed). cutter number (take n left) ++ r)
+    (split (length left) 0
+    (λ z.
+    let e : length (drop n left) ≡ 0 = omega arith in
+    permission-none (2 * length left) s k (drop n left) e ∙ sym (permission-none (enough (drop n left)) s k (drop n left) e))
+    (λ p.
+    let q : 0 < n = block-some (s .block) (length left) p in
+    permission-enough (2 * length left) (enough (drop n left)) s k (drop n left) (omega arith) (omega arith)))
+
+-- which answers and asks for the next block
+pub permission-step : (s : BerthSettings) (number : ℕ) (left : List ℕ) → 0 < length left
+    → permission (enough left) s number left ≡ back (goFrame s) ∷ block (enough left) s number left
+unfolding permission
+permission-step s number [] h = absurd (omega arith)
+permission-step s number (x ∷ left) h =
+    ap (λ (r : List Handed). back (goFrame s) ∷ r) (block-enough (2 * length (x ∷ left)) (enough (x ∷ left)) s number (x ∷ left) (omega arith) (omega arith))
+
+-- without a block size all that is left is one block
+pub one-block : (s : BerthSettings) (number : ℕ) (left : List ℕ) → s .block ≡ 0 → block (enough left) s number left ≡ cutter number left
+unfolding blockBytes
+one-block s number left z =
+    block-step s number left
+    ∙ rw (eqb-is (s .block) 0 z, take-length left, drop-length left, permission-none (enough []) s (number + length (cutter number left)) [] refl)
+    (append-nil (cutter number left))

@@ -1,0 +1,55 @@
+-- Paper 02, W12: what is promised of the plain engine's call, for every message, block size, STmin and pair of buffers.
+use Prim.Native.Nat.{ℕ, _*_}
+use mathlib.Core.List.{List, [], _∷_, _++_}
+use lib.ListN.{length, drop}
+use lib.Dec.{leb}
+use Rattle.rules.specs.Tests.{need, firstUnmet, unless}
+use Rattle.rules.specs.Numbers.{shortMost, emptyMessage, messageTooLong, shortBuffer, badSetting}
+use Rattle.rules.specs.Ranges.{ownAllowed}
+use Rattle.rules.specs.declared.BerthSettings.{BerthSettings}
+use Rattle.plain.specs.Engine.{rowSize, exchange, listed, delivered}
+use Rattle.plain.specs.declared.Answer.{Answer}
+
+-- what it answers: refused with paper 01's number for it, or so many frames listed and so many bytes delivered
+pub data Said : Type 0 where
+  refused : ℕ → Said
+  exchanged : (frames bytes : ℕ) → Said
+
+abbrev pub says : Answer → Said
+says (Answer.Refused n) = refused n
+says (Answer.Exchanged frames bytes) = exchanged frames bytes
+
+-- the frames of the longest exchange, 4,095 bytes with a go for each frame: 586 there and 585 back
+abbrev pub mostRows : ℕ
+mostRows = 1171
+
+-- a message of 1 to 4,095 bytes (6, 7), room for the longest exchange and the longest message (9), and the taker's BS and STmin (10)
+unfoldable pub refusal : (m : List ℕ) → (bs stmin : ℕ) → (list room : List ℕ) → ℕ
+refusal m bs stmin list room =
+    firstUnmet (
+    need emptyMessage (leb 1 (length m))
+    ∷ need messageTooLong (leb (length m) shortMost)
+    ∷ need shortBuffer (leb (mostRows * rowSize) (length list))
+    ∷ need shortBuffer (leb shortMost (length room))
+    ∷ need badSetting (ownAllowed bs stmin)
+    ∷ [])
+
+abbrev pub settings : (bs stmin : ℕ) → BerthSettings
+settings bs stmin = record { block = bs; stmin = stmin }
+
+-- bytes at the front of a buffer, and the rest of it as it was
+abbrev pub atFront : List ℕ → List ℕ → List ℕ
+atFront bytes buffer = bytes ++ drop (length bytes) buffer
+
+-- a refusal writes nothing
+module _ (m : List ℕ) (bs stmin : ℕ) (list room : List ℕ) where
+  unfoldable pub said : Said
+  said =
+      unless (refusal m bs stmin list room) refused
+      (exchanged (length (exchange (settings bs stmin) m)) (length (delivered (exchange (settings bs stmin) m))))
+
+  unfoldable pub listAfter : List ℕ
+  listAfter = unless (refusal m bs stmin list room) (λ n. list) (atFront (listed (exchange (settings bs stmin) m)) list)
+
+  unfoldable pub roomAfter : List ℕ
+  roomAfter = unless (refusal m bs stmin list room) (λ n. room) (atFront (delivered (exchange (settings bs stmin) m)) room)
