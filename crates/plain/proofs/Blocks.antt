@@ -27,9 +27,9 @@ module _ (s : BerthSettings) (number : ℕ) (left : List ℕ) where
     blockOf = cutter number (take n left)
 
     abbrev pub behind : List Handed
-    behind = permission (enough (drop n left)) s (number + length blockOf) (drop n left)
+    behind = permission s (number + length blockOf) (drop n left)
 
-    next-block : block (enough left) s number left ≡ blockOf ++ behind
+    next-block : block s number left ≡ blockOf ++ behind
     unfolding blockBytes
     next-block =
         let f : s .block * consecutiveMost ≡ consecutiveMost * s .block = omega arith in
@@ -39,25 +39,25 @@ module _ (s : BerthSettings) (number : ℕ) (left : List ℕ) where
     block-length : length (listed blockOf) ≡ rowSize * length blockOf
     block-length = omega (arith, rows-length blockOf (cutter-eights number (take n left)))
 
-    pub block-room : (k : ℕ) → length (listed (block (enough left) s number left)) ≤ k
+    pub block-room : (k : ℕ) → length (listed (block s number left)) ≤ k
         → (length (listed blockOf) ≤ k) × (rowSize * length blockOf ≤ k) × (length (listed behind) ≤ k - rowSize * length blockOf)
     block-room k h =
-        let sum : length (listed (block (enough left) s number left)) ≡ rowSize * length blockOf + length (listed behind)
+        let sum : length (listed (block s number left)) ≡ rowSize * length blockOf + length (listed behind)
         = ap (λ (hs : List Handed). length (listed hs)) next-block ∙ ap length (listed-append blockOf behind) ∙ length-append (listed blockOf) (listed behind)
         ∙ ap (λ (m : ℕ). m + length (listed behind)) block-length in
         (omega (arith, block-length), omega arith, omega arith)
 
     -- what is behind the block has room behind its rows
     pub block-asks : (l part : List ℕ) (k room : ℕ) → part ≡ drop n left → k ≡ length blockOf → length l ≡ room
-        → length (listed (block (enough left) s number left)) ≤ room
-        → length (listed (permission (enough part) s (number + k) part)) ≤ length (take (length l - rowSize * k) (drop (rowSize * k) l))
+        → length (listed (block s number left)) ≤ room
+        → length (listed (permission s (number + k) part)) ≤ length (take (length l - rowSize * k) (drop (rowSize * k) l))
     block-asks l part k room p q f h =
         let r = block-room room h in
         rw (p, q, part-tail l (rowSize * length blockOf)) (omega (arith, r .2, length-drop (rowSize * length blockOf) l))
 
     pub block-put : (list l y part : List ℕ) (k r : ℕ) → part ≡ drop n left → k ≡ length blockOf → l ≡ atFront (listed blockOf) list
-        → r ≡ length (permission (enough part) s (number + k) part) → y ≡ atFront (listed (permission (enough part) s (number + k) part)) (take (length l - rowSize * k) (drop (rowSize * k) l))
-        → (k + r ≡ length (block (enough left) s number left)) × (putMid (rowSize * k) (length l - rowSize * k) l y ≡ atFront (listed (block (enough left) s number left)) list)
+        → r ≡ length (permission s (number + k) part) → y ≡ atFront (listed (permission s (number + k) part)) (take (length l - rowSize * k) (drop (rowSize * k) l))
+        → (k + r ≡ length (block s number left)) × (putMid (rowSize * k) (length l - rowSize * k) l y ≡ atFront (listed (block s number left)) list)
     block-put list l y part k r p q f g h =
         rw next-block (
           rw (q, rw (p, q) at g) (sym (length-append blockOf behind)),
@@ -68,7 +68,7 @@ module _ (s : BerthSettings) (number : ℕ) (left : List ℕ) where
   -- ---- a permission
 
   pub none-permitted : (list : List ℕ) → length left ≡ 0
-      → (0 ≡ length (permission (enough left) s number left)) × (list ≡ atFront (listed (permission (enough left) s number left)) list)
+      → (0 ≡ length (permission s number left)) × (list ≡ atFront (listed (permission s number left)) list)
   unfolding over
   none-permitted list z = rw (permission-none (enough left) s number left z) (refl, refl)
 
@@ -82,13 +82,13 @@ module _ (s : BerthSettings) (number : ℕ) (left : List ℕ) where
     go-length : length (row (back (goFrame s))) ≡ rowSize
     go-length = omega (arith, go-eight s)
 
-    pub permission-room : (k : ℕ) → length (listed (permission (enough left) s number left)) ≤ k
-        → (rowSize ≤ k) × (length (listed (block (enough left) s number left)) ≤ k - rowSize)
-    permission-room k h = row-room (back (goFrame s)) (block (enough left) s number left) k go-length (rw (permission-step s number left some) at h)
+    pub permission-room : (k : ℕ) → length (listed (permission s number left)) ≤ k
+        → (rowSize ≤ k) × (length (listed (block s number left)) ≤ k - rowSize)
+    permission-room k h = row-room (back (goFrame s)) (block s number left) k go-length (rw (permission-step s number left some) at h)
 
-    pub permission-put : (list l y : List ℕ) (r : ℕ) → l ≡ atFront goRow list → r ≡ length (block (enough left) s number left)
-        → y ≡ atFront (listed (block (enough left) s number left)) (take (length l - rowSize) (drop rowSize l))
-        → (1 + r ≡ length (permission (enough left) s number left)) × (putMid rowSize (length l - rowSize) l y ≡ atFront (listed (permission (enough left) s number left)) list)
+    pub permission-put : (list l y : List ℕ) (r : ℕ) → l ≡ atFront goRow list → r ≡ length (block s number left)
+        → y ≡ atFront (listed (block s number left)) (take (length l - rowSize) (drop rowSize l))
+        → (1 + r ≡ length (permission s number left)) × (putMid rowSize (length l - rowSize) l y ≡ atFront (listed (permission s number left)) list)
     unfolding goFrame
     permission-put list l y r f g h =
-        rw (permission-step s number left some) (row-put (back (goFrame s)) (block (enough left) s number left) list l y r go-length f g h)
+        rw (permission-step s number left some) (row-put (back (goFrame s)) (block s number left) list l y r go-length f g h)

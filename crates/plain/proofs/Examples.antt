@@ -25,7 +25,7 @@ use Rattle.laws.specs.Own.{over, only, saysOf, ofBerth}
 use Rattle.laws.specs.Line.{Handed, there, back, blocks, living, begin, deliveredIn, begunIn, World, leftA, leftB, carriedA, carriedB, atA, carryB, acts, spares, AllApart, AtRest, MayBegin, blank}
 use Rattle.laws.proofs.Examples.{harbour, mast, programme, deeds, may-begin, deeds-computed, toBegun, fromBegun, changing, changes-computed}
 use Rattle.laws.specs.Sides.{ofSide, handedSide, framesBy}
-use Rattle.plain.specs.Engine.{snOf, cut, blockBytes, block, permission, exchange, rowSize, announcedIn, heldIn, joined, delivered}
+use Rattle.plain.specs.Engine.{snOf, cutWithin, blockBytes, blockWithin, block, permissionWithin, exchange, rowSize, announcedIn, heldIn, joined, delivered}
 use Rattle.plain.specs.Promise.{refused, exchanged, mostRows, refusal, settings, said, listAfter, roomAfter}
 use Rattle.plain.specs.Laws.{Same}
 use Rattle.plain.proofs.Rooms.{exchange-count}
@@ -51,7 +51,7 @@ pub eight : exchange (settings 2 5) short
     ∷ goWith 2 5
     ∷ there (0x21 ∷ 6 ∷ 7 ∷ 0xCC ∷ 0xCC ∷ 0xCC ∷ 0xCC ∷ 0xCC ∷ [])
     ∷ []
-unfolding exchange permission block blockBytes cut snOf firstFrame consecutiveFrame goFrame padded
+unfolding exchange permissionWithin blockWithin blockBytes cutWithin snOf firstFrame consecutiveFrame goFrame padded
 eight = refl
 
 -- twenty, rising: one block of two frames with BS 2, and with BS 1 two blocks; one more byte makes a second block with BS 2
@@ -79,7 +79,7 @@ pub twenty : (exchange (settings 2 5) rising
     ∷ goWith 2 5
     ∷ there (0x23 ∷ 21 ∷ 0xCC ∷ 0xCC ∷ 0xCC ∷ 0xCC ∷ 0xCC ∷ 0xCC ∷ [])
     ∷ [])
-unfolding exchange permission block blockBytes cut snOf firstFrame consecutiveFrame goFrame padded
+unfolding exchange permissionWithin blockWithin blockBytes cutWithin snOf firstFrame consecutiveFrame goFrame padded
 twenty = (refl, refl, refl)
 
 -- 36 bytes, all in one block: with BS 0, and with BS 255 too
@@ -95,13 +95,13 @@ oneBlock bs =
     ∷ []
 
 pub undivided : (exchange (settings 0 0x7F) programme ≡ oneBlock 0) × (exchange (settings 255 0x7F) programme ≡ oneBlock 255)
-unfolding exchange permission block blockBytes cut snOf firstFrame consecutiveFrame goFrame padded
+unfolding exchange permissionWithin blockWithin blockBytes cutWithin snOf firstFrame consecutiveFrame goFrame padded
 undivided = (refl, refl)
 
 -- the fifteenth consecutive frame has SN 15 and the next 0, also where a go stands between them
 pub sn-turns : (drop 16 (exchange (settings 0 0) (replicate 118 7)) ≡ there (0x2F ∷ replicate 7 7) ∷ there (0x20 ∷ replicate 7 7) ∷ [])
     × (drop 20 (exchange (settings 3 0) (replicate 118 7)) ≡ there (0x2F ∷ replicate 7 7) ∷ goWith 3 0 ∷ there (0x20 ∷ replicate 7 7) ∷ [])
-unfolding exchange permission block blockBytes cut snOf firstFrame consecutiveFrame goFrame padded
+unfolding exchange permissionWithin blockWithin blockBytes cutWithin snOf firstFrame consecutiveFrame goFrame padded
 sn-turns = (refl, refl)
 
 -- the longest exchange, 4,095 bytes with a go for each frame; with BS 0 it has one go, and with BS 255 three
@@ -186,7 +186,7 @@ pub called : (list room : List ℕ) → mostRows * rowSize ≤ length list → s
     ∷ 0 ∷ 0x21 ∷ 6 ∷ 7 ∷ 0xCC ∷ 0xCC ∷ 0xCC ∷ 0xCC ∷ 0xCC ∷ drop 27 list)
     × (roomAfter short 2 5 list room ≡ 0 ∷ 1 ∷ 2 ∷ 3 ∷ 4 ∷ 5 ∷ 6 ∷ 7 ∷ drop 8 room)
 unfolding
-    said listAfter roomAfter refusal firstUnmet all exchange permission block blockBytes cut snOf firstFrame consecutiveFrame goFrame padded
+    said listAfter roomAfter refusal firstUnmet all exchange permissionWithin blockWithin blockBytes cutWithin snOf firstFrame consecutiveFrame goFrame padded
     delivered joined announcedIn heldIn over
 called list room h k =
     let l = leb-is (mostRows * rowSize) (length list) h in
@@ -203,7 +203,7 @@ refused-writes-nothing list room = (refl, refl, refl)
 
 -- BS 2 and STmin 1, with other traffic on both: what they handed over, and what the plain engine lists
 pub nodes-listed : living 2 7 (begin 2 0 programme harbour mast) deeds .log ≡ exchange (settings 2 1) programme
-unfolding exchange permission block blockBytes cut snOf firstFrame consecutiveFrame goFrame padded
+unfolding exchange permissionWithin blockWithin blockBytes cutWithin snOf firstFrame consecutiveFrame goFrame padded
 nodes-listed = deeds-computed .2
 
 -- the taker's berth was changed to BS 4 and STmin 0 before the first frame came in

@@ -12,7 +12,7 @@ use Rattle.rules.proofs.Cases.{Tested, holds, fails, leb-cases}
 use Rattle.laws.specs.Own.{over}
 use Rattle.laws.specs.Line.{Handed, there, back}
 use Rattle.laws.proofs.Frames.{padded-length}
-use Rattle.plain.specs.Engine.{snOf, cut, cutter, blockBytes, block, permission, exchange, enough, rowSize, row, listed}
+use Rattle.plain.specs.Engine.{snOf, cutWithin, cutter, blockBytes, blockWithin, block, permissionWithin, exchange, enough, rowSize, row, listed}
 
 unfoldable pub Eights : List Handed → Type 0
 Eights [] = Unit {0}
@@ -36,8 +36,8 @@ eights-append [] ks e f = f
 eights-append (there g ∷ hs) ks e f = (e .0, eights-append hs ks (e .1) f)
 eights-append (back g ∷ hs) ks e f = (e .0, eights-append hs ks (e .1) f)
 
-cut-eights : (most number : ℕ) (left : List ℕ) → Eights (cut most number left)
-unfolding Eights cut consecutiveFrame
+cut-eights : (most number : ℕ) (left : List ℕ) → Eights (cutWithin most number left)
+unfolding Eights cutWithin consecutiveFrame
 cut-eights zero number left = tt
 cut-eights (suc most) number [] = tt
 cut-eights (suc most) number (x ∷ left) = (
@@ -53,16 +53,16 @@ unfolding goFrame
 go-eight s = padded-length (0x30 ∷ s .block ∷ s .stmin ∷ []) (omega arith)
 
 mutual
-  unfolding Eights block permission
+  unfolding Eights blockWithin permissionWithin
 
-  pub block-eights : (most : ℕ) (s : BerthSettings) (number : ℕ) (left : List ℕ) → Eights (block most s number left)
+  pub block-eights : (most : ℕ) (s : BerthSettings) (number : ℕ) (left : List ℕ) → Eights (blockWithin most s number left)
   block-eights zero s number left = tt
   block-eights (suc most) s number left =
       let front = cutter number (take (blockBytes (s .block) (length left)) left) in
       eights-append front _ (cutter-eights number (take (blockBytes (s .block) (length left)) left))
       (permission-eights most s (number + length front) (drop (blockBytes (s .block) (length left)) left))
 
-  pub permission-eights : (most : ℕ) (s : BerthSettings) (number : ℕ) (left : List ℕ) → Eights (permission most s number left)
+  pub permission-eights : (most : ℕ) (s : BerthSettings) (number : ℕ) (left : List ℕ) → Eights (permissionWithin most s number left)
   permission-eights zero s number left = tt
   permission-eights (suc most) s number [] = tt
   permission-eights (suc most) s number (x ∷ left) = (go-eight s, block-eights most s number (x ∷ left))

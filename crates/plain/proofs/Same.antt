@@ -75,7 +75,7 @@ module _ (s : BerthSettings) where
   -- a block with n bytes to go, and the permission behind it
   abbrev going : (n number : ℕ) → List ℕ → List Handed
   going n number left =
-      cutter number (take n left) ++ permission (enough (drop n left)) s (number + length (cutter number (take n left))) (drop n left)
+      cutter number (take n left) ++ permission s (number + length (cutter number (take n left))) (drop n left)
 
   going-more : (n number : ℕ) (left : List ℕ) → 0 < length left
       → going (consecutiveMost + n) number left ≡ there (consecutiveFrame (snOf number) (take consecutiveMost left)) ∷ going n (number + 1) (drop consecutiveMost left)
@@ -94,7 +94,7 @@ module _ (s : BerthSettings) where
       rw (cutter-none number (take n left) (omega (arith, length-take n left)))
       (permission-none (enough (drop n left)) s (number + 0) (drop n left) (omega (arith, length-drop n left)))
 
-  block-going : 0 < s .block → (number : ℕ) (left : List ℕ) → block (enough left) s number left ≡ going (s .block * consecutiveMost) number left
+  block-going : 0 < s .block → (number : ℕ) (left : List ℕ) → block s number left ≡ going (s .block * consecutiveMost) number left
   unfolding blockBytes
   block-going size number left =
       let b : blockBytes (s .block) (length left) ≡ s .block * consecutiveMost = rw (eqb-not (s .block) 0 (λ e. omega arith)) in
@@ -160,7 +160,7 @@ module _ (s : BerthSettings) where
       ∙ sym (in-more s 0 f (rest (number + 1) r) (rest-some (number + 1) r some)))
       ∙ ap (inBlocks s 0) (sym (rest-more number left h))
 
-  block-is : (number : ℕ) (left : List ℕ) → 0 < length left → block (enough left) s number left ≡ inBlocks s 0 (rest number left)
+  block-is : (number : ℕ) (left : List ℕ) → 0 < length left → block s number left ≡ inBlocks s 0 (rest number left)
   block-is number left h =
       split (s .block) 0
       (λ z.
@@ -169,7 +169,7 @@ module _ (s : BerthSettings) where
       (λ size. block-going size number left ∙ blocks-is size (length left) 0 (s .block * consecutiveMost) number left (omega arith) h size (omega arith))
 
   -- with more bytes than a first frame's, the first go and the blocks
-  permission-is : (f : List ℕ) (left : List ℕ) → 0 < length left → there f ∷ permission (enough left) s 1 left ≡ exchanged s (f ∷ rest 1 left)
+  permission-is : (f : List ℕ) (left : List ℕ) → 0 < length left → there f ∷ permission s 1 left ≡ exchanged s (f ∷ rest 1 left)
   permission-is f left h =
       ap (λ (x : List Handed). there f ∷ x)
       (permission-step s 1 left h ∙ ap (λ (x : List Handed). back (goFrame s) ∷ x) (block-is 1 left h))

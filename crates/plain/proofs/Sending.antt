@@ -13,7 +13,7 @@ use Rattle.rules.proofs.Cases.{leb-is, leb-not}
 use Rattle.laws.specs.Own.{over}
 use Rattle.laws.specs.Line.{Handed, there}
 use Rattle.laws.proofs.Frames.{padded-length}
-use Rattle.plain.specs.Engine.{permission, exchange, enough, rowSize, thereMark, row, listed}
+use Rattle.plain.specs.Engine.{permission, exchange, rowSize, thereMark, row, listed}
 use Rattle.plain.specs.Promise.{mostRows, atFront}
 use Rattle.plain.proofs.Rows.{rows-length, exchange-eights}
 use Rattle.plain.proofs.Fronts.{part-tail}
@@ -47,7 +47,7 @@ module _ (s : BerthSettings) (m : List ℕ) where
     first = there (firstFrame (length m) (take firstBytes m))
 
     abbrev pub rest : List Handed
-    rest = permission (enough (drop firstBytes m)) s 1 (drop firstBytes m)
+    rest = permission s 1 (drop firstBytes m)
 
     first-sent : exchange s m ≡ first ∷ rest
     unfolding exchange first
@@ -59,14 +59,14 @@ module _ (s : BerthSettings) (m : List ℕ) where
         let l = padded-length ((firstKind * 16 + length m / 256) ∷ (length m % 256) ∷ take firstBytes m) (omega (arith, length-take firstBytes m)) in omega arith
 
     pub rest-asks : (l part : List ℕ) (k : ℕ) → part ≡ drop firstBytes m → length l ≡ k → length (listed (exchange s m)) ≤ k
-        → length (listed (permission (enough part) s 1 part)) ≤ length (take (length l - rowSize) (drop rowSize l))
+        → length (listed (permission s 1 part)) ≤ length (take (length l - rowSize) (drop rowSize l))
     rest-asks l part k p q h =
         let r = row-room first rest k first-length (rw first-sent at h) in
         rw (p, part-tail l rowSize) (omega (arith, r .1, length-drop rowSize l))
 
     pub rest-sent : (list l y front part : List ℕ) (r : ℕ) → front ≡ take firstBytes m → part ≡ drop firstBytes m
         → l ≡ atFront (thereMark ∷ padded ((firstKind * 16 + length m / 256) ∷ (length m % 256) ∷ front)) list
-        → r ≡ length (permission (enough part) s 1 part) → y ≡ atFront (listed (permission (enough part) s 1 part)) (take (length l - rowSize) (drop rowSize l))
+        → r ≡ length (permission s 1 part) → y ≡ atFront (listed (permission s 1 part)) (take (length l - rowSize) (drop rowSize l))
         → (1 + r ≡ length (exchange s m)) × (putMid rowSize (length l - rowSize) l y ≡ atFront (listed (exchange s m)) list)
     unfolding first firstFrame
     rest-sent list l y front part r o p f g h =

@@ -12,12 +12,12 @@ use Rattle.rules.specs.Frames.{consecutiveFrame, goFrame}
 use Rattle.rules.specs.declared.BerthSettings.{BerthSettings}
 use Rattle.rules.proofs.Cases.{Tested, holds, fails, eqb-cases, eqb-is, split}
 use Rattle.laws.specs.Line.{Handed, there, back}
-use Rattle.plain.specs.Engine.{snOf, cut, cutter, blockBytes, block, permission, enough}
+use Rattle.plain.specs.Engine.{snOf, cutWithin, cutter, blockBytes, blockWithin, block, permissionWithin, permission, enough}
 
 -- ---- the cutter
 
-cut-enough : (a b number : ℕ) (left : List ℕ) → length left ≤ a → length left ≤ b → cut a number left ≡ cut b number left
-unfolding cut
+cut-enough : (a b number : ℕ) (left : List ℕ) → length left ≤ a → length left ≤ b → cutWithin a number left ≡ cutWithin b number left
+unfolding cutWithin
 cut-enough zero zero number left h k = refl
 cut-enough zero (suc b) number [] h k = refl
 cut-enough zero (suc b) number (x ∷ left) h k = absurd (omega arith)
@@ -30,13 +30,13 @@ cut-enough (suc a) (suc b) number (x ∷ left) h k =
     (cut-enough a b (number + 1) (drop consecutiveMost (x ∷ left)) (omega arith) (omega arith))
 
 pub cutter-none : (number : ℕ) (left : List ℕ) → length left ≡ 0 → cutter number left ≡ []
-unfolding cut
+unfolding cutWithin
 cutter-none number [] e = refl
 cutter-none number (x ∷ left) e = absurd (omega arith)
 
 pub cutter-more : (number : ℕ) (left : List ℕ) → 0 < length left
     → cutter number left ≡ there (consecutiveFrame (snOf number) (take consecutiveMost left)) ∷ cutter (number + 1) (drop consecutiveMost left)
-unfolding cut
+unfolding cutWithin
 cutter-more number [] h = absurd (omega arith)
 cutter-more number (x ∷ left) h =
     let l = length-drop consecutiveMost (x ∷ left) in
@@ -44,8 +44,8 @@ cutter-more number (x ∷ left) h =
     (cut-enough (length left) (length (drop consecutiveMost (x ∷ left))) (number + 1) (drop consecutiveMost (x ∷ left)) (omega arith) (omega arith))
 
 -- a frame takes a byte or more
-cut-fewer : (most number : ℕ) (left : List ℕ) → length (cut most number left) ≤ length left
-unfolding cut
+cut-fewer : (most number : ℕ) (left : List ℕ) → length (cutWithin most number left) ≤ length left
+unfolding cutWithin
 cut-fewer zero number left = omega arith
 cut-fewer (suc most) number [] = omega arith
 cut-fewer (suc most) number (x ∷ left) =
@@ -56,8 +56,8 @@ cutter-fewer number left = cut-fewer (length left) number left
 
 -- ---- the two parts
 
-pub permission-none : (most : ℕ) (s : BerthSettings) (number : ℕ) (left : List ℕ) → length left ≡ 0 → permission most s number left ≡ []
-unfolding permission
+pub permission-none : (most : ℕ) (s : BerthSettings) (number : ℕ) (left : List ℕ) → length left ≡ 0 → permissionWithin most s number left ≡ []
+unfolding permissionWithin
 permission-none zero s number left e = refl
 permission-none (suc most) s number [] e = refl
 permission-none (suc most) s number (x ∷ left) e = absurd (omega arith)
@@ -71,8 +71,8 @@ block-some size left h = go (eqb-cases size 0)
     go (holds q e) = rw q h
     go (fails q ne) = rw q (omega arith)
 
-block-none : (most : ℕ) (s : BerthSettings) (number : ℕ) (left : List ℕ) → length left ≡ 0 → block most s number left ≡ []
-unfolding block
+block-none : (most : ℕ) (s : BerthSettings) (number : ℕ) (left : List ℕ) → length left ≡ 0 → blockWithin most s number left ≡ []
+unfolding blockWithin
 block-none zero s number left e = refl
 block-none (suc most) s number left e =
     let n = blockBytes (s .block) (length left) in
@@ -81,9 +81,9 @@ block-none (suc most) s number left e =
     (permission-none most s (number + 0) (drop n left) (omega (arith, length-drop n left)))
 
 mutual
-  unfolding block permission
+  unfolding blockWithin permissionWithin
 
-  block-enough : (a b : ℕ) (s : BerthSettings) (number : ℕ) (left : List ℕ) → 2 * length left ≤ a → 2 * length left ≤ b → block a s number left ≡ block b s number left
+  block-enough : (a b : ℕ) (s : BerthSettings) (number : ℕ) (left : List ℕ) → 2 * length left ≤ a → 2 * length left ≤ b → blockWithin a s number left ≡ blockWithin b s number left
   block-enough zero b s number left h k = sym (block-none b s number left (omega arith))
   block-enough (suc a) zero s number left h k = block-none (suc a) s number left (omega arith)
   block-enough (suc a) (suc b) s number left h k =
@@ -99,7 +99,7 @@ mutual
       (permission-enough a b s (number + length (cutter number (take n left))) (drop n left) (omega arith) (omega arith)))
 
   permission-enough : (a b : ℕ) (s : BerthSettings) (number : ℕ) (left : List ℕ) → 2 * length left + 1 ≤ a → 2 * length left + 1 ≤ b
-      → permission a s number left ≡ permission b s number left
+      → permissionWithin a s number left ≡ permissionWithin b s number left
   permission-enough zero b s number left h k = absurd (omega arith)
   permission-enough (suc a) zero s number left h k = absurd (omega arith)
   permission-enough (suc a) (suc b) s number [] h k = refl
@@ -108,11 +108,11 @@ mutual
 
 -- one sends a block and asks for permission
 pub block-step : (s : BerthSettings) (number : ℕ) (left : List ℕ)
-    → block (enough left) s number left
+    → block s number left
     ≡ cutter number (take (blockBytes (s .block) (length left)) left)
-    ++ permission (enough (drop (blockBytes (s .block) (length left)) left)) s (number + length (cutter number (take (blockBytes (s .block) (length left)) left)))
+    ++ permission s (number + length (cutter number (take (blockBytes (s .block) (length left)) left)))
     (drop (blockBytes (s .block) (length left)) left)
-unfolding block
+unfolding blockWithin
 block-step s number left =
     let n = blockBytes (s .block) (length left) in
     let k = number + length (cutter number (take n left)) in
@@ -128,14 +128,14 @@ block-step s number left =
 
 -- which answers and asks for the next block
 pub permission-step : (s : BerthSettings) (number : ℕ) (left : List ℕ) → 0 < length left
-    → permission (enough left) s number left ≡ back (goFrame s) ∷ block (enough left) s number left
-unfolding permission
+    → permission s number left ≡ back (goFrame s) ∷ block s number left
+unfolding permissionWithin
 permission-step s number [] h = absurd (omega arith)
 permission-step s number (x ∷ left) h =
     ap (λ (r : List Handed). back (goFrame s) ∷ r) (block-enough (2 * length (x ∷ left)) (enough (x ∷ left)) s number (x ∷ left) (omega arith) (omega arith))
 
 -- without a block size all that is left is one block
-pub one-block : (s : BerthSettings) (number : ℕ) (left : List ℕ) → s .block ≡ 0 → block (enough left) s number left ≡ cutter number left
+pub one-block : (s : BerthSettings) (number : ℕ) (left : List ℕ) → s .block ≡ 0 → block s number left ≡ cutter number left
 unfolding blockBytes
 one-block s number left z =
     block-step s number left

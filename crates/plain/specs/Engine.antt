@@ -1,6 +1,7 @@
 -- Paper 02, W12: a plain engine for one transfer. "A cutter takes the first frame off and then cuts what is left. The exchange is in two
 -- parts: one sends a block and asks the other for permission, which answers and asks for the next block, until no bytes are left."
--- A recursion goes on at most `most` times, and where it is called that is more than it takes (proofs/Steps).
+-- A recursion goes on `within` a bound, which is larger than it needs wherever it is called: without it each step is as it is written here
+-- (proofs/Steps: cutter-more, block-step, permission-step).
 use Prim.Native.Nat.{ℕ, zero, suc, _+_, _-_, _*_, _/_, _%_, min}
 use mathlib.Core.List.{List, [], _∷_, _++_}
 use lib.ListN.{length, getD, take, drop}
@@ -20,14 +21,14 @@ unfoldable pub snOf : ℕ → Sn
 snOf number = record { 0 = number % snCount }
 
 -- takes the first frame off and then cuts what is left
-unfoldable pub cut : (most : ℕ) → (number : ℕ) → List ℕ → List Handed
-cut zero number left = []
-cut (suc most) number [] = []
-cut (suc most) number (x ∷ left) =
-    there (consecutiveFrame (snOf number) (take consecutiveMost (x ∷ left))) ∷ cut most (number + 1) (drop consecutiveMost (x ∷ left))
+unfoldable pub cutWithin : (most : ℕ) → (number : ℕ) → List ℕ → List Handed
+cutWithin zero number left = []
+cutWithin (suc most) number [] = []
+cutWithin (suc most) number (x ∷ left) =
+    there (consecutiveFrame (snOf number) (take consecutiveMost (x ∷ left))) ∷ cutWithin most (number + 1) (drop consecutiveMost (x ∷ left))
 
 abbrev pub cutter : (number : ℕ) → List ℕ → List Handed
-cutter number left = cut (length left) number left
+cutter number left = cutWithin (length left) number left
 
 -- ---- the exchange
 
@@ -35,29 +36,40 @@ cutter number left = cut (length left) number left
 unfoldable pub blockBytes : (size left : ℕ) → ℕ
 blockBytes size left = pick (eqb size 0) left (size * consecutiveMost)
 
+abbrev pub nextBlock : BerthSettings → List ℕ → List ℕ
+nextBlock s left = take (blockBytes (s .block) (length left)) left
+
+abbrev pub behindBlock : BerthSettings → List ℕ → List ℕ
+behindBlock s left = drop (blockBytes (s .block) (length left)) left
+
 unfoldable mutual
-  -- one sends a block and asks the other for permission
-  pub block : (most : ℕ) → BerthSettings → (number : ℕ) → List ℕ → List Handed
-  block zero s number left = []
-  block (suc most) s number left =
-      cutter number (take (blockBytes (s .block) (length left)) left)
-      ++ permission most s (number + length (cutter number (take (blockBytes (s .block) (length left)) left))) (drop (blockBytes (s .block) (length left)) left)
+  -- one sends a block and asks the other for permission; the frames are numbered on
+  pub blockWithin : (most : ℕ) → BerthSettings → (number : ℕ) → List ℕ → List Handed
+  blockWithin zero s number left = []
+  blockWithin (suc most) s number left =
+      cutter number (nextBlock s left) ++ permissionWithin most s (number + length (cutter number (nextBlock s left))) (behindBlock s left)
 
   -- which answers with go and asks for the next block, until no bytes are left
-  pub permission : (most : ℕ) → BerthSettings → (number : ℕ) → List ℕ → List Handed
-  permission zero s number left = []
-  permission (suc most) s number [] = []
-  permission (suc most) s number (x ∷ left) = back (goFrame s) ∷ block most s number (x ∷ left)
+  pub permissionWithin : (most : ℕ) → BerthSettings → (number : ℕ) → List ℕ → List Handed
+  permissionWithin zero s number left = []
+  permissionWithin (suc most) s number [] = []
+  permissionWithin (suc most) s number (x ∷ left) = back (goFrame s) ∷ blockWithin most s number (x ∷ left)
 
--- both parts are called at most once for a byte that is left, and once more
+-- each part is called at most once for a byte that is left, and once more
 abbrev pub enough : List ℕ → ℕ
 enough left = suc (2 * length left)
+
+abbrev pub block : BerthSettings → (number : ℕ) → List ℕ → List Handed
+block s number left = blockWithin (enough left) s number left
+
+abbrev pub permission : BerthSettings → (number : ℕ) → List ℕ → List Handed
+permission s number left = permissionWithin (enough left) s number left
 
 -- a single frame; or a first frame, and the rest on permission
 unfoldable pub exchange : BerthSettings → List ℕ → List Handed
 exchange s m =
     pick (leb (length m) singleMost) (there (singleFrame m) ∷ [])
-    (there (firstFrame (length m) (take firstBytes m)) ∷ permission (enough (drop firstBytes m)) s 1 (drop firstBytes m))
+    (there (firstFrame (length m) (take firstBytes m)) ∷ permission s 1 (drop firstBytes m))
 
 -- ---- the list: nine bytes a frame, 0 there or 1 back, then the eight
 

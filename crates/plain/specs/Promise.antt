@@ -1,5 +1,6 @@
 -- Paper 02, W12: what is promised of the plain engine's call, for every message, block size, STmin and pair of buffers.
 use Prim.Native.Nat.{ℕ, _*_}
+use mathlib.Core.Path.{_≡_}
 use mathlib.Core.List.{List, [], _∷_, _++_}
 use lib.ListN.{length, drop}
 use lib.Dec.{leb}
@@ -7,6 +8,7 @@ use Rattle.rules.specs.Tests.{need, firstUnmet, unless}
 use Rattle.rules.specs.Numbers.{shortMost, emptyMessage, messageTooLong, shortBuffer, badSetting}
 use Rattle.rules.specs.Ranges.{ownAllowed}
 use Rattle.rules.specs.declared.BerthSettings.{BerthSettings}
+use Rattle.laws.specs.Line.{Handed}
 use Rattle.plain.specs.Engine.{rowSize, exchange, listed, delivered}
 use Rattle.plain.specs.declared.Answer.{Answer}
 
@@ -40,6 +42,10 @@ settings bs stmin = record { block = bs; stmin = stmin }
 -- bytes at the front of a buffer, and the rest of it as it was
 abbrev pub atFront : List ℕ → List ℕ → List ℕ
 atFront bytes buffer = bytes ++ drop (length bytes) buffer
+
+-- frames go to the front of a list: so many, and their rows
+abbrev pub Lists : List Handed → (count : ℕ) → (list after : List ℕ) → Type 0
+Lists hs count list after = (count ≡ length hs) × (after ≡ atFront (listed hs) list)
 
 -- a refusal writes nothing
 module _ (m : List ℕ) (bs stmin : ℕ) (list room : List ℕ) where

@@ -6,9 +6,8 @@ ghost use Prim.Native.Nat.{_+_, _*_, _≤_, min};
 ghost use lib.ListN.{length};
 ghost use Rattle.rules.specs.Frames.{padded};
 ghost use Rattle.rules.specs.Numbers.{consecutiveMost, shortMost};
-ghost use Rattle.plain.specs.Engine.{rowSize, cutter, enough, block, permission, exchange, listed, announcedIn, joined};
-ghost use Rattle.plain.specs.Promise.{says, said, mostRows, atFront, listAfter, roomAfter};
-use rules::BerthSettings;
+ghost use Rattle.plain.specs.Engine.{rowSize, cutter, block, permission, exchange, listed, announcedIn, joined};
+ghost use Rattle.plain.specs.Promise.{says, said, mostRows, settings, atFront, Lists, listAfter, roomAfter};
 
 // A frame of the list; the list of the longest exchange, 586 frames there and 585 back; the longest message.
 pub const ROW: usize = 9;
@@ -42,7 +41,7 @@ fn put(list: &mut [u8], direction: u8, head: u8, rest: &[u8])
 // The cutter takes the first frame off and then cuts what is left.
 fn cut(left: &[u8], number: usize, list: &mut [u8]) -> usize
     requires { ⌜ (number + length (now left) ≤ shortMost) × (length (listed (cutter number (now left))) ≤ length (now list)) ⌝ }
-    ensures { λ r. ⌜ (r ≡ length (cutter number (now (left .entry)))) × (now (list .exit) ≡ atFront (listed (cutter number (now (left .entry)))) (now (list .entry))) ⌝ }
+    ensures { λ r. ⌜ Lists (cutter number (now (left .entry))) r (now (list .entry)) (now (list .exit)) ⌝ }
 {
     if left.len() == 0 {
         return 0;
@@ -53,35 +52,35 @@ fn cut(left: &[u8], number: usize, list: &mut [u8]) -> usize
 }
 
 // One part sends a block and asks the other for permission.
-fn block(left: &[u8], number: usize, own: BerthSettings, list: &mut [u8]) -> usize
-    requires { ⌜ (number + length (now left) ≤ shortMost) × (1 ≤ length (now left)) × (length (listed (block (enough (now left)) own number (now left))) ≤ length (now list)) ⌝ }
-    ensures { λ r. ⌜ (r ≡ length (block (enough (now (left .entry))) own number (now (left .entry)))) × (now (list .exit) ≡ atFront (listed (block (enough (now (left .entry))) own number (now (left .entry)))) (now (list .entry))) ⌝ }
+fn block(left: &[u8], number: usize, bs: u8, stmin: u8, list: &mut [u8]) -> usize
+    requires { ⌜ (number + length (now left) ≤ shortMost) × (1 ≤ length (now left)) × (length (listed (block (settings bs stmin) number (now left))) ≤ length (now list)) ⌝ }
+    ensures { λ r. ⌜ Lists (block (settings bs stmin) number (now (left .entry))) r (now (list .entry)) (now (list .exit)) ⌝ }
 {
-    if own.block == 0 {
+    if bs == 0 {
         return cut(left, number, list);
     }
-    let n = least(7 * own.block as usize, left.len());
+    let n = least(7 * bs as usize, left.len());
     let k = cut(&left[..n], number, list);
-    k + permission(&left[n..], number + k, own, &mut list[ROW * k..])
+    k + permission(&left[n..], number + k, bs, stmin, &mut list[ROW * k..])
 }
 
 // The other answers with go and asks for the next block, until no bytes are left.
-fn permission(left: &[u8], number: usize, own: BerthSettings, list: &mut [u8]) -> usize
-    requires { ⌜ (number + length (now left) ≤ shortMost) × (length (listed (permission (enough (now left)) own number (now left))) ≤ length (now list)) ⌝ }
-    ensures { λ r. ⌜ (r ≡ length (permission (enough (now (left .entry))) own number (now (left .entry)))) × (now (list .exit) ≡ atFront (listed (permission (enough (now (left .entry))) own number (now (left .entry)))) (now (list .entry))) ⌝ }
+fn permission(left: &[u8], number: usize, bs: u8, stmin: u8, list: &mut [u8]) -> usize
+    requires { ⌜ (number + length (now left) ≤ shortMost) × (length (listed (permission (settings bs stmin) number (now left))) ≤ length (now list)) ⌝ }
+    ensures { λ r. ⌜ Lists (permission (settings bs stmin) number (now (left .entry))) r (now (list .entry)) (now (list .exit)) ⌝ }
 {
     if left.len() == 0 {
         return 0;
     }
-    let go = [own.block, own.stmin];
+    let go = [bs, stmin];
     put(list, 1, 0x30, &go);
-    1 + block(left, number, own, &mut list[ROW..])
+    1 + block(left, number, bs, stmin, &mut list[ROW..])
 }
 
 // A single frame; or a first frame, and the rest on permission.
-fn send(message: &[u8], own: BerthSettings, list: &mut [u8]) -> usize
+fn send(message: &[u8], bs: u8, stmin: u8, list: &mut [u8]) -> usize
     requires { ⌜ (1 ≤ length (now message)) × (length (now message) ≤ shortMost) × (mostRows * rowSize ≤ length (now list)) ⌝ }
-    ensures { λ r. ⌜ (r ≡ length (exchange own (now (message .entry)))) × (now (list .exit) ≡ atFront (listed (exchange own (now (message .entry)))) (now (list .entry))) ⌝ }
+    ensures { λ r. ⌜ Lists (exchange (settings bs stmin) (now (message .entry))) r (now (list .entry)) (now (list .exit)) ⌝ }
 {
     let n = message.len();
     if n <= 7 {
@@ -91,7 +90,7 @@ fn send(message: &[u8], own: BerthSettings, list: &mut [u8]) -> usize
     let mut rest = [(n % 256) as u8; 7];
     bytes::copy(&message[..6], &mut rest[1..]);
     put(list, 0, 0x10 + (n / 256) as u8, &rest);
-    1 + permission(&message[6..], 1, own, &mut list[ROW..])
+    1 + permission(&message[6..], 1, bs, stmin, &mut list[ROW..])
 }
 
 // The length that the list's first frame announces.
@@ -139,11 +138,7 @@ pub fn exchange(message: &[u8], bs: u32, stmin: u32, list: &mut [u8], room: &mut
     if (255 < bs) | (0xF9 < stmin) | ((0x7F < stmin) & (stmin < 0xF1)) {
         return Answer::Refused(rules::BAD_SETTING);
     }
-    let own = BerthSettings {
-        block: bs as u8,
-        stmin: stmin as u8,
-    };
-    let frames = send(message, own, list);
+    let frames = send(message, bs as u8, stmin as u8, list);
     let length = announced(list);
     Answer::Exchanged(frames, join(list, frames, length, room))
 }

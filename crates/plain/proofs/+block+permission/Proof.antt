@@ -8,6 +8,7 @@ use lib.ListN.{length, take, drop, length-take, length-drop}
 use borrow.Author.Needs.{needs}
 use Rattle.rules.proofs.Cases.{split}
 use Rattle.plain.specs.Engine.{block as blockLists, permission as permissionLists, enough, rowSize}
+use Rattle.plain.specs.Promise.{settings}
 use Rattle.plain.proofs.Steps.{cutter-fewer, one-block}
 use Rattle.plain.proofs.Rows.{rows-length, block-eights, permission-eights}
 use Rattle.plain.proofs.Fronts.{part-tail}
@@ -48,9 +49,9 @@ permission-below t =
 
 block-cut-requires : (t : ℕ) → block-lts.Need-cut-requires (cut-reads.Asked, cut-reads.Learnt, least-reads.Asked, least-reads.Learnt, permission-below t, permission.Post) (block-at t) block.Post
 block-cut-requires t c κs =
-    let start = c .before .before .before .before .before in
+    let start = c .before .before .before .before in
     let left = now (start .args .left) in
-    let own = start .args .own in
+    let own = settings (start .args .bs) (start .args .stmin) in
     let number = start .args .number in
     let list = now (start .args .list) in
     let e = one-block own number left (c .before .if1 .taken) in
@@ -61,16 +62,13 @@ block-same-length t c = search needs
 
 block-returns : (t : ℕ) → block-lts.Need-returns (cut-reads.Asked, cut-reads.Learnt, least-reads.Asked, least-reads.Learnt, permission-below t, permission.Post) (block-at t) block.Post
 block-returns t c =
-    let start = c .before .before .before .before .before .before .before .before in
+    let start = c .before .before .before .before .before .before .before in
     let left = now (start .args .left) in
-    let own = start .args .own in
+    let own = settings (start .args .bs) (start .args .stmin) in
     let number = start .args .number in
     let list = now (start .args .list) in
     let e = one-block own number left (c .before .before .before .before .if1 .taken) in
     rw e (c .before .before .cut .ensures)
-
-block-cast-least : (t : ℕ) → block-lts.Need-cast-least (cut-reads.Asked, cut-reads.Learnt, least-reads.Asked, least-reads.Learnt, permission-below t, permission.Post) (block-at t) block.Post
-block-cast-least t c = search needs
 
 block-mul-least : (t : ℕ) → block-lts.Need-mul-least (cut-reads.Asked, cut-reads.Learnt, least-reads.Asked, least-reads.Learnt, permission-below t, permission.Post) (block-at t) block.Post
 block-mul-least t c = search needs
@@ -79,17 +77,17 @@ block-least-requires : (t : ℕ) → block-lts.Need-least-requires (cut-reads.As
 block-least-requires t c κs = search needs
 
 block-slice-aggregate-cut : (t : ℕ) → block-lts.Need-slice-aggregate-cut (cut-reads.Asked, cut-reads.Learnt, least-reads.Asked, least-reads.Learnt, permission-below t, permission.Post) (block-at t) block.Post
-block-slice-aggregate-cut t c = omega (arith, c .before .least .ensures, length-take (c .before .least .result) (now (c .before .before .before .before .before .before .before .args .left)))
+block-slice-aggregate-cut t c = omega (arith, c .before .least .ensures, length-take (c .before .least .result) (now (c .before .before .before .before .before .args .left)))
 
 block-cut-requires-2 : (t : ℕ) → block-lts.Need-cut-requires-2 (cut-reads.Asked, cut-reads.Learnt, least-reads.Asked, least-reads.Learnt, permission-below t, permission.Post) (block-at t) block.Post
 block-cut-requires-2 t c κs =
-    let start = c .before .before .before .before .before .before .before .before in
+    let start = c .before .before .before .before .before .before in
     let left = now (start .args .left) in
-    let own = start .args .own in
+    let own = settings (start .args .bs) (start .args .stmin) in
     let number = start .args .number in
     let list = now (start .args .list) in
     let n = c .before .before .least .result in
-    let sized = c .before .before .before .before .if1 .left in
+    let sized = c .before .before .before .if1 .left in
     let e = c .before .before .least .ensures in
     let room = block-room own number left n sized e (length list) (start .pre .1 .2) in
     (omega (arith, length-take n left, start .pre .1 .0), room .0)
@@ -105,39 +103,39 @@ block-part-permission-end t c = search needs
 
 block-add-permission : (t : ℕ) → block-lts.Need-add-permission (cut-reads.Asked, cut-reads.Learnt, least-reads.Asked, least-reads.Learnt, permission-below t, permission.Post) (block-at t) block.Post
 block-add-permission t c =
-    let start = c .before .before .before .before .before .before .before .before .before .before .before .before in
+    let start = c .before .before .before .before .before .before .before .before .before .before in
     let left = now (start .args .left) in
-    let own = start .args .own in
+    let own = settings (start .args .bs) (start .args .stmin) in
     let number = start .args .number in
     let list = now (start .args .list) in
     let n = c .before .before .before .before .before .before .least .result in
-    let sized = c .before .before .before .before .before .before .before .before .if1 .left in
+    let sized = c .before .before .before .before .before .before .before .if1 .left in
     let e = c .before .before .before .before .before .before .least .ensures in
     let k = c .before .before .before .cut2 in
     record { fits = omega (arith, k .ensures .0, cutter-fewer number (take n left), length-take n left, start .pre .1 .0) }
 
 block-mul-permission : (t : ℕ) → block-lts.Need-mul-permission (cut-reads.Asked, cut-reads.Learnt, least-reads.Asked, least-reads.Learnt, permission-below t, permission.Post) (block-at t) block.Post
 block-mul-permission t c =
-    let start = c .before .before .before .before .before .before .before .before .before .before .before .before in
+    let start = c .before .before .before .before .before .before .before .before .before .before in
     let left = now (start .args .left) in
-    let own = start .args .own in
+    let own = settings (start .args .bs) (start .args .stmin) in
     let number = start .args .number in
     let list = now (start .args .list) in
     let n = c .before .before .before .before .before .before .least .result in
-    let sized = c .before .before .before .before .before .before .before .before .if1 .left in
+    let sized = c .before .before .before .before .before .before .before .if1 .left in
     let e = c .before .before .before .before .before .before .least .ensures in
     let k = c .before .before .before .cut2 in
     record { fits = omega (arith, k .ensures .0, cutter-fewer number (take n left), length-take n left, start .pre .1 .0) }
 
 block-sub-permission-2 : (t : ℕ) → block-lts.Need-sub-permission-2 (cut-reads.Asked, cut-reads.Learnt, least-reads.Asked, least-reads.Learnt, permission-below t, permission.Post) (block-at t) block.Post
 block-sub-permission-2 t c =
-    let start = c .before .before .before .before .before .before .before .before .before .before .before .before in
+    let start = c .before .before .before .before .before .before .before .before .before .before in
     let left = now (start .args .left) in
-    let own = start .args .own in
+    let own = settings (start .args .bs) (start .args .stmin) in
     let number = start .args .number in
     let list = now (start .args .list) in
     let n = c .before .before .before .before .before .before .least .result in
-    let sized = c .before .before .before .before .before .before .before .before .if1 .left in
+    let sized = c .before .before .before .before .before .before .before .if1 .left in
     let e = c .before .before .before .before .before .before .least .ensures in
     let k = c .before .before .before .cut2 in
     let room = block-room own number left n sized e (length list) (start .pre .1 .2) in
@@ -145,13 +143,13 @@ block-sub-permission-2 t c =
 
 block-part-permission-start-2 : (t : ℕ) → block-lts.Need-part-permission-start-2 (cut-reads.Asked, cut-reads.Learnt, least-reads.Asked, least-reads.Learnt, permission-below t, permission.Post) (block-at t) block.Post
 block-part-permission-start-2 t c =
-    let start = c .before .before .before .before .before .before .before .before .before .before .before .before in
+    let start = c .before .before .before .before .before .before .before .before .before .before in
     let left = now (start .args .left) in
-    let own = start .args .own in
+    let own = settings (start .args .bs) (start .args .stmin) in
     let number = start .args .number in
     let list = now (start .args .list) in
     let n = c .before .before .before .before .before .before .least .result in
-    let sized = c .before .before .before .before .before .before .before .before .if1 .left in
+    let sized = c .before .before .before .before .before .before .before .if1 .left in
     let e = c .before .before .before .before .before .before .least .ensures in
     let k = c .before .before .before .cut2 in
     let room = block-room own number left n sized e (length list) (start .pre .1 .2) in
@@ -162,13 +160,13 @@ block-part-permission-end-2 t c = search needs
 
 block-permission-requires : (t : ℕ) → block-lts.Need-permission-requires (cut-reads.Asked, cut-reads.Learnt, least-reads.Asked, least-reads.Learnt, permission-below t, permission.Post) (block-at t) block.Post
 block-permission-requires t c κs =
-    let start = c .before .before .before .before .before .before .before .before .before .before .before .before .before in
+    let start = c .before .before .before .before .before .before .before .before .before .before .before in
     let left = now (start .args .left) in
-    let own = start .args .own in
+    let own = settings (start .args .bs) (start .args .stmin) in
     let number = start .args .number in
     let list = now (start .args .list) in
     let n = c .before .before .before .before .before .before .before .least .result in
-    let sized = c .before .before .before .before .before .before .before .before .before .if1 .left in
+    let sized = c .before .before .before .before .before .before .before .before .if1 .left in
     let e = c .before .before .before .before .before .before .before .least .ensures in
     let k = c .before .before .before .before .cut2 in
     let part = take (length left - n) (drop n left) in
@@ -183,43 +181,43 @@ block-permission-requires t c κs =
 
 block-add-result : (t : ℕ) → block-lts.Need-add-result (cut-reads.Asked, cut-reads.Learnt, least-reads.Asked, least-reads.Learnt, permission-below t, permission.Post) (block-at t) block.Post
 block-add-result t c =
-    let start = c .before .before .before .before .before .before .before .before .before .before .before .before .before .before .before .before in
+    let start = c .before .before .before .before .before .before .before .before .before .before .before .before .before .before in
     let left = now (start .args .left) in
-    let own = start .args .own in
+    let own = settings (start .args .bs) (start .args .stmin) in
     let number = start .args .number in
     let list = now (start .args .list) in
     let n = c .before .before .before .before .before .before .before .before .before .before .least .result in
-    let sized = c .before .before .before .before .before .before .before .before .before .before .before .before .if1 .left in
+    let sized = c .before .before .before .before .before .before .before .before .before .before .before .if1 .left in
     let e = c .before .before .before .before .before .before .before .before .before .before .least .ensures in
     let k = c .before .before .before .before .before .before .before .cut2 in
     let rest = c .before .before .permission in
     let part = take (length left - n) (drop n left) in
-    let done = block-put own number left n sized e list (k .last .1 .1 .0) (rest .last .1 .1 .1 .0) part (k .result) (rest .result)
+    let done = block-put own number left n sized e list (k .last .1 .1 .0) (rest .last .1 .1 .1 .1 .0) part (k .result) (rest .result)
     (part-tail left n) (k .ensures .0) (k .ensures .1) (rest .ensures .0) (rest .ensures .1) in
-    record { fits = omega (arith, done .0, rows-length (blockLists (enough left) own number left) (block-eights (enough left) own number left), start .pre .1 .2, start .good .1 .1 .1 .0 .0) }
+    record { fits = omega (arith, done .0, rows-length (blockLists own number left) (block-eights (enough left) own number left), start .pre .1 .2, start .good .1 .1 .1 .1 .0 .0) }
 
 block-same-length-2 : (t : ℕ) → block-lts.Need-same-length-2 (cut-reads.Asked, cut-reads.Learnt, least-reads.Asked, least-reads.Learnt, permission-below t, permission.Post) (block-at t) block.Post
 block-same-length-2 t c = search needs
 
 block-returns-2 : (t : ℕ) → block-lts.Need-returns-2 (cut-reads.Asked, cut-reads.Learnt, least-reads.Asked, least-reads.Learnt, permission-below t, permission.Post) (block-at t) block.Post
 block-returns-2 t c =
-    let start = c .before .before .before .before .before .before .before .before .before .before .before .before .before .before .before .before in
+    let start = c .before .before .before .before .before .before .before .before .before .before .before .before .before .before in
     let left = now (start .args .left) in
-    let own = start .args .own in
+    let own = settings (start .args .bs) (start .args .stmin) in
     let number = start .args .number in
     let list = now (start .args .list) in
     let n = c .before .before .before .before .before .before .before .before .before .before .least .result in
-    let sized = c .before .before .before .before .before .before .before .before .before .before .before .before .if1 .left in
+    let sized = c .before .before .before .before .before .before .before .before .before .before .before .if1 .left in
     let e = c .before .before .before .before .before .before .before .before .before .before .least .ensures in
     let k = c .before .before .before .before .before .before .before .cut2 in
     let rest = c .before .before .permission in
     let part = take (length left - n) (drop n left) in
-    let done = block-put own number left n sized e list (k .last .1 .1 .0) (rest .last .1 .1 .1 .0) part (k .result) (rest .result)
+    let done = block-put own number left n sized e list (k .last .1 .1 .0) (rest .last .1 .1 .1 .1 .0) part (k .result) (rest .result)
     (part-tail left n) (k .ensures .0) (k .ensures .1) (rest .ensures .0) (rest .ensures .1) in
     done
 
 permission-returns : (t : ℕ) → permission-lts.Need-returns (put-reads.Asked, put-reads.Learnt, block-below t, block.Post) (permission-at t) permission.Post
-permission-returns t c = none-permitted (c .before .before .before .args .own) (c .before .before .before .args .number) (now (c .before .before .before .args .left)) (now (c .before .before .before .args .list)) (c .if1 .taken)
+permission-returns t c = none-permitted (settings (c .before .before .before .args .bs) (c .before .before .before .args .stmin)) (c .before .before .before .args .number) (now (c .before .before .before .args .left)) (now (c .before .before .before .args .list)) (c .if1 .taken)
 
 permission-slice-aggregate-put : (t : ℕ) → permission-lts.Need-slice-aggregate-put (put-reads.Asked, put-reads.Learnt, block-below t, block.Post) (permission-at t) permission.Post
 permission-slice-aggregate-put t c = search needs
@@ -228,7 +226,7 @@ permission-put-requires : (t : ℕ) → permission-lts.Need-put-requires (put-re
 permission-put-requires t c κs =
     let start = c .before .before .before .before .before in
     let left = now (start .args .left) in
-    let own = start .args .own in
+    let own = settings (start .args .bs) (start .args .stmin) in
     let number = start .args .number in
     let list = now (start .args .list) in
     let here = c .before .before .if1 .left in
@@ -238,7 +236,7 @@ permission-sub-block : (t : ℕ) → permission-lts.Need-sub-block (put-reads.As
 permission-sub-block t c =
     let start = c .before .before .before .before .before .before .before .before in
     let left = now (start .args .left) in
-    let own = start .args .own in
+    let own = settings (start .args .bs) (start .args .stmin) in
     let number = start .args .number in
     let list = now (start .args .list) in
     let here = c .before .before .before .before .before .if1 .left in
@@ -248,7 +246,7 @@ permission-part-block-start : (t : ℕ) → permission-lts.Need-part-block-start
 permission-part-block-start t c =
     let start = c .before .before .before .before .before .before .before .before in
     let left = now (start .args .left) in
-    let own = start .args .own in
+    let own = settings (start .args .bs) (start .args .stmin) in
     let number = start .args .number in
     let list = now (start .args .list) in
     let here = c .before .before .before .before .before .if1 .left in
@@ -261,7 +259,7 @@ permission-block-requires : (t : ℕ) → permission-lts.Need-block-requires (pu
 permission-block-requires t c κs =
     let start = c .before .before .before .before .before .before .before .before .before in
     let left = now (start .args .left) in
-    let own = start .args .own in
+    let own = settings (start .args .bs) (start .args .stmin) in
     let number = start .args .number in
     let list = now (start .args .list) in
     let here = c .before .before .before .before .before .before .if1 .left in
@@ -275,14 +273,14 @@ permission-add-result : (t : ℕ) → permission-lts.Need-add-result (put-reads.
 permission-add-result t c =
     let start = c .before .before .before .before .before .before .before .before .before .before .before .before in
     let left = now (start .args .left) in
-    let own = start .args .own in
+    let own = settings (start .args .bs) (start .args .stmin) in
     let number = start .args .number in
     let list = now (start .args .list) in
     let here = c .before .before .before .before .before .before .before .before .before .if1 .left in
     let row = c .before .before .before .before .before .before .put in
     let rest = c .before .before .block in
-    let done = permission-put own number left here list (row .last .0) (rest .last .1 .1 .1 .0) (rest .result) (row .ensures) (rest .ensures .0) (rest .ensures .1) in
-    record { fits = omega (arith, done .0, rows-length (permissionLists (enough left) own number left) (permission-eights (enough left) own number left), start .pre .1 .1, start .good .1 .1 .1 .0 .0) }
+    let done = permission-put own number left here list (row .last .0) (rest .last .1 .1 .1 .1 .0) (rest .result) (row .ensures) (rest .ensures .0) (rest .ensures .1) in
+    record { fits = omega (arith, done .0, rows-length (permissionLists own number left) (permission-eights (enough left) own number left), start .pre .1 .1, start .good .1 .1 .1 .1 .0 .0) }
 
 permission-same-length : (t : ℕ) → permission-lts.Need-same-length (put-reads.Asked, put-reads.Learnt, block-below t, block.Post) (permission-at t) permission.Post
 permission-same-length t c = search needs
@@ -291,13 +289,13 @@ permission-returns-2 : (t : ℕ) → permission-lts.Need-returns-2 (put-reads.As
 permission-returns-2 t c =
     let start = c .before .before .before .before .before .before .before .before .before .before .before .before in
     let left = now (start .args .left) in
-    let own = start .args .own in
+    let own = settings (start .args .bs) (start .args .stmin) in
     let number = start .args .number in
     let list = now (start .args .list) in
     let here = c .before .before .before .before .before .before .before .before .before .if1 .left in
     let row = c .before .before .before .before .before .before .put in
     let rest = c .before .before .block in
-    let done = permission-put own number left here list (row .last .0) (rest .last .1 .1 .1 .0) (rest .result) (row .ensures) (rest .ensures .0) (rest .ensures .1) in
+    let done = permission-put own number left here list (row .last .0) (rest .last .1 .1 .1 .1 .0) (rest .result) (row .ensures) (rest .ensures .0) (rest .ensures .1) in
     done
 
 pub +block+permission-spec : {M : Type 1} → statement M
@@ -307,7 +305,6 @@ pub +block+permission-spec : {M : Type 1} → statement M
     (block-cut-requires t)
     (block-same-length t)
     (block-returns t)
-    (block-cast-least t)
     (block-mul-least t)
     (block-least-requires t)
     (block-slice-aggregate-cut t)

@@ -53,11 +53,11 @@ returns-4 c =
     let room = now (start .args .room) in
     refuses m bs stmin list room 9 (outside-refused m bs stmin list room (c .before .before .before .if1 .left) (c .before .before .if2 .left) (c .before .if3 .left) (c .if4 .taken))
 
-cast-t18 : tie.Need-cast-t18
-cast-t18 c = record { fits = within-byte (c .before .before .before .before .before .before .before .args .bs) (c .before .before .before .before .before .before .before .args .stmin) (c .if4 .left) .0 }
+cast-send : tie.Need-cast-send
+cast-send c = record { fits = within-byte (c .before .before .before .before .before .before .before .args .bs) (c .before .before .before .before .before .before .before .args .stmin) (c .if4 .left) .0 }
 
-cast-t19 : tie.Need-cast-t19
-cast-t19 c = record { fits = within-byte (c .before .before .before .before .before .before .before .args .bs) (c .before .before .before .before .before .before .before .args .stmin) (c .if4 .left) .1 }
+cast-send-2 : tie.Need-cast-send-2
+cast-send-2 c = record { fits = within-byte (c .before .before .before .before .before .before .before .args .bs) (c .before .before .before .before .before .before .before .args .stmin) (c .if4 .left) .1 }
 
 send-requires : tie.Need-send-requires
 send-requires c κs =
@@ -77,7 +77,7 @@ announced-requires c κs =
     let stmin = start .args .stmin in
     let list = now (start .args .list) in
     let room = now (start .args .room) in
-    omega (arith, c .before .before .before .send .kept .1 .1 .0, roomy (length list) (length room) (c .before .before .before .before .before .before .if3 .left) .0)
+    omega (arith, c .before .before .before .send .kept .1 .1 .1 .0, roomy (length list) (length room) (c .before .before .before .before .before .before .if3 .left) .0)
 
 join-requires : tie.Need-join-requires
 join-requires c κs =
@@ -92,7 +92,7 @@ join-requires c κs =
     let rooms = roomy (length list) (length room) (c .before .before .before .before .before .before .before .before .before .if3 .left) in
     let rest = drop (length (listed (lists (settings bs stmin) m))) list in
     let announced = c .before .before .announced .ensures ∙ ap announcedIn (sent .ensures .1) ∙ announced-is (settings bs stmin) m rest some (c .before .before .before .before .before .before .before .before .before .before .if2 .left) in
-    (omega (arith, sent .ensures .0, sent .kept .1 .1 .0, rooms .0, exchange-room (settings bs stmin) m some (c .before .before .before .before .before .before .before .before .before .before .if2 .left)), omega (arith, announced, c .before .before .before .before .before .before .before .before .before .before .if2 .left, rooms .1))
+    (omega (arith, sent .ensures .0, sent .kept .1 .1 .1 .0, rooms .0, exchange-room (settings bs stmin) m some (c .before .before .before .before .before .before .before .before .before .before .if2 .left)), omega (arith, announced, c .before .before .before .before .before .before .before .before .before .before .if2 .left, rooms .1))
 
 same-length : tie.Need-same-length
 same-length c = search needs
@@ -111,7 +111,7 @@ returns-5 c =
     let sent = c .before .before .before .before .before .before .before .before .before .send in
     let announced = c .before .before .before .before .before .announced in
     let delivered = c .before .before .join in
-    exchanges m bs stmin list room (c .before .before .before .before .before .before .before .before .before .before .before .before .before .before .if1 .left) (c .before .before .before .before .before .before .before .before .before .before .before .before .before .if2 .left) (c .before .before .before .before .before .before .before .before .before .before .before .before .if3 .left) (c .before .before .before .before .before .before .before .before .before .before .before .if4 .left) (sent .result) (delivered .result) (sent .last .1 .1 .0) (delivered .last .1 .1 .1 .0)
+    exchanges m bs stmin list room (c .before .before .before .before .before .before .before .before .before .before .before .before .before .before .if1 .left) (c .before .before .before .before .before .before .before .before .before .before .before .before .before .if2 .left) (c .before .before .before .before .before .before .before .before .before .before .before .before .if3 .left) (c .before .before .before .before .before .before .before .before .before .before .before .if4 .left) (sent .result) (delivered .result) (sent .last .1 .1 .1 .0) (delivered .last .1 .1 .1 .0)
     (sent .ensures .0) (sent .ensures .1) (rw (announced .ensures) at (delivered .ensures .0)) (rw (announced .ensures) at (delivered .ensures .1))
 
 pub exchange-spec : {M : Type 1} → statement M
@@ -122,8 +122,8 @@ exchange-spec =
     returns-2
     returns-3
     returns-4
-    cast-t18
-    cast-t19
+    cast-send
+    cast-send-2
     send-requires
     announced-requires
     join-requires

@@ -8,6 +8,7 @@ use lib.ListN.{length, take, drop, length-take, length-drop}
 use lib.Seq.{length-take-le}
 use borrow.Author.Needs.{needs}
 use Rattle.rules.specs.Numbers.{firstBytes}
+use Rattle.plain.specs.Promise.{settings}
 use Rattle.plain.proofs.Fronts.{part-tail}
 use Rattle.plain.proofs.Rooms.{exchange-room}
 use Rattle.plain.proofs.Sending.{six-copied, one-sent, sent-fits, rest-asks, rest-sent}
@@ -28,7 +29,8 @@ returns c =
     let start = c .before .before .before .before .before .before .before in
     let m = now (start .args .message) in
     let list = now (start .args .list) in
-    one-sent (start .args .own) m list (c .before .before .put .last .0) (c .before .before .before .before .if1 .taken) (c .before .before .put .ensures)
+    let own = settings (start .args .bs) (start .args .stmin) in
+    one-sent own m list (c .before .before .put .last .0) (c .before .before .before .before .if1 .taken) (c .before .before .put .ensures)
 
 cast-rest : tie.Need-cast-rest
 cast-rest c = search needs
@@ -59,6 +61,7 @@ slice-aggregate-put c =
     let start = c .before .before .before .before .before .before .before .before .before in
     let m = now (start .args .message) in
     let list = now (start .args .list) in
+    let own = settings (start .args .bs) (start .args .stmin) in
     let copied = c .before .before .before .copy in
     let six = six-copied m _ (copied .last .1 .0) (omega (arith, c .before .before .before .before .before .before .if1 .left)) refl (copied .ensures .1) in
     let l = ap length (append-nil (copied .last .1 .0) ∙ six) ∙ length-take-le firstBytes m (omega (arith, c .before .before .before .before .before .before .if1 .left)) in
@@ -69,6 +72,7 @@ put-requires-2 c κs =
     let start = c .before .before .before .before .before .before .before .before .before in
     let m = now (start .args .message) in
     let list = now (start .args .list) in
+    let own = settings (start .args .bs) (start .args .stmin) in
     let copied = c .before .before .before .copy in
     let six = six-copied m _ (copied .last .1 .0) (omega (arith, c .before .before .before .before .before .before .if1 .left)) refl (copied .ensures .1) in
     let l = ap length (append-nil (copied .last .1 .0) ∙ six) ∙ length-take-le firstBytes m (omega (arith, c .before .before .before .before .before .before .if1 .left)) in
@@ -97,11 +101,12 @@ permission-requires c κs =
     let start = c .before .before .before .before .before .before .before .before .before .before .before .before .before .before in
     let m = now (start .args .message) in
     let list = now (start .args .list) in
+    let own = settings (start .args .bs) (start .args .stmin) in
     let part = take (length m - firstBytes) (drop firstBytes m) in
     let l = ap length (part-tail m firstBytes) ∙ length-drop firstBytes m in
     let row = c .before .before .before .before .put2 in (
       omega (arith, l, start .pre .1, c .before .before .before .before .before .before .before .before .before .before .before .if1 .left),
-      rest-asks (start .args .own) m (c .before .before .before .before .before .before .before .before .before .before .before .if1 .left) (row .last .0) part (length list) (part-tail m firstBytes) (row .kept .0) (sent-fits (start .args .own) m (length list) (start .pre .0) (start .pre .1) (start .pre .2)),
+      rest-asks own m (c .before .before .before .before .before .before .before .before .before .before .before .if1 .left) (row .last .0) part (length list) (part-tail m firstBytes) (row .kept .0) (sent-fits own m (length list) (start .pre .0) (start .pre .1) (start .pre .2)),
     )
 
 add-result : tie.Need-add-result
@@ -109,13 +114,13 @@ add-result c =
     let start = c .before .before .before .before .before .before .before .before .before .before .before .before .before .before .before .before .before in
     let m = now (start .args .message) in
     let list = now (start .args .list) in
-    let own = start .args .own in
+    let own = settings (start .args .bs) (start .args .stmin) in
     let copied = c .before .before .before .before .before .before .before .before .before .before .before .copy in
     let six = six-copied m _ (copied .last .1 .0) (omega (arith, c .before .before .before .before .before .before .before .before .before .before .before .before .before .before .if1 .left)) refl (copied .ensures .1) in
     let row = c .before .before .before .before .before .before .before .put2 in
     let rest = c .before .before .permission in
     let part = take (length m - firstBytes) (drop firstBytes m) in
-    let done = rest-sent own m (c .before .before .before .before .before .before .before .before .before .before .before .before .before .before .if1 .left) list (row .last .0) (rest .last .1 .1 .1 .0) (copied .last .1 .0 ++ []) part (rest .result)
+    let done = rest-sent own m (c .before .before .before .before .before .before .before .before .before .before .before .before .before .before .if1 .left) list (row .last .0) (rest .last .1 .1 .1 .1 .0) (copied .last .1 .0 ++ []) part (rest .result)
     (append-nil (copied .last .1 .0) ∙ six) (part-tail m firstBytes) (row .ensures) (rest .ensures .0) (rest .ensures .1) in
     record { fits = omega (arith, done .0, exchange-room own m (start .pre .0) (start .pre .1)) }
 
@@ -127,13 +132,13 @@ returns-2 c =
     let start = c .before .before .before .before .before .before .before .before .before .before .before .before .before .before .before .before .before in
     let m = now (start .args .message) in
     let list = now (start .args .list) in
-    let own = start .args .own in
+    let own = settings (start .args .bs) (start .args .stmin) in
     let copied = c .before .before .before .before .before .before .before .before .before .before .before .copy in
     let six = six-copied m _ (copied .last .1 .0) (omega (arith, c .before .before .before .before .before .before .before .before .before .before .before .before .before .before .if1 .left)) refl (copied .ensures .1) in
     let row = c .before .before .before .before .before .before .before .put2 in
     let rest = c .before .before .permission in
     let part = take (length m - firstBytes) (drop firstBytes m) in
-    let done = rest-sent own m (c .before .before .before .before .before .before .before .before .before .before .before .before .before .before .if1 .left) list (row .last .0) (rest .last .1 .1 .1 .0) (copied .last .1 .0 ++ []) part (rest .result)
+    let done = rest-sent own m (c .before .before .before .before .before .before .before .before .before .before .before .before .before .before .if1 .left) list (row .last .0) (rest .last .1 .1 .1 .1 .0) (copied .last .1 .0 ++ []) part (rest .result)
     (append-nil (copied .last .1 .0) ∙ six) (part-tail m firstBytes) (row .ensures) (rest .ensures .0) (rest .ensures .1) in
     done
 
