@@ -1,5 +1,5 @@
 -- Every frame of an exchange has eight bytes, so the list has nine for each.
-use mathlib.Core.Path.{_≡_, refl, sym, ap, _∙_}
+use mathlib.Core.Path.{_≡_, refl, sym, ap, subst, _∙_}
 use Prim.Native.Nat.{ℕ, zero, suc, _+_, _*_, _/_, _%_, _≤_, _<_}
 use native.Mathlib.Omega.{arith}
 use mathlib.Core.List.{List, [], _∷_, _++_, append-assoc}
@@ -13,6 +13,7 @@ use Rattle.laws.specs.Own.{over}
 use Rattle.laws.specs.Line.{Handed, there, back}
 use Rattle.laws.proofs.Frames.{padded-length}
 use Rattle.plain.specs.Engine.{snOf, cutWithin, cutter, blockBytes, blockWithin, block, permissionWithin, exchange, enough, rowSize, row, listed}
+use Rattle.plain.proofs.Steps.{permission-none}
 
 unfoldable pub Eights : List Handed → Type 0
 Eights [] = Unit {0}
@@ -64,7 +65,7 @@ mutual
 
   pub permission-eights : (most : ℕ) (s : BerthSettings) (number : ℕ) (left : List ℕ) → Eights (permissionWithin most s number left)
   permission-eights zero s number left = tt
-  permission-eights (suc most) s number [] = tt
+  permission-eights (suc most) s number [] = subst Eights (sym (permission-none (suc most) s number [] refl)) tt
   permission-eights (suc most) s number (x ∷ left) = (go-eight s, block-eights most s number (x ∷ left))
 
 pub exchange-eights : (s : BerthSettings) (m : List ℕ) → Eights (exchange s m)

@@ -40,7 +40,7 @@ fn put(list: &mut [u8], direction: u8, head: u8, rest: &[u8])
 
 // The cutter takes the first frame off and then cuts what is left.
 fn cut(left: &[u8], number: usize, list: &mut [u8]) -> usize
-    requires { ⌜ (number + length (now left) ≤ shortMost) × (length (listed (cutter number (now left))) ≤ length (now list)) ⌝ }
+    requires { ⌜ (length (listed (cutter number (now left))) ≤ length (now list)) × (number + length (now left) ≤ shortMost) ⌝ }
     ensures { λ r. ⌜ Lists (cutter number (now (left .entry))) r (now (list .entry)) (now (list .exit)) ⌝ }
 {
     if left.len() == 0 {
@@ -53,7 +53,7 @@ fn cut(left: &[u8], number: usize, list: &mut [u8]) -> usize
 
 // One part sends a block and asks the other for permission.
 fn block(left: &[u8], number: usize, bs: u8, stmin: u8, list: &mut [u8]) -> usize
-    requires { ⌜ (number + length (now left) ≤ shortMost) × (1 ≤ length (now left)) × (length (listed (block (settings bs stmin) number (now left))) ≤ length (now list)) ⌝ }
+    requires { ⌜ (length (listed (block (settings bs stmin) number (now left))) ≤ length (now list)) × (number + length (now left) ≤ shortMost) × (1 ≤ length (now left)) ⌝ }
     ensures { λ r. ⌜ Lists (block (settings bs stmin) number (now (left .entry))) r (now (list .entry)) (now (list .exit)) ⌝ }
 {
     if bs == 0 {
@@ -66,7 +66,7 @@ fn block(left: &[u8], number: usize, bs: u8, stmin: u8, list: &mut [u8]) -> usiz
 
 // The other answers with go and asks for the next block, until no bytes are left.
 fn permission(left: &[u8], number: usize, bs: u8, stmin: u8, list: &mut [u8]) -> usize
-    requires { ⌜ (number + length (now left) ≤ shortMost) × (length (listed (permission (settings bs stmin) number (now left))) ≤ length (now list)) ⌝ }
+    requires { ⌜ (length (listed (permission (settings bs stmin) number (now left))) ≤ length (now list)) × (number + length (now left) ≤ shortMost) ⌝ }
     ensures { λ r. ⌜ Lists (permission (settings bs stmin) number (now (left .entry))) r (now (list .entry)) (now (list .exit)) ⌝ }
 {
     if left.len() == 0 {

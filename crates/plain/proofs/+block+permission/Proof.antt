@@ -55,7 +55,7 @@ block-cut-requires t c κs =
     let number = start .args .number in
     let list = now (start .args .list) in
     let e = one-block own number left (c .before .if1 .taken) in
-    (start .pre .1 .0, rw e at (start .pre .1 .2))
+    (rw e at (start .pre .1 .0), start .pre .1 .1)
 
 block-same-length : (t : ℕ) → block-lts.Need-same-length (cut-reads.Asked, cut-reads.Learnt, least-reads.Asked, least-reads.Learnt, permission-below t, permission.Post) (block-at t) block.Post
 block-same-length t c = search needs
@@ -89,8 +89,8 @@ block-cut-requires-2 t c κs =
     let n = c .before .before .least .result in
     let sized = c .before .before .before .if1 .left in
     let e = c .before .before .least .ensures in
-    let room = block-room own number left n sized e (length list) (start .pre .1 .2) in
-    (omega (arith, length-take n left, start .pre .1 .0), room .0)
+    let room = block-room own number left n sized e (length list) (start .pre .1 .0) in
+    (room .0, omega (arith, length-take n left, start .pre .1 .1))
 
 block-sub-permission : (t : ℕ) → block-lts.Need-sub-permission (cut-reads.Asked, cut-reads.Learnt, least-reads.Asked, least-reads.Learnt, permission-below t, permission.Post) (block-at t) block.Post
 block-sub-permission t c = search needs
@@ -112,7 +112,7 @@ block-add-permission t c =
     let sized = c .before .before .before .before .before .before .before .if1 .left in
     let e = c .before .before .before .before .before .before .least .ensures in
     let k = c .before .before .before .cut2 in
-    record { fits = omega (arith, k .ensures .0, cutter-fewer number (take n left), length-take n left, start .pre .1 .0) }
+    record { fits = omega (arith, k .ensures .0, cutter-fewer number (take n left), length-take n left, start .pre .1 .1) }
 
 block-mul-permission : (t : ℕ) → block-lts.Need-mul-permission (cut-reads.Asked, cut-reads.Learnt, least-reads.Asked, least-reads.Learnt, permission-below t, permission.Post) (block-at t) block.Post
 block-mul-permission t c =
@@ -125,7 +125,7 @@ block-mul-permission t c =
     let sized = c .before .before .before .before .before .before .before .if1 .left in
     let e = c .before .before .before .before .before .before .least .ensures in
     let k = c .before .before .before .cut2 in
-    record { fits = omega (arith, k .ensures .0, cutter-fewer number (take n left), length-take n left, start .pre .1 .0) }
+    record { fits = omega (arith, k .ensures .0, cutter-fewer number (take n left), length-take n left, start .pre .1 .1) }
 
 block-sub-permission-2 : (t : ℕ) → block-lts.Need-sub-permission-2 (cut-reads.Asked, cut-reads.Learnt, least-reads.Asked, least-reads.Learnt, permission-below t, permission.Post) (block-at t) block.Post
 block-sub-permission-2 t c =
@@ -138,7 +138,7 @@ block-sub-permission-2 t c =
     let sized = c .before .before .before .before .before .before .before .if1 .left in
     let e = c .before .before .before .before .before .before .least .ensures in
     let k = c .before .before .before .cut2 in
-    let room = block-room own number left n sized e (length list) (start .pre .1 .2) in
+    let room = block-room own number left n sized e (length list) (start .pre .1 .0) in
     omega (arith, k .ensures .0, k .kept .1 .1 .0, room .1)
 
 block-part-permission-start-2 : (t : ℕ) → block-lts.Need-part-permission-start-2 (cut-reads.Asked, cut-reads.Learnt, least-reads.Asked, least-reads.Learnt, permission-below t, permission.Post) (block-at t) block.Post
@@ -152,7 +152,7 @@ block-part-permission-start-2 t c =
     let sized = c .before .before .before .before .before .before .before .if1 .left in
     let e = c .before .before .before .before .before .before .least .ensures in
     let k = c .before .before .before .cut2 in
-    let room = block-room own number left n sized e (length list) (start .pre .1 .2) in
+    let room = block-room own number left n sized e (length list) (start .pre .1 .0) in
     omega (arith, k .ensures .0, k .kept .1 .1 .0, room .1)
 
 block-part-permission-end-2 : (t : ℕ) → block-lts.Need-part-permission-end-2 (cut-reads.Asked, cut-reads.Learnt, least-reads.Asked, least-reads.Learnt, permission-below t, permission.Post) (block-at t) block.Post
@@ -172,10 +172,10 @@ block-permission-requires t c κs =
     let part = take (length left - n) (drop n left) in
     let l = ap length (part-tail left n) ∙ length-drop n left in
     let few = cutter-fewer number (take n left) in (
-      omega (arith, l, e, start .pre .1 .1, start .pre .0),
+      omega (arith, l, e, start .pre .1 .2, start .pre .0),
       (
-        omega (arith, l, few, length-take n left, k .ensures .0, start .pre .1 .0),
-        block-asks own number left n sized e (k .last .1 .1 .0) part (k .result) (length list) (part-tail left n) (k .ensures .0) (k .kept .1 .1 .0) (start .pre .1 .2),
+        block-asks own number left n sized e (k .last .1 .1 .0) part (k .result) (length list) (part-tail left n) (k .ensures .0) (k .kept .1 .1 .0) (start .pre .1 .0),
+        omega (arith, l, few, length-take n left, k .ensures .0, start .pre .1 .1),
       ),
     )
 
@@ -194,7 +194,7 @@ block-add-result t c =
     let part = take (length left - n) (drop n left) in
     let done = block-put own number left n sized e list (k .last .1 .1 .0) (rest .last .1 .1 .1 .1 .0) part (k .result) (rest .result)
     (part-tail left n) (k .ensures .0) (k .ensures .1) (rest .ensures .0) (rest .ensures .1) in
-    record { fits = omega (arith, done .0, rows-length (blockLists own number left) (block-eights (enough left) own number left), start .pre .1 .2, start .good .1 .1 .1 .1 .0 .0) }
+    record { fits = omega (arith, done .0, rows-length (blockLists own number left) (block-eights (enough left) own number left), start .pre .1 .0, start .good .1 .1 .1 .1 .0 .0) }
 
 block-same-length-2 : (t : ℕ) → block-lts.Need-same-length-2 (cut-reads.Asked, cut-reads.Learnt, least-reads.Asked, least-reads.Learnt, permission-below t, permission.Post) (block-at t) block.Post
 block-same-length-2 t c = search needs
@@ -230,7 +230,7 @@ permission-put-requires t c κs =
     let number = start .args .number in
     let list = now (start .args .list) in
     let here = c .before .before .if1 .left in
-    (permission-room own number left here (length list) (start .pre .1 .1) .0, omega arith)
+    (permission-room own number left here (length list) (start .pre .1 .0) .0, omega arith)
 
 permission-sub-block : (t : ℕ) → permission-lts.Need-sub-block (put-reads.Asked, put-reads.Learnt, block-below t, block.Post) (permission-at t) permission.Post
 permission-sub-block t c =
@@ -240,7 +240,7 @@ permission-sub-block t c =
     let number = start .args .number in
     let list = now (start .args .list) in
     let here = c .before .before .before .before .before .if1 .left in
-    omega (arith, c .before .before .put .kept .0, permission-room own number left here (length list) (start .pre .1 .1) .0)
+    omega (arith, c .before .before .put .kept .0, permission-room own number left here (length list) (start .pre .1 .0) .0)
 
 permission-part-block-start : (t : ℕ) → permission-lts.Need-part-block-start (put-reads.Asked, put-reads.Learnt, block-below t, block.Post) (permission-at t) permission.Post
 permission-part-block-start t c =
@@ -250,7 +250,7 @@ permission-part-block-start t c =
     let number = start .args .number in
     let list = now (start .args .list) in
     let here = c .before .before .before .before .before .if1 .left in
-    omega (arith, c .before .before .put .kept .0, permission-room own number left here (length list) (start .pre .1 .1) .0)
+    omega (arith, c .before .before .put .kept .0, permission-room own number left here (length list) (start .pre .1 .0) .0)
 
 permission-part-block-end : (t : ℕ) → permission-lts.Need-part-block-end (put-reads.Asked, put-reads.Learnt, block-below t, block.Post) (permission-at t) permission.Post
 permission-part-block-end t c = search needs
@@ -264,10 +264,10 @@ permission-block-requires t c κs =
     let list = now (start .args .list) in
     let here = c .before .before .before .before .before .before .if1 .left in
     let row = c .before .before .before .put in
-    let room = permission-room own number left here (length list) (start .pre .1 .1) in
+    let room = permission-room own number left here (length list) (start .pre .1 .0) in
     let some = split (length left) 0 (λ h. absurd (here (omega arith))) (λ h. h) in
     rw (part-tail (row .last .0) rowSize)
-    (omega (arith, start .pre .0), (start .pre .1 .0, some, omega (arith, room .1, row .kept .0, length-drop rowSize (row .last .0))))
+    (omega (arith, start .pre .0), (omega (arith, room .1, row .kept .0, length-drop rowSize (row .last .0)), start .pre .1 .1, some))
 
 permission-add-result : (t : ℕ) → permission-lts.Need-add-result (put-reads.Asked, put-reads.Learnt, block-below t, block.Post) (permission-at t) permission.Post
 permission-add-result t c =
@@ -280,7 +280,7 @@ permission-add-result t c =
     let row = c .before .before .before .before .before .before .put in
     let rest = c .before .before .block in
     let done = permission-put own number left here list (row .last .0) (rest .last .1 .1 .1 .1 .0) (rest .result) (row .ensures) (rest .ensures .0) (rest .ensures .1) in
-    record { fits = omega (arith, done .0, rows-length (permissionLists own number left) (permission-eights (enough left) own number left), start .pre .1 .1, start .good .1 .1 .1 .1 .0 .0) }
+    record { fits = omega (arith, done .0, rows-length (permissionLists own number left) (permission-eights (enough left) own number left), start .pre .1 .0, start .good .1 .1 .1 .1 .0 .0) }
 
 permission-same-length : (t : ℕ) → permission-lts.Need-same-length (put-reads.Asked, put-reads.Learnt, block-below t, block.Post) (permission-at t) permission.Post
 permission-same-length t c = search needs

@@ -105,8 +105,8 @@ permission-requires c κs =
     let part = take (length m - firstBytes) (drop firstBytes m) in
     let l = ap length (part-tail m firstBytes) ∙ length-drop firstBytes m in
     let row = c .before .before .before .before .put2 in (
-      omega (arith, l, start .pre .1, c .before .before .before .before .before .before .before .before .before .before .before .if1 .left),
       rest-asks own m (c .before .before .before .before .before .before .before .before .before .before .before .if1 .left) (row .last .0) part (length list) (part-tail m firstBytes) (row .kept .0) (sent-fits own m (length list) (start .pre .0) (start .pre .1) (start .pre .2)),
+      omega (arith, l, start .pre .1, c .before .before .before .before .before .before .before .before .before .before .before .if1 .left),
     )
 
 add-result : tie.Need-add-result
