@@ -66,6 +66,10 @@ frameWords first second third =
     (pick (eqb (first / 16) consecutiveKind) (consecutiveWord ++ decimal smallPlaces (first % 16))
     (pick (eqb first goByte) (flowWords second third) otherWord)))
 
+-- of a whole frame
+abbrev pub wordsOf : List ℕ → List ℕ
+wordsOf frame = frameWords (byteAt frame 0) (byteAt frame 1) (byteAt frame 2)
+
 -- ---- the line: `3 there 21060708090A0B0C consecutive frame, SN 1`
 
 unfoldable pub lineOf : (number : ℕ) → (row : List ℕ) → List ℕ
