@@ -53,7 +53,6 @@ block-cut-requires t c κs =
     let left = now (start .args .left) in
     let own = settings (start .args .bs) (start .args .stmin) in
     let number = start .args .number in
-    let list = now (start .args .list) in
     let e = one-block own number left (c .before .if1 .taken) in
     (rw e at (start .pre .1 .0), start .pre .1 .1)
 
@@ -66,7 +65,6 @@ block-returns t c =
     let left = now (start .args .left) in
     let own = settings (start .args .bs) (start .args .stmin) in
     let number = start .args .number in
-    let list = now (start .args .list) in
     let e = one-block own number left (c .before .before .before .before .if1 .taken) in
     rw e (c .before .before .cut .ensures)
 
@@ -105,12 +103,8 @@ block-add-permission : (t : ℕ) → block-lts.Need-add-permission (cut-reads.As
 block-add-permission t c =
     let start = c .before .before .before .before .before .before .before .before .before .before in
     let left = now (start .args .left) in
-    let own = settings (start .args .bs) (start .args .stmin) in
     let number = start .args .number in
-    let list = now (start .args .list) in
     let n = c .before .before .before .before .before .before .least .result in
-    let sized = c .before .before .before .before .before .before .before .if1 .left in
-    let e = c .before .before .before .before .before .before .least .ensures in
     let k = c .before .before .before .cut2 in
     record { fits = omega (arith, k .ensures .0, cutter-fewer number (take n left), length-take n left, start .pre .1 .1) }
 
@@ -118,12 +112,8 @@ block-mul-permission : (t : ℕ) → block-lts.Need-mul-permission (cut-reads.As
 block-mul-permission t c =
     let start = c .before .before .before .before .before .before .before .before .before .before in
     let left = now (start .args .left) in
-    let own = settings (start .args .bs) (start .args .stmin) in
     let number = start .args .number in
-    let list = now (start .args .list) in
     let n = c .before .before .before .before .before .before .least .result in
-    let sized = c .before .before .before .before .before .before .before .if1 .left in
-    let e = c .before .before .before .before .before .before .least .ensures in
     let k = c .before .before .before .cut2 in
     record { fits = omega (arith, k .ensures .0, cutter-fewer number (take n left), length-take n left, start .pre .1 .1) }
 
@@ -142,18 +132,7 @@ block-sub-permission-2 t c =
     omega (arith, k .ensures .0, k .kept .1 .1 .0, room .1)
 
 block-part-permission-start-2 : (t : ℕ) → block-lts.Need-part-permission-start-2 (cut-reads.Asked, cut-reads.Learnt, least-reads.Asked, least-reads.Learnt, permission-below t, permission.Post) (block-at t) block.Post
-block-part-permission-start-2 t c =
-    let start = c .before .before .before .before .before .before .before .before .before .before in
-    let left = now (start .args .left) in
-    let own = settings (start .args .bs) (start .args .stmin) in
-    let number = start .args .number in
-    let list = now (start .args .list) in
-    let n = c .before .before .before .before .before .before .least .result in
-    let sized = c .before .before .before .before .before .before .before .if1 .left in
-    let e = c .before .before .before .before .before .before .least .ensures in
-    let k = c .before .before .before .cut2 in
-    let room = block-room own number left n sized e (length list) (start .pre .1 .0) in
-    omega (arith, k .ensures .0, k .kept .1 .1 .0, room .1)
+block-part-permission-start-2 t c = block-sub-permission-2 t c
 
 block-part-permission-end-2 : (t : ℕ) → block-lts.Need-part-permission-end-2 (cut-reads.Asked, cut-reads.Learnt, least-reads.Asked, least-reads.Learnt, permission-below t, permission.Post) (block-at t) block.Post
 block-part-permission-end-2 t c = search needs
@@ -179,26 +158,6 @@ block-permission-requires t c κs =
       ),
     )
 
-block-add-result : (t : ℕ) → block-lts.Need-add-result (cut-reads.Asked, cut-reads.Learnt, least-reads.Asked, least-reads.Learnt, permission-below t, permission.Post) (block-at t) block.Post
-block-add-result t c =
-    let start = c .before .before .before .before .before .before .before .before .before .before .before .before .before .before in
-    let left = now (start .args .left) in
-    let own = settings (start .args .bs) (start .args .stmin) in
-    let number = start .args .number in
-    let list = now (start .args .list) in
-    let n = c .before .before .before .before .before .before .before .before .before .before .least .result in
-    let sized = c .before .before .before .before .before .before .before .before .before .before .before .if1 .left in
-    let e = c .before .before .before .before .before .before .before .before .before .before .least .ensures in
-    let k = c .before .before .before .before .before .before .before .cut2 in
-    let rest = c .before .before .permission in
-    let part = take (length left - n) (drop n left) in
-    let done = block-put own number left n sized e list (k .last .1 .1 .0) (rest .last .1 .1 .1 .1 .0) part (k .result) (rest .result)
-    (part-tail left n) (k .ensures .0) (k .ensures .1) (rest .ensures .0) (rest .ensures .1) in
-    record { fits = omega (arith, done .0, rows-length (blockLists own number left) (block-eights (enough left) own number left), start .pre .1 .0, start .good .1 .1 .1 .1 .0 .0) }
-
-block-same-length-2 : (t : ℕ) → block-lts.Need-same-length-2 (cut-reads.Asked, cut-reads.Learnt, least-reads.Asked, least-reads.Learnt, permission-below t, permission.Post) (block-at t) block.Post
-block-same-length-2 t c = search needs
-
 block-returns-2 : (t : ℕ) → block-lts.Need-returns-2 (cut-reads.Asked, cut-reads.Learnt, least-reads.Asked, least-reads.Learnt, permission-below t, permission.Post) (block-at t) block.Post
 block-returns-2 t c =
     let start = c .before .before .before .before .before .before .before .before .before .before .before .before .before .before in
@@ -212,9 +171,19 @@ block-returns-2 t c =
     let k = c .before .before .before .before .before .before .before .cut2 in
     let rest = c .before .before .permission in
     let part = take (length left - n) (drop n left) in
-    let done = block-put own number left n sized e list (k .last .1 .1 .0) (rest .last .1 .1 .1 .1 .0) part (k .result) (rest .result)
-    (part-tail left n) (k .ensures .0) (k .ensures .1) (rest .ensures .0) (rest .ensures .1) in
-    done
+    block-put own number left n sized e list (k .last .1 .1 .0) (rest .last .1 .1 .1 .1 .0) part (k .result) (rest .result)
+    (part-tail left n) (k .ensures .0) (k .ensures .1) (rest .ensures .0) (rest .ensures .1)
+
+block-add-result : (t : ℕ) → block-lts.Need-add-result (cut-reads.Asked, cut-reads.Learnt, least-reads.Asked, least-reads.Learnt, permission-below t, permission.Post) (block-at t) block.Post
+block-add-result t c =
+    let start = c .before .before .before .before .before .before .before .before .before .before .before .before .before .before in
+    let left = now (start .args .left) in
+    let own = settings (start .args .bs) (start .args .stmin) in
+    let number = start .args .number in
+    record { fits = omega (arith, block-returns-2 t c .0, rows-length (blockLists own number left) (block-eights (enough left) own number left), start .pre .1 .0, start .good .1 .1 .1 .1 .0 .0) }
+
+block-same-length-2 : (t : ℕ) → block-lts.Need-same-length-2 (cut-reads.Asked, cut-reads.Learnt, least-reads.Asked, least-reads.Learnt, permission-below t, permission.Post) (block-at t) block.Post
+block-same-length-2 t c = search needs
 
 permission-returns : (t : ℕ) → permission-lts.Need-returns (put-reads.Asked, put-reads.Learnt, block-below t, block.Post) (permission-at t) permission.Post
 permission-returns t c = none-permitted (settings (c .before .before .before .args .bs) (c .before .before .before .args .stmin)) (c .before .before .before .args .number) (now (c .before .before .before .args .left)) (now (c .before .before .before .args .list)) (c .if1 .taken)
@@ -243,14 +212,7 @@ permission-sub-block t c =
     omega (arith, c .before .before .put .kept .0, permission-room own number left here (length list) (start .pre .1 .0) .0)
 
 permission-part-block-start : (t : ℕ) → permission-lts.Need-part-block-start (put-reads.Asked, put-reads.Learnt, block-below t, block.Post) (permission-at t) permission.Post
-permission-part-block-start t c =
-    let start = c .before .before .before .before .before .before .before .before in
-    let left = now (start .args .left) in
-    let own = settings (start .args .bs) (start .args .stmin) in
-    let number = start .args .number in
-    let list = now (start .args .list) in
-    let here = c .before .before .before .before .before .if1 .left in
-    omega (arith, c .before .before .put .kept .0, permission-room own number left here (length list) (start .pre .1 .0) .0)
+permission-part-block-start t c = permission-sub-block t c
 
 permission-part-block-end : (t : ℕ) → permission-lts.Need-part-block-end (put-reads.Asked, put-reads.Learnt, block-below t, block.Post) (permission-at t) permission.Post
 permission-part-block-end t c = search needs
@@ -269,22 +231,6 @@ permission-block-requires t c κs =
     rw (part-tail (row .last .0) rowSize)
     (omega (arith, start .pre .0), (omega (arith, room .1, row .kept .0, length-drop rowSize (row .last .0)), start .pre .1 .1, some))
 
-permission-add-result : (t : ℕ) → permission-lts.Need-add-result (put-reads.Asked, put-reads.Learnt, block-below t, block.Post) (permission-at t) permission.Post
-permission-add-result t c =
-    let start = c .before .before .before .before .before .before .before .before .before .before .before .before in
-    let left = now (start .args .left) in
-    let own = settings (start .args .bs) (start .args .stmin) in
-    let number = start .args .number in
-    let list = now (start .args .list) in
-    let here = c .before .before .before .before .before .before .before .before .before .if1 .left in
-    let row = c .before .before .before .before .before .before .put in
-    let rest = c .before .before .block in
-    let done = permission-put own number left here list (row .last .0) (rest .last .1 .1 .1 .1 .0) (rest .result) (row .ensures) (rest .ensures .0) (rest .ensures .1) in
-    record { fits = omega (arith, done .0, rows-length (permissionLists own number left) (permission-eights (enough left) own number left), start .pre .1 .0, start .good .1 .1 .1 .1 .0 .0) }
-
-permission-same-length : (t : ℕ) → permission-lts.Need-same-length (put-reads.Asked, put-reads.Learnt, block-below t, block.Post) (permission-at t) permission.Post
-permission-same-length t c = search needs
-
 permission-returns-2 : (t : ℕ) → permission-lts.Need-returns-2 (put-reads.Asked, put-reads.Learnt, block-below t, block.Post) (permission-at t) permission.Post
 permission-returns-2 t c =
     let start = c .before .before .before .before .before .before .before .before .before .before .before .before in
@@ -295,8 +241,18 @@ permission-returns-2 t c =
     let here = c .before .before .before .before .before .before .before .before .before .if1 .left in
     let row = c .before .before .before .before .before .before .put in
     let rest = c .before .before .block in
-    let done = permission-put own number left here list (row .last .0) (rest .last .1 .1 .1 .1 .0) (rest .result) (row .ensures) (rest .ensures .0) (rest .ensures .1) in
-    done
+    permission-put own number left here list (row .last .0) (rest .last .1 .1 .1 .1 .0) (rest .result) (row .ensures) (rest .ensures .0) (rest .ensures .1)
+
+permission-add-result : (t : ℕ) → permission-lts.Need-add-result (put-reads.Asked, put-reads.Learnt, block-below t, block.Post) (permission-at t) permission.Post
+permission-add-result t c =
+    let start = c .before .before .before .before .before .before .before .before .before .before .before .before in
+    let left = now (start .args .left) in
+    let own = settings (start .args .bs) (start .args .stmin) in
+    let number = start .args .number in
+    record { fits = omega (arith, permission-returns-2 t c .0, rows-length (permissionLists own number left) (permission-eights (enough left) own number left), start .pre .1 .0, start .good .1 .1 .1 .1 .0 .0) }
+
+permission-same-length : (t : ℕ) → permission-lts.Need-same-length (put-reads.Asked, put-reads.Learnt, block-below t, block.Post) (permission-at t) permission.Post
+permission-same-length t c = search needs
 
 pub +block+permission-spec : {M : Type 1} → statement M
 +block+permission-spec = close μ-block μ-permission (λ t. block-lts.spec (cut-reads.Asked, cut-reads.Learnt, least-reads.Asked, least-reads.Learnt, permission-below t, permission.Post)

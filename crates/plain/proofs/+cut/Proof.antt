@@ -69,9 +69,7 @@ cut-sub-cut-2 t c =
     omega (arith, c .before .before .before .put .kept .0, room-more (start .args .number) (now (start .args .left)) (c .before .before .before .before .before .before .least .result) (c .before .before .before .before .before .before .before .if1 .left) (c .before .before .before .before .before .before .least .ensures) (length (now (start .args .list))) (start .pre .1 .0) .0)
 
 cut-part-cut-start-2 : (t : ℕ) → cut-lts.Need-part-cut-start-2 (least-reads.Asked, least-reads.Learnt, put-reads.Asked, put-reads.Learnt, cut-below t, cut.Post) (cut-at t) cut.Post
-cut-part-cut-start-2 t c =
-    let start = c .before .before .before .before .before .before .before .before .before .before in
-    omega (arith, c .before .before .before .put .kept .0, room-more (start .args .number) (now (start .args .left)) (c .before .before .before .before .before .before .least .result) (c .before .before .before .before .before .before .before .if1 .left) (c .before .before .before .before .before .before .least .ensures) (length (now (start .args .list))) (start .pre .1 .0) .0)
+cut-part-cut-start-2 t c = cut-sub-cut-2 t c
 
 cut-part-cut-end-2 : (t : ℕ) → cut-lts.Need-part-cut-end-2 (least-reads.Asked, least-reads.Learnt, put-reads.Asked, put-reads.Learnt, cut-below t, cut.Post) (cut-at t) cut.Post
 cut-part-cut-end-2 t c = search needs
@@ -87,21 +85,6 @@ cut-cut-requires t c κs =
     rw (part-tail left n, part-tail (put .last .0) rowSize)
     (omega (arith, l, start .pre .0), (omega (arith, room .1, put .kept .0, length-drop rowSize (put .last .0)), omega (arith, l, start .pre .1 .1)))
 
-cut-add-result : (t : ℕ) → cut-lts.Need-add-result (least-reads.Asked, least-reads.Learnt, put-reads.Asked, put-reads.Learnt, cut-below t, cut.Post) (cut-at t) cut.Post
-cut-add-result t c =
-    let start = c .before .before .before .before .before .before .before .before .before .before .before .before .before .before in
-    let left = now (start .args .left) in
-    let n = c .before .before .before .before .before .before .before .before .before .before .least .result in
-    let put = c .before .before .before .before .before .before .before .put in
-    let rest = c .before .before .cut in
-    let part = take (length left - n) (drop n left) in
-    let done = more-cut (start .args .number) left n (c .before .before .before .before .before .before .before .before .before .before .before .if1 .left) (c .before .before .before .before .before .before .before .before .before .before .least .ensures) (now (start .args .list)) (put .last .0) (rest .last .1 .1 .0) part (rest .result)
-    (part-tail left n) (put .ensures) (rest .ensures .0) (rest .ensures .1) in
-    record { fits = omega (arith, done .0, cutter-fewer (start .args .number) left, start .pre .1 .1) }
-
-cut-same-length : (t : ℕ) → cut-lts.Need-same-length (least-reads.Asked, least-reads.Learnt, put-reads.Asked, put-reads.Learnt, cut-below t, cut.Post) (cut-at t) cut.Post
-cut-same-length t c = search needs
-
 cut-returns-2 : (t : ℕ) → cut-lts.Need-returns-2 (least-reads.Asked, least-reads.Learnt, put-reads.Asked, put-reads.Learnt, cut-below t, cut.Post) (cut-at t) cut.Post
 cut-returns-2 t c =
     let start = c .before .before .before .before .before .before .before .before .before .before .before .before .before .before in
@@ -112,6 +95,15 @@ cut-returns-2 t c =
     let part = take (length left - n) (drop n left) in
     more-cut (start .args .number) left n (c .before .before .before .before .before .before .before .before .before .before .before .if1 .left) (c .before .before .before .before .before .before .before .before .before .before .least .ensures) (now (start .args .list)) (put .last .0) (rest .last .1 .1 .0) part (rest .result)
     (part-tail left n) (put .ensures) (rest .ensures .0) (rest .ensures .1)
+
+cut-add-result : (t : ℕ) → cut-lts.Need-add-result (least-reads.Asked, least-reads.Learnt, put-reads.Asked, put-reads.Learnt, cut-below t, cut.Post) (cut-at t) cut.Post
+cut-add-result t c =
+    let start = c .before .before .before .before .before .before .before .before .before .before .before .before .before .before in
+    let left = now (start .args .left) in
+    record { fits = omega (arith, cut-returns-2 t c .0, cutter-fewer (start .args .number) left, start .pre .1 .1) }
+
+cut-same-length : (t : ℕ) → cut-lts.Need-same-length (least-reads.Asked, least-reads.Learnt, put-reads.Asked, put-reads.Learnt, cut-below t, cut.Post) (cut-at t) cut.Post
+cut-same-length t c = search needs
 
 pub +cut-spec : {M : Type 1} → statement M
 +cut-spec = close μ-cut λ t. cut-lts.spec (least-reads.Asked, least-reads.Learnt, put-reads.Asked, put-reads.Learnt, cut-below t, cut.Post)

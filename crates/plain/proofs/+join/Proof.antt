@@ -52,7 +52,7 @@ join-sub-copy t c = held-most (now (c .before .before .before .before .before .a
 
 join-sub-copy-2 : (t : ℕ) → join-lts.Need-sub-copy-2 (least-reads.Asked, least-reads.Learnt, copy-reads.Asked, copy-reads.Learnt, join-below t, join.Post) (join-at t) join.Post
 unfolding heldIn
-join-sub-copy-2 t c = held-most (now (c .before .before .before .before .before .args .list))
+join-sub-copy-2 t c = join-sub-copy t c
 
 join-add-copy : (t : ℕ) → join-lts.Need-add-copy (least-reads.Asked, least-reads.Learnt, copy-reads.Asked, copy-reads.Learnt, join-below t, join.Post) (join-at t) join.Post
 join-add-copy t c = search needs
@@ -100,23 +100,6 @@ join-part-join-end-2 t c = search needs
 join-join-requires : (t : ℕ) → join-lts.Need-join-requires (least-reads.Asked, least-reads.Learnt, copy-reads.Asked, copy-reads.Learnt, join-below t, join.Post) (join-at t) join.Post
 join-join-requires t c κs = search needs
 
-join-add-result : (t : ℕ) → join-lts.Need-add-result (least-reads.Asked, least-reads.Learnt, copy-reads.Asked, copy-reads.Learnt, join-below t, join.Post) (join-at t) join.Post
-unfolding heldIn
-join-add-result t c =
-    let start = c .before .before .before .before .before .before .before .before .before .before .before .before .before .before .before in
-    let list = now (start .args .list) in
-    let n = c .before .before .before .before .before .before .before .before .before .before .least .result in
-    let held = heldIn list in
-    let copied = c .before .before .before .before .before .before .before .copy in
-    let rest = c .before .before .join in
-    let done = more-joined (start .args .rows) (start .args .missing) n list (c .before .before .before .before .before .before .before .before .before .before .before .before .if1 .left) (start .pre .1 .0) (c .before .before .before .before .before .before .before .before .before .before .least .ensures) (now (start .args .room)) (copied .last .1 .0) (rest .last .1 .1 .1 .0)
-    (take (rowSize - held + n - (rowSize - held)) (drop (rowSize - held) list)) (take (length list - rowSize) (drop rowSize list)) (rest .result)
-    refl (copied .ensures .1) (part-tail list rowSize) (rest .ensures .0) (rest .ensures .1) in
-    record { fits = omega (arith, done .0, joined-fewer (start .args .rows) (start .args .missing) list, start .fits .missing .fits) }
-
-join-same-length : (t : ℕ) → join-lts.Need-same-length (least-reads.Asked, least-reads.Learnt, copy-reads.Asked, copy-reads.Learnt, join-below t, join.Post) (join-at t) join.Post
-join-same-length t c = search needs
-
 join-returns-2 : (t : ℕ) → join-lts.Need-returns-2 (least-reads.Asked, least-reads.Learnt, copy-reads.Asked, copy-reads.Learnt, join-below t, join.Post) (join-at t) join.Post
 unfolding heldIn
 join-returns-2 t c =
@@ -126,10 +109,18 @@ join-returns-2 t c =
     let held = heldIn list in
     let copied = c .before .before .before .before .before .before .before .copy in
     let rest = c .before .before .join in
-    let done = more-joined (start .args .rows) (start .args .missing) n list (c .before .before .before .before .before .before .before .before .before .before .before .before .if1 .left) (start .pre .1 .0) (c .before .before .before .before .before .before .before .before .before .before .least .ensures) (now (start .args .room)) (copied .last .1 .0) (rest .last .1 .1 .1 .0)
+    more-joined (start .args .rows) (start .args .missing) n list (c .before .before .before .before .before .before .before .before .before .before .before .before .if1 .left) (start .pre .1 .0) (c .before .before .before .before .before .before .before .before .before .before .least .ensures) (now (start .args .room)) (copied .last .1 .0) (rest .last .1 .1 .1 .0)
     (take (rowSize - held + n - (rowSize - held)) (drop (rowSize - held) list)) (take (length list - rowSize) (drop rowSize list)) (rest .result)
-    refl (copied .ensures .1) (part-tail list rowSize) (rest .ensures .0) (rest .ensures .1) in
-    done
+    refl (copied .ensures .1) (part-tail list rowSize) (rest .ensures .0) (rest .ensures .1)
+
+join-add-result : (t : ℕ) → join-lts.Need-add-result (least-reads.Asked, least-reads.Learnt, copy-reads.Asked, copy-reads.Learnt, join-below t, join.Post) (join-at t) join.Post
+join-add-result t c =
+    let start = c .before .before .before .before .before .before .before .before .before .before .before .before .before .before .before in
+    let list = now (start .args .list) in
+    record { fits = omega (arith, join-returns-2 t c .0, joined-fewer (start .args .rows) (start .args .missing) list, start .fits .missing .fits) }
+
+join-same-length : (t : ℕ) → join-lts.Need-same-length (least-reads.Asked, least-reads.Learnt, copy-reads.Asked, copy-reads.Learnt, join-below t, join.Post) (join-at t) join.Post
+join-same-length t c = search needs
 
 pub +join-spec : {M : Type 1} → statement M
 +join-spec = close μ-join λ t. join-lts.spec (least-reads.Asked, least-reads.Learnt, copy-reads.Asked, copy-reads.Learnt, join-below t, join.Post)

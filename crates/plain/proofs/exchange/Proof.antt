@@ -62,9 +62,6 @@ cast-send-2 c = record { fits = within-byte (c .before .before .before .before .
 send-requires : tie.Need-send-requires
 send-requires c κs =
     let start = c .before .before .before .before .before .before .before .before in
-    let m = now (start .args .message) in
-    let bs = start .args .bs in
-    let stmin = start .args .stmin in
     let list = now (start .args .list) in
     let room = now (start .args .room) in
     (omega (arith, c .before .before .before .before .if1 .left), c .before .before .before .if2 .left, roomy (length list) (length room) (c .before .before .if3 .left) .0)
@@ -72,9 +69,6 @@ send-requires c κs =
 announced-requires : tie.Need-announced-requires
 announced-requires c κs =
     let start = c .before .before .before .before .before .before .before .before .before .before .before .before in
-    let m = now (start .args .message) in
-    let bs = start .args .bs in
-    let stmin = start .args .stmin in
     let list = now (start .args .list) in
     let room = now (start .args .room) in
     omega (arith, c .before .before .before .send .kept .1 .1 .1 .0, roomy (length list) (length room) (c .before .before .before .before .before .before .if3 .left) .0)

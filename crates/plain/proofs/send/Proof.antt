@@ -60,8 +60,6 @@ slice-aggregate-put : tie.Need-slice-aggregate-put
 slice-aggregate-put c =
     let start = c .before .before .before .before .before .before .before .before .before in
     let m = now (start .args .message) in
-    let list = now (start .args .list) in
-    let own = settings (start .args .bs) (start .args .stmin) in
     let copied = c .before .before .before .copy in
     let six = six-copied m _ (copied .last .1 .0) (omega (arith, c .before .before .before .before .before .before .if1 .left)) refl (copied .ensures .1) in
     let l = ap length (append-nil (copied .last .1 .0) ∙ six) ∙ length-take-le firstBytes m (omega (arith, c .before .before .before .before .before .before .if1 .left)) in
@@ -71,8 +69,6 @@ put-requires-2 : tie.Need-put-requires-2
 put-requires-2 c κs =
     let start = c .before .before .before .before .before .before .before .before .before in
     let m = now (start .args .message) in
-    let list = now (start .args .list) in
-    let own = settings (start .args .bs) (start .args .stmin) in
     let copied = c .before .before .before .copy in
     let six = six-copied m _ (copied .last .1 .0) (omega (arith, c .before .before .before .before .before .before .if1 .left)) refl (copied .ensures .1) in
     let l = ap length (append-nil (copied .last .1 .0) ∙ six) ∙ length-take-le firstBytes m (omega (arith, c .before .before .before .before .before .before .if1 .left)) in
@@ -109,24 +105,6 @@ permission-requires c κs =
       omega (arith, l, start .pre .1, c .before .before .before .before .before .before .before .before .before .before .before .if1 .left),
     )
 
-add-result : tie.Need-add-result
-add-result c =
-    let start = c .before .before .before .before .before .before .before .before .before .before .before .before .before .before .before .before .before in
-    let m = now (start .args .message) in
-    let list = now (start .args .list) in
-    let own = settings (start .args .bs) (start .args .stmin) in
-    let copied = c .before .before .before .before .before .before .before .before .before .before .before .copy in
-    let six = six-copied m _ (copied .last .1 .0) (omega (arith, c .before .before .before .before .before .before .before .before .before .before .before .before .before .before .if1 .left)) refl (copied .ensures .1) in
-    let row = c .before .before .before .before .before .before .before .put2 in
-    let rest = c .before .before .permission in
-    let part = take (length m - firstBytes) (drop firstBytes m) in
-    let done = rest-sent own m (c .before .before .before .before .before .before .before .before .before .before .before .before .before .before .if1 .left) list (row .last .0) (rest .last .1 .1 .1 .1 .0) (copied .last .1 .0 ++ []) part (rest .result)
-    (append-nil (copied .last .1 .0) ∙ six) (part-tail m firstBytes) (row .ensures) (rest .ensures .0) (rest .ensures .1) in
-    record { fits = omega (arith, done .0, exchange-room own m (start .pre .0) (start .pre .1)) }
-
-same-length-2 : tie.Need-same-length-2
-same-length-2 c = search needs
-
 returns-2 : tie.Need-returns-2
 returns-2 c =
     let start = c .before .before .before .before .before .before .before .before .before .before .before .before .before .before .before .before .before in
@@ -138,9 +116,18 @@ returns-2 c =
     let row = c .before .before .before .before .before .before .before .put2 in
     let rest = c .before .before .permission in
     let part = take (length m - firstBytes) (drop firstBytes m) in
-    let done = rest-sent own m (c .before .before .before .before .before .before .before .before .before .before .before .before .before .before .if1 .left) list (row .last .0) (rest .last .1 .1 .1 .1 .0) (copied .last .1 .0 ++ []) part (rest .result)
-    (append-nil (copied .last .1 .0) ∙ six) (part-tail m firstBytes) (row .ensures) (rest .ensures .0) (rest .ensures .1) in
-    done
+    rest-sent own m (c .before .before .before .before .before .before .before .before .before .before .before .before .before .before .if1 .left) list (row .last .0) (rest .last .1 .1 .1 .1 .0) (copied .last .1 .0 ++ []) part (rest .result)
+    (append-nil (copied .last .1 .0) ∙ six) (part-tail m firstBytes) (row .ensures) (rest .ensures .0) (rest .ensures .1)
+
+add-result : tie.Need-add-result
+add-result c =
+    let start = c .before .before .before .before .before .before .before .before .before .before .before .before .before .before .before .before .before in
+    let m = now (start .args .message) in
+    let own = settings (start .args .bs) (start .args .stmin) in
+    record { fits = omega (arith, returns-2 c .0, exchange-room own m (start .pre .0) (start .pre .1)) }
+
+same-length-2 : tie.Need-same-length-2
+same-length-2 c = search needs
 
 pub send-spec : {M : Type 1} → statement M
 send-spec =
