@@ -113,4 +113,7 @@ uint64_t some_part(struct dice *dice);      /* of a millisecond, in microseconds
 void generate_log_records(uint64_t seed, long records);
 void generate_line_requests(uint64_t seed, long requests);
 
+/* generate_plain.c: the words of runs of the plain ladder */
+void generate_ladders(uint64_t seed, long runs);
+
 #endif

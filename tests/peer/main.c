@@ -12,6 +12,7 @@
  *   words.c                                            a record in words
  *   journal.*, noting.c, journal_programs.*            the journal of request W4, and its programs
  *   candump.*, candump_programs.*                      the lines of request W10, and their programs
+ *   plain.*, plain_engine.c                            one transfer as its list of frames, request W12
  *   outcomes.h, counting.h, coverage*                  the outcomes wanted, and their counting
  *   dice.*, generate*                                  streams of records from a seed
  */
@@ -24,6 +25,7 @@
 #include "generate.h"
 #include "journal_programs.h"
 #include "mutants.h"
+#include "plain.h"
 #include "program.h"
 
 static const char usage[] =
@@ -35,6 +37,7 @@ static const char usage[] =
     "       peer candump_converter read [turns] [--mutant NAME] < LOG > RECORDS\n"
     "       peer candump_converter write NAME [--mutant NAME] < RECORDS > LOG\n"
     "       peer candump_scenes [--mutant NAME] < REQUESTS\n"
+    "       peer plain_ladder [--mutant NAME|--engine] WORDS..   the exchange of LENGTH BS STMIN\n"
     "       peer words exerciser|scenes < RECORDS        each record in words\n"
     "       peer words exerciser journal < RECORDS       the record of each entry of the journal\n"
     "       peer words journal_reader < JOURNAL          each record of the journal\n"
@@ -52,6 +55,7 @@ static const char usage[] =
     "       peer generate candump_converter read SEED COUNT      a log of COUNT lines, good or not, or of a few\n"
     "       peer generate candump_converter write SEED COUNT     COUNT records for a log, good or not\n"
     "       peer generate candump_scenes SEED COUNT      a stream of COUNT requests\n"
+    "       peer generate plain_ladder SEED COUNT        the words of COUNT runs, a line each\n"
     "       peer mutants                                 their names and sentences\n";
 
 static int fail(const char *why)
@@ -209,6 +213,26 @@ static bool do_for_candump(int count, char **words, int *status)
     return true;
 }
 
+/* The plain ladder; its options stand before its words, since these may be anything. */
+static bool do_for_plain(int count, char **words, int *status)
+{
+    *status = 0;
+    if (count == 5 && strcmp(words[1], "generate") == 0 && strcmp(words[2], "plain_ladder") == 0) {
+        generate_ladders(strtoull(words[3], NULL, 10), strtol(words[4], NULL, 10));
+        return true;
+    }
+    if (count < 2 || strcmp(words[1], "plain_ladder") != 0)
+        return false;
+    bool by_engine = count > 2 && strcmp(words[2], "--engine") == 0;
+    bool by_mutant = count > 3 && strcmp(words[2], "--mutant") == 0;
+    int first = by_engine ? 3 : by_mutant ? 4 : 2;
+    if (by_mutant && !choose_mutant(words[3]))
+        *status = fail("no such mutant");
+    else
+        run_plain_ladder(count - first, words + first, by_engine);
+    return true;
+}
+
 /* The scenes streams off whose lines a law is read; false if there is none of this name. */
 static bool generate_for_law(const char *name, uint64_t seed, int number)
 {
@@ -232,7 +256,8 @@ int main(int count, char **words)
 {
     enum program program;
     int status;
-    if (do_for_journal(count, words, &status) || do_for_candump(count, words, &status))
+    if (do_for_journal(count, words, &status) || do_for_candump(count, words, &status)
+        || do_for_plain(count, words, &status))
         return status;
     if (count >= 2 && read_program(words[1], &program)) {
         bool with_cards = program == EXERCISER && count >= 3 && strcmp(words[2], "cards") == 0;

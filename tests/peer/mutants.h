@@ -878,6 +878,121 @@
     X(W11b3, "a first frame of a message above A is refused with 11")                 \
     X(W11c1, "a frame's list that is not ten long is refused with 11, as it is free") \
     X(W11d1, "a node whose total is above A is refused with 11, not 1")               \
+    X(W12a1, "a message of 8 bytes goes in a single frame")                           \
+    X(W12a2, "a message of 7 bytes has a first frame")                                \
+    X(W12a3, "a first frame takes seven bytes off")                                   \
+    X(W12a4, "a first frame takes five bytes off")                                    \
+    X(W12a5, "a consecutive frame has room for six bytes")                            \
+    X(W12a6, "the bits of a length above 255 are lost")                               \
+    X(W12a7, "the highest bit of a length is lost")                                   \
+    X(W12a8, "the length told is that of what the first frame leaves")                \
+    X(W12a9, "after SN 15 comes 16")                                                  \
+    X(W12a10, "after SN 15 comes 1")                                                  \
+    X(W12a11, "after SN 14 comes 0")                                                  \
+    X(W12a12, "the first consecutive frame has SN 0")                                 \
+    X(W12a13, "all frames are filled up with 00")                                     \
+    X(W12a14, "a single frame is filled up with 00")                                  \
+    X(W12a15, "a last consecutive frame is filled up with 00")                        \
+    X(W12a16, "the rising message wraps at 255")                                      \
+    X(W12a17, "a last frame holds seven bytes, of the message or not")                \
+    X(W12a18, "a last frame that is full has an empty one behind it")                 \
+    X(W12a19, "the low byte of a length above 255 stands before the high bits")       \
+    X(W12b1, "the last frame asks for permission once more")                          \
+    X(W12b2, "a last block that is full asks for permission once more")               \
+    X(W12b3, "a permission sets the SN back to 1")                                    \
+    X(W12b4, "a block has one frame more")                                            \
+    X(W12b5, "each block but the first has one frame more")                           \
+    X(W12b6, "a block has one frame less")                                            \
+    X(W12b7, "BS 0 is taken as 1")                                                    \
+    X(W12b8, "BS 0 is taken as 255")                                                  \
+    X(W12b9, "BS 0 is taken as 256")                                                  \
+    X(W12b10, "BS 255 is taken as no end")                                            \
+    X(W12b11, "the first frame counts in the first block")                            \
+    X(W12b12, "only one block has an end")                                            \
+    X(W12b13, "only the low seven bits of BS count")                                  \
+    X(W12b14, "only the low four bits of BS count")                                   \
+    X(W12b15, "the first block needs no permission")                                  \
+    X(W12b16, "a permission sets the SN back to 0")                                   \
+    X(W12b17, "a single frame asks for permission")                                   \
+    X(W12b18, "with BS 0 no permission is needed")                                    \
+    X(W12c1, "BS and STmin are swapped in a permission")                              \
+    X(W12c2, "a permission is filled up with 00")                                     \
+    X(W12c3, "a permission says wait")                                                \
+    X(W12c4, "a permission says overflow")                                            \
+    X(W12c5, "a later permission has BS 0")                                           \
+    X(W12c6, "a later permission has STmin 0")                                        \
+    X(W12c7, "a permission has the gap, not the STmin")                               \
+    X(W12c8, "a permission has STmin 1 for F1 to F9")                                 \
+    X(W12c9, "a permission has 255 for BS 0")                                         \
+    X(W12d1, "flow control has no number of its own")                                 \
+    X(W12d2, "the frames are numbered from 0")                                        \
+    X(W12d3, "there and back are swapped")                                            \
+    X(W12d4, "the bytes are in lower case")                                           \
+    X(W12d5, "the bytes have spaces between them")                                    \
+    X(W12d6, "an SN is told in hex")                                                  \
+    X(W12d7, "a length is told in hex")                                               \
+    X(W12d8, "a length's low byte is told")                                           \
+    X(W12d9, "a single frame's length is told as 8")                                  \
+    X(W12d10, "a BS is told in hex")                                                  \
+    X(W12d11, "an STmin is told in hex")                                              \
+    X(W12d12, "an STmin of F1 to F9 is told in tenths")                               \
+    X(W12d13, "a single frame is not delivered")                                      \
+    X(W12d14, "the frames are told, not the bytes delivered")                         \
+    X(W12e1, "without STMIN it is 0")                                                 \
+    X(W12e2, "without BS and STMIN they are 0")                                       \
+    X(W12e3, "what stands behind the third word is passed over")                      \
+    X(W12e4, "without words the example is shown")                                    \
+    X(W12f1, "a number may have ten digits")                                          \
+    X(W12f2, "a number of nine digits is none")                                       \
+    X(W12f3, "a number with zeros before it is none")                                 \
+    X(W12f4, "an empty word is 0")                                                    \
+    X(W12f5, "a plus before a number is passed over")                                 \
+    X(W12f6, "a minus before a number is passed over")                                \
+    X(W12f7, "spaces before a number are passed over")                                \
+    X(W12f8, "what stands behind a number and a space is passed over")                \
+    X(W12f9, "what stands behind a number and a line's end is passed over")           \
+    X(W12f10, "the byte before 0 is a digit")                                         \
+    X(W12f11, "the byte behind 9 is a digit")                                         \
+    X(W12f12, "a number ends where its digits end, whatever stands behind them")      \
+    X(W12f13, "a number may have any length, and is kept in 32 bits")                 \
+    X(W12f14, "a number may have any length, and is kept in 64 bits")                 \
+    X(W12f15, "a number that begins with 0 is octal")                                 \
+    X(W12f16, "zeros before a number do not count among the nine digits")             \
+    X(W12f17, "a LENGTH may have ten digits")                                         \
+    X(W12f18, "a BS may have ten digits")                                             \
+    X(W12f19, "an STMIN may have ten digits")                                         \
+    X(W12f20, "an empty BS is 0")                                                     \
+    X(W12f21, "an empty STMIN is 0")                                                  \
+    X(W12g1, "LENGTH 0 is taken")                                                     \
+    X(W12g2, "LENGTH 1 is refused")                                                   \
+    X(W12g3, "LENGTH 4,095 is refused")                                               \
+    X(W12g4, "LENGTH 4,096 is taken")                                                 \
+    X(W12g5, "BS 255 is refused")                                                     \
+    X(W12g6, "BS 256 is taken")                                                       \
+    X(W12g7, "BS 0 is refused")                                                       \
+    X(W12g8, "STMIN 127 is refused")                                                  \
+    X(W12g9, "STMIN 128 is taken")                                                    \
+    X(W12g10, "STMIN 240 is taken")                                                   \
+    X(W12g11, "STMIN 241 is refused")                                                 \
+    X(W12g12, "STMIN 249 is refused")                                                 \
+    X(W12g13, "STMIN 250 is taken")                                                   \
+    X(W12g14, "any byte is taken as STMIN")                                           \
+    X(W12g15, "STMIN 241 to 249 are refused")                                         \
+    X(W12g16, "STMIN 0 is refused")                                                   \
+    X(W12g17, "LENGTH is kept in 16 bits")                                            \
+    X(W12g18, "BS is kept in 8 bits")                                                 \
+    X(W12g19, "STMIN is kept in 8 bits")                                              \
+    X(W12g20, "BS is not tested for a single frame")                                  \
+    X(W12g21, "STMIN is not tested for a single frame")                               \
+    X(W12h1, "the count is tested behind the words")                                  \
+    X(W12h2, "BS is tested before LENGTH")                                            \
+    X(W12h3, "STMIN is tested before BS")                                             \
+    X(W12h4, "all are read as numbers before any range is tested")                    \
+    X(W12h5, "the last that is wrong is told")                                        \
+    X(W12h6, "all that are wrong are told")                                           \
+    X(W12i1, "a refusal is told on standard error")                                   \
+    X(W12i2, "a word that is no number is told as LENGTH")                            \
+    X(W12i3, "behind a refusal the exchange follows")                                 \
     X(W13a1, "a gap left does not fall while the berth's receive side is idle")       \
     X(W13a2, "the timer of a reception that awaits stops at 999")                     \
     X(W13a3, "an owed overflow waits for its turn for ever")                          \
