@@ -69,6 +69,19 @@ pub sn-next : (i : ℕ) → nextSn (snAt i) ≡ snAt (i + 1)
 unfolding nextSn snAt
 sn-next i = ap (λ (x : ℕ). record { 0 = x }) (omega arith)
 
+-- one frame of what is left, and none
+pub cut-some : (fuel : ℕ) (sn : Sn) (r : List ℕ) → 0 < length r
+    → cutRest consecutiveMost (suc fuel) sn r ≡ consecutiveFrame sn (take consecutiveMost r) ∷ cutRest consecutiveMost fuel (nextSn sn) (drop consecutiveMost r)
+unfolding cutRest
+cut-some fuel sn [] h = absurd (omega arith)
+cut-some fuel sn (x ∷ r) h = refl
+
+pub cut-none : (fuel : ℕ) (sn : Sn) (r : List ℕ) → length r ≡ 0 → cutRest consecutiveMost fuel sn r ≡ []
+unfolding cutRest
+cut-none zero sn r h = refl
+cut-none (suc fuel) sn [] h = refl
+cut-none (suc fuel) sn (x ∷ r) h = absurd (omega arith)
+
 -- a message of n bytes that stands at the front of an area
 module _ (n : ℕ) (out : List ℕ) where
   unfoldable pub partAt : ℕ → List ℕ
@@ -189,18 +202,6 @@ module _ (n : ℕ) (out : List ℕ) where
         (λ l.
         let f : min consecutiveMost (n - p) ≡ n - p = omega arith in
         rw f (take-all consecutiveMost (take (n - p) (drop p out)) (omega (arith, length-take (n - p) (drop p out)))))
-
-    cut-some : (fuel : ℕ) (sn : Sn) (r : List ℕ) → 0 < length r
-        → cutRest consecutiveMost (suc fuel) sn r ≡ consecutiveFrame sn (take consecutiveMost r) ∷ cutRest consecutiveMost fuel (nextSn sn) (drop consecutiveMost r)
-    unfolding cutRest
-    cut-some fuel sn [] h = absurd (omega arith)
-    cut-some fuel sn (x ∷ r) h = refl
-
-    cut-none : (fuel : ℕ) (sn : Sn) (r : List ℕ) → length r ≡ 0 → cutRest consecutiveMost fuel sn r ≡ []
-    unfolding cutRest
-    cut-none zero sn r h = refl
-    cut-none (suc fuel) sn [] h = refl
-    cut-none (suc fuel) sn (x ∷ r) h = absurd (omega arith)
 
     rest-length : (p : ℕ) → length (drop p (take n out)) ≡ n - p
     rest-length p = simp (length-drop, length-take) (omega arith)

@@ -16,6 +16,7 @@ pub mod Frames
 pub mod Exchanged
 pub mod Line
 pub mod World
+pub mod Agreed
 pub mod Onward
 pub mod Schedule
 pub mod Free

@@ -1,6 +1,6 @@
 -- One part and the other: what a call lists, by what the calls that it makes list.
 use mathlib.Core.Path.{_≡_, refl, sym, ap, _∙_}
-use Prim.Native.Nat.{ℕ, _+_, _-_, _*_, _≤_, _<_, min}
+use Prim.Native.Nat.{ℕ, _+_, _-_, _*_, _≤_, min}
 use native.Mathlib.Omega.{arith}
 use mathlib.Core.List.{List, [], _∷_, _++_}
 use lib.ListN.{length, take, drop, length-append, length-drop}
@@ -8,13 +8,14 @@ use borrow.Rule.Slice.PartMut.{putMid}
 use Rattle.rules.specs.Numbers.{consecutiveMost, flowKind, goStatus}
 use Rattle.rules.specs.Frames.{padded, goFrame}
 use Rattle.rules.specs.declared.BerthSettings.{BerthSettings}
-use Rattle.rules.proofs.Cases.{split, eqb-not}
+use Rattle.rules.proofs.Cases.{eqb-not}
 use Rattle.laws.specs.Own.{over}
 use Rattle.laws.specs.Line.{Handed, back}
+use Rattle.laws.proofs.Reports.{over-append}
 use Rattle.plain.specs.Engine.{cutter, blockBytes, block, permission, enough, rowSize, backMark, row, listed}
 use Rattle.plain.specs.Promise.{atFront}
-use Rattle.plain.proofs.Steps.{block-step, permission-none, permission-step}
-use Rattle.plain.proofs.Rows.{rows-length, listed-append, cutter-eights, go-eight}
+use Rattle.plain.proofs.Steps.{some-left, block-step, permission-none, permission-step}
+use Rattle.plain.proofs.Rows.{rows-length, cutter-eights, go-eight}
 use Rattle.plain.proofs.Fronts.{part-tail, put-behind}
 use Rattle.plain.proofs.Listing.{row-room, row-put}
 use Rattle.plain.proofs.Cutting.{take-least, drop-least}
@@ -43,7 +44,7 @@ module _ (s : BerthSettings) (number : ℕ) (left : List ℕ) where
         → (length (listed blockOf) ≤ k) × (rowSize * length blockOf ≤ k) × (length (listed behind) ≤ k - rowSize * length blockOf)
     block-room k h =
         let sum : length (listed (block s number left)) ≡ rowSize * length blockOf + length (listed behind)
-        = ap (λ (hs : List Handed). length (listed hs)) next-block ∙ ap length (listed-append blockOf behind) ∙ length-append (listed blockOf) (listed behind)
+        = ap (λ (hs : List Handed). length (listed hs)) next-block ∙ ap length (over-append row blockOf behind) ∙ length-append (listed blockOf) (listed behind)
         ∙ ap (λ (m : ℕ). m + length (listed behind)) block-length in
         (omega (arith, block-length), omega arith, omega arith)
 
@@ -61,7 +62,7 @@ module _ (s : BerthSettings) (number : ℕ) (left : List ℕ) where
     block-put list l y part k r p q f g h =
         rw next-block (
           rw (q, rw (p, q) at g) (sym (length-append blockOf behind)),
-          rw listed-append
+          rw (over-append row blockOf behind)
               (put-behind list l y (listed blockOf) (listed behind) (rowSize * k) f (block-length ∙ ap (λ (m : ℕ). rowSize * m) (sym q)) (rw (p, ap (λ (m : ℕ). number + m) q) at h)),
         )
 
@@ -73,9 +74,6 @@ module _ (s : BerthSettings) (number : ℕ) (left : List ℕ) where
   none-permitted list z = rw (permission-none (enough left) s number left z) (refl, refl)
 
   module _ (here : length left ≡ 0 → ⊥) where
-    some : 0 < length left
-    some = split (length left) 0 (λ h. absurd (here (omega arith))) (λ h. h)
-
     abbrev pub goRow : List ℕ
     goRow = backMark ∷ padded ((flowKind * 16 + goStatus) ∷ s .block ∷ s .stmin ∷ [])
 
@@ -84,11 +82,11 @@ module _ (s : BerthSettings) (number : ℕ) (left : List ℕ) where
 
     pub permission-room : (k : ℕ) → length (listed (permission s number left)) ≤ k
         → (rowSize ≤ k) × (length (listed (block s number left)) ≤ k - rowSize)
-    permission-room k h = row-room (back (goFrame s)) (block s number left) k go-length (rw (permission-step s number left some) at h)
+    permission-room k h = row-room (back (goFrame s)) (block s number left) k go-length (rw (permission-step s number left (some-left left here)) at h)
 
     pub permission-put : (list l y : List ℕ) (r : ℕ) → l ≡ atFront goRow list → r ≡ length (block s number left)
         → y ≡ atFront (listed (block s number left)) (take (length l - rowSize) (drop rowSize l))
         → (1 + r ≡ length (permission s number left)) × (putMid rowSize (length l - rowSize) l y ≡ atFront (listed (permission s number left)) list)
     unfolding goFrame
     permission-put list l y r f g h =
-        rw (permission-step s number left some) (row-put (back (goFrame s)) (block s number left) list l y r go-length f g h)
+        rw (permission-step s number left (some-left left here)) (row-put (back (goFrame s)) (block s number left) list l y r go-length f g h)

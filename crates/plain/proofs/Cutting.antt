@@ -1,6 +1,6 @@
 -- One frame off: its row, and the rows of what is left.
 use mathlib.Core.Path.{_≡_, refl, sym, _∙_}
-use Prim.Native.Nat.{ℕ, _+_, _-_, _*_, _%_, _≤_, _<_, min}
+use Prim.Native.Nat.{ℕ, _+_, _-_, _*_, _%_, _≤_, min}
 use native.Mathlib.Omega.{arith}
 use mathlib.Core.List.{List, _∷_}
 use lib.ListN.{length, take, drop, length-take, drop-of-length-le}
@@ -14,7 +14,7 @@ use Rattle.laws.specs.Line.{Handed, there}
 use Rattle.laws.proofs.Frames.{padded-length}
 use Rattle.plain.specs.Engine.{snOf, cutter, rowSize, thereMark, row, listed}
 use Rattle.plain.specs.Promise.{atFront}
-use Rattle.plain.proofs.Steps.{cutter-none, cutter-more}
+use Rattle.plain.proofs.Steps.{some-left, cutter-none, cutter-more}
 use Rattle.plain.proofs.Listing.{row-room, row-put}
 
 -- the bytes that a frame takes of those that are left, and those behind them
@@ -37,9 +37,6 @@ unfolding over
 none-cut number left list e = rw (cutter-none number left e) (refl, refl)
 
 module _ (number : ℕ) (left : List ℕ) (n : ℕ) (here : length left ≡ 0 → ⊥) (e : n ≡ min consecutiveMost (length left)) where
-  some : 0 < length left
-  some = split (length left) 0 (λ h. absurd (here (omega arith))) (λ h. h)
-
   -- the frame that is taken off, and its row as it is written
   next : Handed
   next = there (consecutiveFrame (snOf number) (take n left))
@@ -53,7 +50,7 @@ module _ (number : ℕ) (left : List ℕ) (n : ℕ) (here : length left ≡ 0 �
 
   cutter-next : cutter number left ≡ next ∷ cutter (number + 1) (drop n left)
   unfolding next
-  cutter-next = rw (cutter-more number left some, e, take-least consecutiveMost left, drop-least consecutiveMost left)
+  cutter-next = rw (cutter-more number left (some-left left here), e, take-least consecutiveMost left, drop-least consecutiveMost left)
 
   pub room-more : (k : ℕ) → length (listed (cutter number left)) ≤ k → (rowSize ≤ k) × (length (listed (cutter (number + 1) (drop n left))) ≤ k - rowSize)
   room-more k h = row-room next (cutter (number + 1) (drop n left)) k next-length (rw cutter-next at h)

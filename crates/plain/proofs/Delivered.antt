@@ -14,6 +14,7 @@ use Rattle.laws.specs.Own.{over}
 use Rattle.laws.specs.Line.{Handed, there, back, thereOf, backOf, blocks}
 use Rattle.laws.proofs.Exchanged.{there-exchanged, back-exchanged}
 use Rattle.plain.specs.Engine.{snOf, exchange, rowSize, thereMark, backMark, listed, announcedIn, heldIn, joined, delivered}
+use Rattle.plain.proofs.Joining.{held-most}
 use Rattle.plain.proofs.Rows.{Eights, exchange-eights}
 use Rattle.plain.proofs.Same.{rest, rest-none, rest-more, frames-one, frames-more, exchange-is}
 
@@ -44,17 +45,6 @@ sharedBy missing f = take (min (heldBy f) missing) (drop (frameSize - heldBy f) 
 unfoldable pieces : (missing : ℕ) → List (List ℕ) → List ℕ
 pieces missing [] = []
 pieces missing (f ∷ fs) = sharedBy missing f ++ pieces (missing - min (heldBy f) missing) fs
-
-held-most : (list : List ℕ) → heldIn list ≤ consecutiveMost
-unfolding heldIn
-held-most list = by-kind (getD list 1 0 / 16 % 4)
-  where
-    by-kind : (k : ℕ) → getD (singleMost ∷ firstBytes ∷ consecutiveMost ∷ 0 ∷ []) k 0 ≤ consecutiveMost
-    by-kind zero = omega arith
-    by-kind (suc zero) = omega arith
-    by-kind (suc (suc zero)) = omega arith
-    by-kind (suc (suc (suc zero))) = omega arith
-    by-kind (suc (suc (suc (suc k)))) = omega arith
 
 -- a row's bytes and what stands behind it
 row-joins : (mark : ℕ) (f behind : List ℕ) (rows missing : ℕ) → length f ≡ frameSize

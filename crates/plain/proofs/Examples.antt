@@ -11,8 +11,9 @@ use Rattle.rules.specs.Nodes.{zeroSettings, berthAt, withBerth}
 use Rattle.rules.specs.Frames.{padded, singleFrame, firstFrame, consecutiveFrame, goFrame, needed, framesNeeded, kind, low, singleFits}
 use Rattle.rules.specs.Ranges.{ownAllowed, inBlock, takingInRange, sendingInRange, berthInOrder, inOrder}
 use Rattle.rules.specs.Stores.{areaOf, rightStore, stored, servedNode, setUpNode, distance, leastDistance, passedOver, reached, cameAt, handedAt}
-use Rattle.rules.specs.Calls.{afterFrame, afterTurn, done, reply, refusedOutcome, outcome}
+use Rattle.rules.specs.Calls.{showing, afterFrame, afterTurn, done, reply, refusedOutcome, outcome}
 use Rattle.rules.specs.declared.BerthSettings.{BerthSettings}
+use Rattle.rules.specs.declared.Choice.{Choice}
 use Rattle.rules.proofs.Cases.{leb-is}
 use Rattle.rules.specs.Parties.{reporting}
 use Rattle.rules.specs.Arrivals.{singleCame, heardBy, toldBy, byKind, frameCame}
@@ -25,8 +26,8 @@ use Rattle.laws.specs.Own.{over, only, saysOf, ofBerth}
 use Rattle.laws.specs.Line.{Handed, there, back, blocks, living, begin, deliveredIn, begunIn, World, leftA, leftB, carriedA, carriedB, atA, carryB, acts, spares, AllApart, AtRest, MayBegin, blank}
 use Rattle.laws.proofs.Examples.{harbour, mast, programme, deeds, may-begin, deeds-computed, toBegun, fromBegun, changing, changes-computed}
 use Rattle.laws.specs.Sides.{ofSide, handedSide, framesBy}
-use Rattle.plain.specs.Engine.{snOf, cutWithin, blockBytes, blockWithin, block, permissionWithin, exchange, rowSize, announcedIn, heldIn, joined, delivered}
-use Rattle.plain.specs.Promise.{refused, exchanged, mostRows, refusal, settings, said, listAfter, roomAfter}
+use Rattle.plain.specs.Engine.{snOf, cutWithin, blockBytes, blockWithin, block, permissionWithin, exchange, rowSize, listed, announcedIn, heldIn, joined, delivered}
+use Rattle.plain.specs.Promise.{refusedPaper, exchangedPaper, mostRows, refusal, settings, atFront, said, listAfter, roomAfter}
 use Rattle.plain.specs.Laws.{Same}
 use Rattle.plain.proofs.Rooms.{exchange-count}
 use Rattle.plain.proofs.Laws.{plain-is-line}
@@ -171,7 +172,7 @@ stmin-edges = (
   refusal-by 8 10539 4095 2 0xFA,
 )
 
--- the first need that is not met is answered: nothing is right
+-- the first need that is not met is answered: all are wrong, all but that there is a message, and all but the message
 pub order-of-needs : (asked 0 0 0 256 0x80 ≡ 6) × (asked 4096 0 0 256 0x80 ≡ 7) × (asked 1 0 0 256 0x80 ≡ 9)
 unfolding firstUnmet all
 order-of-needs = (refusal-by 0 0 0 256 0x80, refusal-by 4096 0 0 256 0x80, refusal-by 1 0 0 256 0x80)
@@ -180,7 +181,7 @@ order-of-needs = (refusal-by 0 0 0 256 0x80, refusal-by 4096 0 0 256 0x80, refus
 
 -- eight bytes: three frames and eight bytes, and behind them both buffers are as they were
 pub called : (list room : List ℕ) → mostRows * rowSize ≤ length list → shortMost ≤ length room
-    → (said short 2 5 list room ≡ exchanged 3 8)
+    → (said short 2 5 list room ≡ exchangedPaper 3 8)
     × (listAfter short 2 5 list room
     ≡ 0 ∷ 0x10 ∷ 8 ∷ 0 ∷ 1 ∷ 2 ∷ 3 ∷ 4 ∷ 5 ∷ 1 ∷ 0x30 ∷ 2 ∷ 5 ∷ 0xCC ∷ 0xCC ∷ 0xCC ∷ 0xCC ∷ 0xCC
     ∷ 0 ∷ 0x21 ∷ 6 ∷ 7 ∷ 0xCC ∷ 0xCC ∷ 0xCC ∷ 0xCC ∷ 0xCC ∷ drop 27 list)
@@ -195,7 +196,7 @@ called list room h k =
 
 -- a refusal writes nothing
 pub refused-writes-nothing : (list room : List ℕ)
-    → (said [] 2 5 list room ≡ refused 6) × (listAfter [] 2 5 list room ≡ list) × (roomAfter [] 2 5 list room ≡ room)
+    → (said [] 2 5 list room ≡ refusedPaper 6) × (listAfter [] 2 5 list room ≡ list) × (roomAfter [] 2 5 list room ≡ room)
 unfolding said listAfter roomAfter refusal firstUnmet
 refused-writes-nothing list room = (refl, refl, refl)
 
@@ -211,6 +212,14 @@ pub nodes-changed : Same 7 (settings 4 0) programme (changing (toBegun ++ fromBe
 nodes-changed =
     plain-is-line 2 7 1 programme harbour mast (may-begin 1 (lit≤ tt)) (toBegun ++ fromBegun) (changes-computed .0) (changes-computed .1) (settings 4 0)
     (λ _. ap (λ (begun : List BerthSettings). getD begun 0 zeroSettings) (changes-computed .3))
+
+-- so the call's list has, row by row, what these two handed over, and its room what the taker shows
+pub nodes-called : (list room : List ℕ) → mostRows * rowSize ≤ length list → shortMost ≤ length room
+    → (said programme 4 0 list room ≡ exchangedPaper (length (changing (toBegun ++ fromBegun) .log)) (length (showing (changing (toBegun ++ fromBegun) .b) 7 Choice.Arrived)))
+    × (listAfter programme 4 0 list room ≡ atFront (listed (changing (toBegun ++ fromBegun) .log)) list)
+    × (roomAfter programme 4 0 list room ≡ atFront (showing (changing (toBegun ++ fromBegun) .b) 7 Choice.Arrived) room)
+unfolding all
+nodes-called list room h k = nodes-changed .called refl list room h k
 
 -- one byte has no flow control: any settings
 abbrev byte : List ℕ

@@ -12,28 +12,21 @@ use Rattle.rules.specs.Frames.{padded}
 use Rattle.plain.specs.Engine.{rowSize}
 use Rattle.plain.specs.Promise.{atFront}
 
-pub front-length : (v l : List ℕ) → length v ≤ length l → length (atFront v l) ≡ length l
-front-length v l h = simp (length-append, length-drop) (omega arith)
-
 -- a part from a place on, put back
 module _ (s y : List ℕ) (at : ℕ) where
   behind-none : drop (length s - at) (drop at s) ≡ []
   behind-none = drop-of-length-le (drop at s) {i = length s - at} (simp length-drop (omega arith))
 
-  pub put-tail : putMid at (length s - at) s y ≡ take at s ++ y
+  put-tail : putMid at (length s - at) s y ≡ take at s ++ y
   put-tail = rw (behind-none, append-nil)
 
 pub part-tail : (s : List ℕ) (at : ℕ) → take (length s - at) (drop at s) ≡ drop at s
 part-tail s at = take-all (length s - at) (drop at s) (simp length-drop (omega arith))
 
 -- bytes behind those at the front
-pub front-more : (l v w : List ℕ) → drop (length v) (atFront v l) ≡ drop (length v) l
-    → v ++ atFront w (drop (length v) (atFront v l)) ≡ atFront (v ++ w) l
-front-more l v w e =
-    rw (e, drop-drop (length w) (length v) l, length-append v w) (sym (append-assoc v w (drop (length v + length w) l)))
-
-pub behind-front : (l v : List ℕ) → drop (length v) (atFront v l) ≡ drop (length v) l
-behind-front l v = drop-at v (drop (length v) l) (length v) refl
+front-more : (l v w : List ℕ) → v ++ atFront w (drop (length v) (atFront v l)) ≡ atFront (v ++ w) l
+front-more l v w =
+    rw (drop-at v (drop (length v) l) (length v) refl, drop-drop (length w) (length v) l, length-append v w) (sym (append-assoc v w (drop (length v + length w) l)))
 
 -- the same, as the code does it
 pub put-behind : (l s y v w : List ℕ) (at : ℕ) → s ≡ atFront v l → length v ≡ at → y ≡ atFront w (take (length s - at) (drop at s))
@@ -41,7 +34,7 @@ pub put-behind : (l s y v w : List ℕ) (at : ℕ) → s ≡ atFront v l → len
 put-behind l s y v w at e n f =
     put-tail s y at
     ∙ rw (f, part-tail s at, ← n, e, take-at v (drop (length v) l) (length v) refl)
-    (front-more l v w (behind-front l v))
+    (front-more l v w)
 
 -- ---- a row
 

@@ -1,6 +1,6 @@
 -- One row off: the message bytes at its end, and those of the rows behind it.
 use mathlib.Core.Path.{_≡_, refl, ap, _∙_}
-use Prim.Native.Nat.{ℕ, zero, suc, _+_, _-_, _*_, _/_, _%_, _≤_, _<_}
+use Prim.Native.Nat.{ℕ, zero, suc, _+_, _-_, _*_, _/_, _%_, _≤_}
 use native.Mathlib.Omega.{arith}
 use mathlib.Core.List.{List, [], _∷_, _++_}
 use lib.ListN.{length, getD, take, drop, length-append, length-take, length-drop}
@@ -12,16 +12,16 @@ use Rattle.plain.specs.Engine.{rowSize, heldIn, sharedIn, joined}
 use Rattle.plain.specs.Promise.{atFront}
 use Rattle.plain.proofs.Fronts.{put-behind}
 
-pub held-most : (list : List ℕ) → heldIn list ≤ rowSize
+pub held-most : (list : List ℕ) → heldIn list ≤ consecutiveMost
 unfolding heldIn
-held-most list = go (byteAt list 1 / 16 % 4) (omega arith)
+held-most list = by-kind (byteAt list 1 / 16 % 4)
   where
-    go : (k : ℕ) → k < 4 → getD (singleMost ∷ firstBytes ∷ consecutiveMost ∷ 0 ∷ []) k 0 ≤ rowSize
-    go zero h = omega arith
-    go (suc zero) h = omega arith
-    go (suc (suc zero)) h = omega arith
-    go (suc (suc (suc zero))) h = omega arith
-    go (suc (suc (suc (suc k)))) h = absurd (omega arith)
+    by-kind : (k : ℕ) → getD (singleMost ∷ firstBytes ∷ consecutiveMost ∷ 0 ∷ []) k 0 ≤ consecutiveMost
+    by-kind zero = omega arith
+    by-kind (suc zero) = omega arith
+    by-kind (suc (suc zero)) = omega arith
+    by-kind (suc (suc (suc zero))) = omega arith
+    by-kind (suc (suc (suc (suc k)))) = omega arith
 
 pub joined-fewer : (rows missing : ℕ) (list : List ℕ) → length (joined rows missing list) ≤ missing
 unfolding joined

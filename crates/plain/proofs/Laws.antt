@@ -15,6 +15,7 @@ use Rattle.plain.specs.Promise.{said, listAfter, roomAfter}
 use Rattle.plain.specs.Laws.{Same}
 use Rattle.plain.proofs.Same.{frames-one, exchange-is}
 use Rattle.plain.proofs.Delivered.{delivered-is}
+use Rattle.plain.proofs.Asking.{answered}
 
 -- a message in one frame has no flow control, so any settings serve
 any-settings : (s t : BerthSettings) (m : List ℕ) → (leastLong ≤ length m → s ≡ t) → exchanged s (framesOf m) ≡ exchanged t (framesOf m)
@@ -35,7 +36,7 @@ arrived-plain {m = m} {w = w} arrived a b s same =
       handed = handed;
       bytes = arrived .bytes ∙ bytes;
       shown = shown;
-      called = λ list room none. rw (none, handed, shown) (refl, refl, refl);
+      called = λ own list room l r. rw (answered m (s .block) (s .stmin) list room a b l r own, handed, shown) (refl, refl, refl);
     }
 
 module _ (i j party : ℕ) (m : List ℕ) (a b : Held) (may : MayBegin i j party m a b) where

@@ -1,8 +1,8 @@
 -- Every frame of an exchange has eight bytes, so the list has nine for each.
-use mathlib.Core.Path.{_≡_, refl, sym, ap, subst, _∙_}
+use mathlib.Core.Path.{_≡_, refl, sym, subst}
 use Prim.Native.Nat.{ℕ, zero, suc, _+_, _*_, _/_, _%_, _≤_, _<_}
 use native.Mathlib.Omega.{arith}
-use mathlib.Core.List.{List, [], _∷_, _++_, append-assoc}
+use mathlib.Core.List.{List, [], _∷_, _++_}
 use lib.ListN.{length, take, drop, length-append, length-take}
 use lib.Dec.{leb}
 use Rattle.rules.specs.Numbers.{frameSize, singleKind, firstKind, consecutiveKind, singleMost, firstBytes, consecutiveMost}
@@ -12,7 +12,7 @@ use Rattle.rules.proofs.Cases.{Tested, holds, fails, leb-cases}
 use Rattle.laws.specs.Own.{over}
 use Rattle.laws.specs.Line.{Handed, there, back}
 use Rattle.laws.proofs.Frames.{padded-length}
-use Rattle.plain.specs.Engine.{snOf, cutWithin, cutter, blockBytes, blockWithin, block, permissionWithin, exchange, enough, rowSize, row, listed}
+use Rattle.plain.specs.Engine.{snOf, cutWithin, cutter, nextBlock, behindBlock, blockWithin, block, permissionWithin, exchange, enough, rowSize, listed}
 use Rattle.plain.proofs.Steps.{permission-none}
 
 unfoldable pub Eights : List Handed → Type 0
@@ -26,12 +26,7 @@ rows-length [] e = refl
 rows-length (there f ∷ hs) e = simp length-append (omega (arith, e .0, rows-length hs (e .1)))
 rows-length (back f ∷ hs) e = simp length-append (omega (arith, e .0, rows-length hs (e .1)))
 
-pub listed-append : (hs ks : List Handed) → listed (hs ++ ks) ≡ listed hs ++ listed ks
-unfolding over
-listed-append [] ks = refl
-listed-append (h ∷ hs) ks = ap (λ (r : List ℕ). row h ++ r) (listed-append hs ks) ∙ sym (append-assoc (row h) (listed hs) (listed ks))
-
-pub eights-append : (hs ks : List Handed) → Eights hs → Eights ks → Eights (hs ++ ks)
+eights-append : (hs ks : List Handed) → Eights hs → Eights ks → Eights (hs ++ ks)
 unfolding Eights
 eights-append [] ks e f = f
 eights-append (there g ∷ hs) ks e f = (e .0, eights-append hs ks (e .1) f)
@@ -59,12 +54,12 @@ mutual
   pub block-eights : (most : ℕ) (s : BerthSettings) (number : ℕ) (left : List ℕ) → Eights (blockWithin most s number left)
   block-eights zero s number left = tt
   block-eights (suc most) s number left =
-      let front = cutter number (take (blockBytes (s .block) (length left)) left) in
-      eights-append front _ (cutter-eights number (take (blockBytes (s .block) (length left)) left))
-      (permission-eights most s (number + length front) (drop (blockBytes (s .block) (length left)) left))
+      let front = cutter number (nextBlock s left) in
+      eights-append front _ (cutter-eights number (nextBlock s left)) (permission-eights most s (number + length front) (behindBlock s left))
 
   pub permission-eights : (most : ℕ) (s : BerthSettings) (number : ℕ) (left : List ℕ) → Eights (permissionWithin most s number left)
   permission-eights zero s number left = tt
+  -- nothing is listed: what a go too many would break is `permission-none`
   permission-eights (suc most) s number [] = subst Eights (sym (permission-none (suc most) s number [] refl)) tt
   permission-eights (suc most) s number (x ∷ left) = (go-eight s, block-eights most s number (x ∷ left))
 

@@ -14,7 +14,7 @@ use Rattle.rules.specs.declared.BerthSettings.{BerthSettings}
 use Rattle.rules.specs.declared.Sn.{Sn}
 use Rattle.rules.proofs.Cases.{Tested, holds, fails, eqb-is, eqb-not, leb-is, leb-not, leb-cases, split}
 use Rattle.laws.specs.Line.{Handed, there, back, inBlocks, exchanged}
-use Rattle.laws.proofs.Frames.{fills-no, fills-yes, counted-on, drop-take}
+use Rattle.laws.proofs.Frames.{fills-no, fills-yes, counted-on, drop-take, cut-some, cut-none}
 use Rattle.plain.specs.Engine.{snOf, cutter, blockBytes, block, permission, enough, exchange}
 use Rattle.plain.proofs.Steps.{cutter-none, cutter-more, permission-none, block-step, permission-step, one-block}
 
@@ -36,22 +36,20 @@ cut-enough (suc a) (suc b) sn (x ∷ left) h k =
 abbrev pub rest : (number : ℕ) → List ℕ → List (List ℕ)
 rest number left = cutRest consecutiveMost (length left) (snOf number) left
 
-pub sn-on : (number : ℕ) → nextSn (snOf number) ≡ snOf (number + 1)
+sn-on : (number : ℕ) → nextSn (snOf number) ≡ snOf (number + 1)
 unfolding nextSn snOf
 sn-on number = ap (λ (x : ℕ). record { 0 = x }) (omega arith)
 
 pub rest-none : (number : ℕ) (left : List ℕ) → length left ≡ 0 → rest number left ≡ []
-unfolding cutRest
-rest-none number [] e = refl
-rest-none number (x ∷ left) e = absurd (omega arith)
+rest-none number left e = cut-none (length left) (snOf number) left e
 
 pub rest-more : (number : ℕ) (left : List ℕ) → 0 < length left
     → rest number left ≡ consecutiveFrame (snOf number) (take consecutiveMost left) ∷ rest (number + 1) (drop consecutiveMost left)
-unfolding cutRest
 rest-more number [] h = absurd (omega arith)
 rest-more number (x ∷ left) h =
     let l = length-drop consecutiveMost (x ∷ left) in
-    ap (λ (r : List (List ℕ)). consecutiveFrame (snOf number) (take consecutiveMost (x ∷ left)) ∷ r)
+    cut-some (length left) (snOf number) (x ∷ left) h
+    ∙ ap (λ (r : List (List ℕ)). consecutiveFrame (snOf number) (take consecutiveMost (x ∷ left)) ∷ r)
     (cut-enough (length left) (length (drop consecutiveMost (x ∷ left))) (nextSn (snOf number)) (drop consecutiveMost (x ∷ left)) (omega arith) (omega arith)
     ∙ ap (λ (sn : Sn). cutRest consecutiveMost (length (drop consecutiveMost (x ∷ left))) sn (drop consecutiveMost (x ∷ left))) (sn-on number))
 
@@ -60,7 +58,7 @@ rest-some number left h = rw (rest-more number left h) (omega arith)
 
 -- ---- one more frame in the blocks of the line, and in the engine's block
 
--- the frames of the last block end the exchange
+-- the last frame ends the exchange
 in-last : (s : BerthSettings) (t : ℕ) (f : List ℕ) (fs : List (List ℕ)) → fs ≡ [] → inBlocks s t (f ∷ fs) ≡ there f ∷ []
 unfolding inBlocks
 in-last s t f fs e = rw e refl

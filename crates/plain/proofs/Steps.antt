@@ -12,7 +12,10 @@ use Rattle.rules.specs.Frames.{consecutiveFrame, goFrame}
 use Rattle.rules.specs.declared.BerthSettings.{BerthSettings}
 use Rattle.rules.proofs.Cases.{Tested, holds, fails, eqb-cases, eqb-is, split}
 use Rattle.laws.specs.Line.{Handed, there, back}
-use Rattle.plain.specs.Engine.{snOf, cutWithin, cutter, blockBytes, blockWithin, block, permissionWithin, permission, enough}
+use Rattle.plain.specs.Engine.{snOf, cutWithin, cutter, blockBytes, nextBlock, behindBlock, blockWithin, block, permissionWithin, permission, enough}
+
+pub some-left : (left : List ℕ) → (length left ≡ 0 → ⊥) → 0 < length left
+some-left left here = split (length left) 0 (λ h. absurd (here (omega arith))) (λ h. h)
 
 -- ---- the cutter
 
@@ -63,7 +66,7 @@ permission-none (suc most) s number [] e = refl
 permission-none (suc most) s number (x ∷ left) e = absurd (omega arith)
 
 -- a block is some bytes of those that are left, if there are any
-pub block-some : (size left : ℕ) → 0 < left → 0 < blockBytes size left
+block-some : (size left : ℕ) → 0 < left → 0 < blockBytes size left
 unfolding blockBytes
 block-some size left h = go (eqb-cases size 0)
   where
@@ -108,10 +111,7 @@ mutual
 
 -- one sends a block and asks for permission
 pub block-step : (s : BerthSettings) (number : ℕ) (left : List ℕ)
-    → block s number left
-    ≡ cutter number (take (blockBytes (s .block) (length left)) left)
-    ++ permission s (number + length (cutter number (take (blockBytes (s .block) (length left)) left)))
-    (drop (blockBytes (s .block) (length left)) left)
+    → block s number left ≡ cutter number (nextBlock s left) ++ permission s (number + length (cutter number (nextBlock s left))) (behindBlock s left)
 unfolding blockWithin
 block-step s number left =
     let n = blockBytes (s .block) (length left) in

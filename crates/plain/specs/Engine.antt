@@ -1,6 +1,6 @@
 -- Paper 02, W12: a plain engine for one transfer. "A cutter takes the first frame off and then cuts what is left. The exchange is in two
 -- parts: one sends a block and asks the other for permission, which answers and asks for the next block, until no bytes are left."
--- A recursion goes on `within` a bound, which is larger than it needs wherever it is called: without it each step is as it is written here
+-- A recursion goes on within a bound, which is large enough wherever it is called: without it each step is as it is written here
 -- (proofs/Steps: cutter-more, block-step, permission-step).
 use Prim.Native.Nat.{ℕ, zero, suc, _+_, _-_, _*_, _/_, _%_, min}
 use mathlib.Core.List.{List, [], _∷_, _++_}
@@ -55,7 +55,7 @@ unfoldable mutual
   permissionWithin (suc most) s number [] = []
   permissionWithin (suc most) s number (x ∷ left) = back (goFrame s) ∷ blockWithin most s number (x ∷ left)
 
--- each part is called at most once for a byte that is left, and once more
+-- each part is called at most once for a byte that is left, and one of them once more
 abbrev pub enough : List ℕ → ℕ
 enough left = suc (2 * length left)
 
@@ -95,7 +95,7 @@ listed hs = over row hs
 unfoldable pub announcedIn : List ℕ → ℕ
 announcedIn list = pick (eqb (byteAt list 1 / 16) singleKind) (byteAt list 1 % 16) (byteAt list 1 % 16 * 256 + byteAt list 2)
 
--- the message bytes at the end of a row, by its frame's kind: of a single frame, a first, a consecutive one, and flow control has none
+-- the message bytes at the end of a row, by its frame's kind, one of four: of a single frame, a first, a consecutive one, and flow control has none
 unfoldable pub heldIn : List ℕ → ℕ
 heldIn list = getD (singleMost ∷ firstBytes ∷ consecutiveMost ∷ 0 ∷ []) (byteAt list 1 / 16 % 4) 0
 

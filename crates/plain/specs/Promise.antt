@@ -7,19 +7,22 @@ use lib.Dec.{leb}
 use Rattle.rules.specs.Tests.{need, firstUnmet, unless}
 use Rattle.rules.specs.Numbers.{shortMost, emptyMessage, messageTooLong, shortBuffer, badSetting}
 use Rattle.rules.specs.Ranges.{ownAllowed}
+use Rattle.rules.specs.Answers.{Paper}
 use Rattle.rules.specs.declared.BerthSettings.{BerthSettings}
 use Rattle.laws.specs.Line.{Handed}
 use Rattle.plain.specs.Engine.{rowSize, exchange, listed, delivered}
 use Rattle.plain.specs.declared.Answer.{Answer}
 
--- what it answers: refused with paper 01's number for it, or so many frames listed and so many bytes delivered
-pub data Said : Type 0 where
-  refused : ℕ → Said
-  exchanged : (frames bytes : ℕ) → Said
+-- the number and values of each answer: 0, refused with paper 01's number for it; 1, so many frames listed and so many bytes delivered
+abbrev pub refusedPaper : ℕ → Paper
+refusedPaper n = record { number = 0; values = n ∷ [] }
 
-abbrev pub says : Answer → Said
-says (Answer.Refused n) = refused n
-says (Answer.Exchanged frames bytes) = exchanged frames bytes
+abbrev pub exchangedPaper : (frames bytes : ℕ) → Paper
+exchangedPaper frames bytes = record { number = 1; values = frames ∷ bytes ∷ [] }
+
+abbrev pub exchangePaper : Answer → Paper
+exchangePaper (Answer.Refused n) = refusedPaper n
+exchangePaper (Answer.Exchanged frames bytes) = exchangedPaper frames bytes
 
 -- the frames of the longest exchange, 4,095 bytes with a go for each frame: 586 there and 585 back
 abbrev pub mostRows : ℕ
@@ -49,10 +52,10 @@ Lists hs count list after = (count ≡ length hs) × (after ≡ atFront (listed 
 
 -- a refusal writes nothing
 module _ (m : List ℕ) (bs stmin : ℕ) (list room : List ℕ) where
-  unfoldable pub said : Said
+  unfoldable pub said : Paper
   said =
-      unless (refusal m bs stmin list room) refused
-      (exchanged (length (exchange (settings bs stmin) m)) (length (delivered (exchange (settings bs stmin) m))))
+      unless (refusal m bs stmin list room) refusedPaper
+      (exchangedPaper (length (exchange (settings bs stmin) m)) (length (delivered (exchange (settings bs stmin) m))))
 
   unfoldable pub listAfter : List ℕ
   listAfter = unless (refusal m bs stmin list room) (λ n. list) (atFront (listed (exchange (settings bs stmin) m)) list)

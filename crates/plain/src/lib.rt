@@ -7,7 +7,7 @@ ghost use lib.ListN.{length};
 ghost use Rattle.rules.specs.Frames.{padded};
 ghost use Rattle.rules.specs.Numbers.{consecutiveMost, shortMost};
 ghost use Rattle.plain.specs.Engine.{rowSize, cutter, block, permission, exchange, listed, announcedIn, joined};
-ghost use Rattle.plain.specs.Promise.{says, said, mostRows, settings, atFront, Lists, listAfter, roomAfter};
+ghost use Rattle.plain.specs.Promise.{exchangePaper, said, mostRows, settings, atFront, Lists, listAfter, roomAfter};
 
 // A frame of the list; the list of the longest exchange, 586 frames there and 585 back; the longest message.
 pub const ROW: usize = 9;
@@ -105,7 +105,7 @@ fn announced(list: &[u8]) -> usize
     low * 256 + list[2] as usize
 }
 
-// Takes the first row off and then joins what is left. A row ends with the bytes that its kind of frame holds, flow control with none.
+// Takes the first row off and then joins what is left. A row ends with the message bytes that a frame of its kind holds, of four kinds.
 fn join(list: &[u8], rows: usize, missing: usize, room: &mut [u8]) -> usize
     requires { ⌜ (rows * rowSize ≤ length (now list)) × (missing ≤ length (now room)) ⌝ }
     ensures { λ r. ⌜ (r ≡ length (joined rows missing (now (list .entry)))) × (now (room .exit) ≡ atFront (joined rows missing (now (list .entry))) (now (room .entry))) ⌝ }
@@ -122,7 +122,7 @@ fn join(list: &[u8], rows: usize, missing: usize, room: &mut [u8]) -> usize
 
 // One transfer to a taker with this BS and STmin: the list, and in the room what is delivered.
 pub fn exchange(message: &[u8], bs: u32, stmin: u32, list: &mut [u8], room: &mut [u8]) -> Answer
-    ensures { λ r. ⌜ says r ≡ said (now (message .entry)) bs stmin (now (list .entry)) (now (room .entry)) ⌝ }
+    ensures { λ r. ⌜ exchangePaper r ≡ said (now (message .entry)) bs stmin (now (list .entry)) (now (room .entry)) ⌝ }
     ensures { λ _. ⌜ now (list .exit) ≡ listAfter (now (message .entry)) bs stmin (now (list .entry)) (now (room .entry)) ⌝ }
     ensures { λ _. ⌜ now (room .exit) ≡ roomAfter (now (message .entry)) bs stmin (now (list .entry)) (now (room .entry)) ⌝ }
 {

@@ -12,7 +12,8 @@ use lib.Dec.{T, leb}
 use mir.Facts.{leb-yes}
 use Rattle.rules.specs.Tests.{each}
 use Rattle.rules.proofs.Cases.{yes-of, and-left, and-right, each-at}
-use Rattle.plain_ladder.specs.Asked.{mostDigits, isDigit, isNumber, valueAfter, valueOf}
+use Rattle.text.specs.Building.{valueAfter}
+use Rattle.plain_ladder.specs.Asked.{mostDigits, isDigit, isNumber, valueOf}
 
 -- ---- a test of every byte from a place on
 

@@ -5,17 +5,16 @@ use native.Mathlib.Omega.{arith}
 use mathlib.Core.List.{List, [], _∷_, _++_, append-assoc}
 use lib.ListN.{length, drop, length-append, length-drop}
 use lib.Seq.{take-at, drop-at}
-use Rattle.rules.specs.Tests.{firstUnmet}
 use Rattle.rules.specs.Numbers.{shortMost}
-use Rattle.rules.proofs.Cases.{leb-is}
 use Rattle.laws.specs.Own.{over}
 use Rattle.laws.specs.Line.{Handed, there, back}
 use Rattle.records.specs.Records.{risingFrom}
 use Rattle.reading.specs.Output.{sinkAfter, bufferAfter}
 use Rattle.reading.specs.declared.output.Sink.{Sink}
 use Rattle.plain.specs.Engine.{rowSize, row, listed, exchange, delivered}
-use Rattle.plain.specs.Promise.{refused, exchanged, says, mostRows, refusal, settings, atFront, said as answered, listAfter}
+use Rattle.plain.specs.Promise.{refusedPaper, exchangedPaper, exchangePaper, mostRows, refusal, settings, atFront, said as told, listAfter}
 use Rattle.plain.specs.declared.Answer.{Answer}
+use Rattle.plain.proofs.Asking.{answered}
 use Rattle.plain.proofs.Rows.{Eights, rows-length, exchange-eights}
 use Rattle.plain_ladder.specs.Asked.{InRanges}
 use Rattle.plain_ladder.specs.Line.{deliveredText}
@@ -31,39 +30,33 @@ rising-length first (suc n) = ap suc (rising-length _ n)
 
 pub never-refused : (m : List ℕ) (n bs stmin : ℕ) (list room : List ℕ) → length m ≡ n → InRanges n bs stmin → mostRows * rowSize ≤ length list → shortMost ≤ length room
     → refusal m bs stmin list room ≡ 0
-unfolding refusal firstUnmet
 never-refused m n bs stmin list room e h l r =
-    rw (
-      leb-is 1 (length m) (omega (arith, h .length-least)),
-      leb-is (length m) shortMost (omega (arith, h .length-most)),
-      leb-is (mostRows * rowSize) (length list) l,
-      leb-is shortMost (length room) r,
-      h .own,
-    )
+    answered m bs stmin list room (omega (arith, h .length-least)) (omega (arith, h .length-most)) l r (h .own)
 
 module _ (m : List ℕ) (bs stmin : ℕ) (list room : List ℕ) (z : refusal m bs stmin list room ≡ 0) where
   abbrev all : List Handed
   all = exchange (settings bs stmin) m
 
-  pub not-refused : (a : Answer) (n : ℕ) → says a ≡ answered m bs stmin list room → a ≡ Answer.Refused n → ⊥
-  unfolding answered
+  pub not-refused : (a : Answer) (n : ℕ) → exchangePaper a ≡ told m bs stmin list room → a ≡ Answer.Refused n → ⊥
+  unfolding told
   not-refused a n e f =
-      let q : refused n ≡ exchanged (length all) (length (delivered all)) = rw (z, f) at e in
+      let q : refusedPaper n ≡ exchangedPaper (length all) (length (delivered all)) = rw (z, f) at e in
       let no : _≡_ {A = ℕ} 0 1 = cc in
       omega arith
 
-  pub frames-are : (a : Answer) (frames bytes : ℕ) → says a ≡ answered m bs stmin list room → a ≡ Answer.Exchanged frames bytes
+  pub frames-are : (a : Answer) (frames bytes : ℕ) → exchangePaper a ≡ told m bs stmin list room → a ≡ Answer.Exchanged frames bytes
       → (frames ≡ length all) × (bytes ≡ length (delivered all))
-  unfolding answered
+  unfolding told
   frames-are a frames bytes e f =
-      let q : exchanged frames bytes ≡ exchanged (length all) (length (delivered all)) = rw (z, f) at e in
+      let q : exchangedPaper frames bytes ≡ exchangedPaper (length all) (length (delivered all)) = rw (z, f) at e in
       (cc, cc)
 
-  -- the list is as long as before, so it has room for all rows
+  -- the list has the rows of the exchange's frames at its front
   pub rows-are : (out : List ℕ) → out ≡ listAfter m bs stmin list room → out ≡ atFront (listed all) list
   unfolding listAfter
   rows-are out e = rw z at e
 
+  -- it is as long as before, so it has room for all rows
   pub rows-fit : (out : List ℕ) → out ≡ listAfter m bs stmin list room → length out ≡ length list → length all * rowSize ≤ length out
   rows-fit out e l =
       let k = ap length (rows-are out e) ∙ length-append (listed all) (drop (length (listed all)) list) in

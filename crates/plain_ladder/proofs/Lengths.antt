@@ -15,7 +15,8 @@ use Rattle.text.proofs.Decimal.{decimal-length}
 use Rattle.text.proofs.Lengths.{hex-length}
 use Rattle.plain_ladder.specs.declared.asked.Name.{Name}
 use Rattle.plain_ladder.specs.declared.asked.Refusal.{Refusal}
-use Rattle.plain_ladder.specs.Line.{LF, directionWord, flowWords, frameWords, lineOf}
+use Rattle.text.specs.Answers.{LF}
+use Rattle.plain_ladder.specs.Line.{directionWord, flowWords, frameWords, lineOf}
 use Rattle.plain_ladder.specs.Refusals.{nameWord, rangeWord, refusalText}
 
 -- ---- a row's line

@@ -1,4 +1,4 @@
--- The lines of a list's rows, one after the other; where the list is that of an exchange they are those of its frames.
+-- The lines of a list's rows, one after the other.
 use mathlib.Core.Path.{_≡_, refl, ap, _∙_}
 use Prim.Native.Nat.{ℕ, suc, _+_, _-_, _*_, _≤_, _<_}
 use native.Mathlib.Omega.{arith}

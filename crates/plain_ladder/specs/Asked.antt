@@ -1,13 +1,14 @@
 -- The program's three words: which are numbers, which numbers are in their ranges, and which word is told where one is wrong.
-use Prim.Native.Nat.{ℕ, _+_, _-_, _*_, _≤_}
+use Prim.Native.Nat.{ℕ, _≤_}
 use mathlib.Core.Path.{_≡_}
 use mathlib.Core.Bool.{Bool, true, _&&_}
-use mathlib.Core.List.{List, [], _∷_}
+use mathlib.Core.List.{List}
 use lib.ListN.{length}
 use lib.Dec.{leb}
 use Rattle.rules.specs.Tests.{pick, each}
 use Rattle.rules.specs.Numbers.{shortMost, largestBlock}
 use Rattle.rules.specs.Ranges.{stminAllowed, ownAllowed}
+use Rattle.text.specs.Building.{valueAfter}
 use Rattle.plain_ladder.specs.declared.asked.Name.{Name}
 use Rattle.plain_ladder.specs.declared.asked.Refusal.{Refusal}
 use Rattle.plain_ladder.specs.declared.asked.Tested.{Tested}
@@ -25,11 +26,6 @@ isDigit b = leb 48 b && leb b 57
 -- one to nine digits and nothing else
 unfoldable pub isNumber : List ℕ → Bool
 isNumber word = (leb 1 (length word) && leb (length word) mostDigits) && each isDigit word
-
--- what the digits before are worth is multiplied by ten, and the next one added
-unfoldable pub valueAfter : ℕ → List ℕ → ℕ
-valueAfter n [] = n
-valueAfter n (d ∷ ds) = valueAfter (n * 10 + (d - 48)) ds
 
 abbrev pub valueOf : List ℕ → ℕ
 valueOf word = valueAfter 0 word

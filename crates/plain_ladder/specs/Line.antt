@@ -6,11 +6,9 @@ use lib.Dec.{eqb}
 use Rattle.rules.specs.Tests.{pick}
 use Rattle.rules.specs.Numbers.{singleKind, firstKind, consecutiveKind}
 use Rattle.rules.specs.Frames.{byteAt}
+use Rattle.text.specs.Answers.{LF}
 use Rattle.text.specs.Building.{decimal, smallPlaces, sizePlaces, numberPlaces, hexText}
 use Rattle.plain.specs.Engine.{thereMark}
-
-abbrev pub LF : ℕ
-LF = 10
 
 -- ---- the direction
 

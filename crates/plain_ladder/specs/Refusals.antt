@@ -1,10 +1,10 @@
 -- The one line that is printed where a word is wrong, in bytes.
 use Prim.Native.Nat.{ℕ}
 use mathlib.Core.List.{List, [], _∷_, _++_}
+use Rattle.text.specs.Answers.{LF}
 use Rattle.text.specs.Building.{decimal, smallPlaces}
 use Rattle.plain_ladder.specs.declared.asked.Name.{Name}
 use Rattle.plain_ladder.specs.declared.asked.Refusal.{Refusal}
-use Rattle.plain_ladder.specs.Line.{LF}
 
 -- "refused: "
 abbrev pub refusedWord : List ℕ

@@ -9,7 +9,7 @@ use mathlib.Core.List.{List, [], _∷_, _++_}
 use lib.ListN.{length, getD, length-append}
 use lib.Dec.{ltb}
 use borrow.Author.Tests.{lt-ltb, le-ltb, ltb-true, ltb-false}
-use Rattle.text.specs.Building.{decimal}
+use Rattle.text.specs.Building.{decimal, valueAfter}
 
 module _ (places n : ℕ) where
   pub decimal-one : n < 10 → decimal (suc places) n ≡ (48 + n) ∷ []
@@ -38,11 +38,6 @@ decimal-next zero n f h = absurd (f refl)
 decimal-next (suc places) n f h = rw (sub-one) (decimal-more places n h)
 
 -- ---- the law
-
--- the value of digits after a number
-unfoldable pub valueAfter : ℕ → List ℕ → ℕ
-valueAfter v [] = v
-valueAfter v (d ∷ ds) = valueAfter (v * 10 + (d - 48)) ds
 
 value-append : (v : ℕ) (a b : List ℕ) → valueAfter v (a ++ b) ≡ valueAfter (valueAfter v a) b
 unfolding valueAfter

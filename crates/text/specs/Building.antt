@@ -1,5 +1,5 @@
 -- Texts in bytes: what a text under construction says, numbers in decimal, bytes in hex.
-use Prim.Native.Nat.{ℕ, zero, suc, _+_, _/_, _%_, _≤_}
+use Prim.Native.Nat.{ℕ, zero, suc, _+_, _-_, _*_, _/_, _%_, _≤_}
 use mathlib.Core.Path.{_≡_}
 use mathlib.Core.List.{List, [], _∷_, _++_}
 use lib.ListN.{length, take}
@@ -29,6 +29,11 @@ Fronts n xs = (n ≤ length xs) × (n ≡ length (take n xs))
 unfoldable pub decimal : ℕ → ℕ → List ℕ
 decimal zero n = []
 decimal (suc places) n = pick (ltb n 10) ((48 + n) ∷ []) (decimal places (n / 10) ++ ((48 + n % 10) ∷ []))
+
+-- and back, the value of digits after a number: what the digits before are worth is multiplied by ten, and the next one added
+unfoldable pub valueAfter : ℕ → List ℕ → ℕ
+valueAfter n [] = n
+valueAfter n (d ∷ ds) = valueAfter (n * 10 + (d - 48)) ds
 
 -- as many places as the largest number of a type has: of 8, 32 and 64 bits
 abbrev pub smallPlaces : ℕ

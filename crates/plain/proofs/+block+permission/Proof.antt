@@ -6,10 +6,9 @@ use native.Mathlib.Omega.{arith}
 use denote.Ref.{now}
 use lib.ListN.{length, take, drop, length-take, length-drop}
 use borrow.Author.Needs.{needs}
-use Rattle.rules.proofs.Cases.{split}
 use Rattle.plain.specs.Engine.{block as blockLists, permission as permissionLists, enough, rowSize}
 use Rattle.plain.specs.Promise.{settings}
-use Rattle.plain.proofs.Steps.{cutter-fewer, one-block}
+use Rattle.plain.proofs.Steps.{some-left, cutter-fewer, one-block}
 use Rattle.plain.proofs.Rows.{rows-length, block-eights, permission-eights}
 use Rattle.plain.proofs.Fronts.{part-tail}
 use Rattle.plain.proofs.Blocks.{block-room, block-asks, block-put, none-permitted, permission-room, permission-put}
@@ -227,7 +226,7 @@ permission-block-requires t c κs =
     let here = c .before .before .before .before .before .before .if1 .left in
     let row = c .before .before .before .put in
     let room = permission-room own number left here (length list) (start .pre .1 .0) in
-    let some = split (length left) 0 (λ h. absurd (here (omega arith))) (λ h. h) in
+    let some = some-left left here in
     rw (part-tail (row .last .0) rowSize)
     (omega (arith, start .pre .0), (omega (arith, room .1, row .kept .0, length-drop rowSize (row .last .0)), start .pre .1 .1, some))
 

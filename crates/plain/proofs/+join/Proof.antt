@@ -48,7 +48,7 @@ join-least-requires t c κs = search needs
 
 join-sub-copy : (t : ℕ) → join-lts.Need-sub-copy (least-reads.Asked, least-reads.Learnt, copy-reads.Asked, copy-reads.Learnt, join-below t, join.Post) (join-at t) join.Post
 unfolding heldIn
-join-sub-copy t c = held-most (now (c .before .before .before .before .before .args .list))
+join-sub-copy t c = omega (arith, held-most (now (c .before .before .before .before .before .args .list)))
 
 join-sub-copy-2 : (t : ℕ) → join-lts.Need-sub-copy-2 (least-reads.Asked, least-reads.Learnt, copy-reads.Asked, copy-reads.Learnt, join-below t, join.Post) (join-at t) join.Post
 unfolding heldIn

@@ -6,7 +6,7 @@ use mathlib.Core.List.{List}
 use lib.ListN.{length, take, replicate, length-replicate}
 use lib.Seq.{length-take-le}
 use Rattle.rules.specs.Numbers.{shortMost}
-use Rattle.plain.specs.Promise.{says, said as answered, refusal, settings, listAfter}
+use Rattle.plain.specs.Promise.{exchangePaper, said as told, refusal, settings, listAfter}
 use Rattle.plain.specs.Engine.{exchange}
 use Rattle.plain.proofs.Rows.{exchange-eights}
 use Rattle.records.specs.Records.{risingFrom}
@@ -43,7 +43,7 @@ in-range c =
     never-refused (message c) (a .args .length) (a .args .bs) (a .args .stmin) list room (rising-length 0 (a .args .length)) (a .pre)
     (omega (arith, length-replicate {A = ℕ} 10539 0)) (omega (arith, length-replicate {A = ℕ} 4095 0))
 
-says-so : (c : tie.After-exchange) → says (c .exchange .result) ≡ answered (message c) (start c .args .bs) (start c .args .stmin) list room
+says-so : (c : tie.After-exchange) → exchangePaper (c .exchange .result) ≡ told (message c) (start c .args .bs) (start c .args .stmin) list room
 says-so c = rw (risen (c .before .before .before .before .before)) at (c .exchange .ensures .0)
 
 lists-so : (c : tie.After-exchange) → listed-by c ≡ listAfter (message c) (start c .args .bs) (start c .args .stmin) list room

@@ -3,7 +3,8 @@ use Prim.Native.Nat.{_-_, _≤_}
 use mathlib.Core.Path.{_≡_, refl, sym, ap, _∙_}
 use native.Mathlib.Omega.{arith}
 use lib.ListN.{length, drop, drop-of-length-le}
-use Rattle.plain_ladder.specs.Asked.{valueAfter, valueOf}
+use Rattle.text.specs.Building.{valueAfter}
+use Rattle.plain_ladder.specs.Asked.{valueOf}
 use Rattle.plain_ladder.proofs.Digits.{number-step}
 use Rattle.plain_ladder.proofs.asked.value.Statement.{statement}
 use Rattle.plain_ladder.proofs.asked.value.Tie as tie
