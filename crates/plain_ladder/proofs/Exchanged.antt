@@ -3,7 +3,7 @@ use mathlib.Core.Path.{_≡_, refl, ap, _∙_}
 use Prim.Native.Nat.{ℕ, zero, suc, _+_, _*_, _≤_}
 use native.Mathlib.Omega.{arith}
 use mathlib.Core.List.{List, [], _∷_, _++_, append-assoc}
-use lib.ListN.{length, drop, length-append, length-drop}
+use lib.ListN.{length, getD, drop, length-append, length-drop}
 use lib.Seq.{take-at, drop-at}
 use Rattle.rules.specs.Numbers.{shortMost}
 use Rattle.laws.specs.Own.{over}
@@ -11,6 +11,7 @@ use Rattle.laws.specs.Line.{Handed, there, back}
 use Rattle.records.specs.Records.{risingFrom}
 use Rattle.reading.specs.Output.{sinkAfter, bufferAfter}
 use Rattle.reading.specs.declared.output.Sink.{Sink}
+use Rattle.rules.specs.Answers.{Paper}
 use Rattle.plain.specs.Engine.{rowSize, row, listed, exchange, delivered}
 use Rattle.plain.specs.Promise.{refusedPaper, exchangedPaper, exchangePaper, mostRows, refusal, settings, atFront, said as told, listAfter}
 use Rattle.plain.specs.declared.Answer.{Answer}
@@ -41,7 +42,7 @@ module _ (m : List ℕ) (bs stmin : ℕ) (list room : List ℕ) (z : refusal m b
   unfolding told
   not-refused a n e f =
       let q : refusedPaper n ≡ exchangedPaper (length all) (length (delivered all)) = rw (z, f) at e in
-      let no : _≡_ {A = ℕ} 0 1 = cc in
+      let no : _≡_ {A = ℕ} 0 1 = ap (λ (p : Paper). p .number) q in
       omega arith
 
   pub frames-are : (a : Answer) (frames bytes : ℕ) → exchangePaper a ≡ told m bs stmin list room → a ≡ Answer.Exchanged frames bytes
@@ -49,7 +50,7 @@ module _ (m : List ℕ) (bs stmin : ℕ) (list room : List ℕ) (z : refusal m b
   unfolding told
   frames-are a frames bytes e f =
       let q : exchangedPaper frames bytes ≡ exchangedPaper (length all) (length (delivered all)) = rw (z, f) at e in
-      (cc, cc)
+      (ap (λ (p : Paper). getD (p .values) 0 0) q, ap (λ (p : Paper). getD (p .values) 1 0) q)
 
   -- the list has the rows of the exchange's frames at its front
   pub rows-are : (out : List ℕ) → out ≡ listAfter m bs stmin list room → out ≡ atFront (listed all) list
