@@ -11,8 +11,8 @@ use mir.Facts.{yes-eqb, yes-and}
 use Rattle.rules.specs.Tests.{pick, unless, each, firstUnmet}
 use Rattle.rules.proofs.Cases.{Tested, holds, fails, ltb-cases, split, is-true, yes-of, and-left, and-right, leb-is, leb-not}
 use Rattle.records.specs.Made.{frameRecord}
-use Rattle.text.specs.Building.{decimal, hexDigit, hexText}
-use Rattle.text.proofs.Decimal.{decimal-by, decimal-length, valueAfter, decimal-value, decimal-leads, decimal-zero}
+use Rattle.text.specs.Building.{decimal, hexDigit, hexText, valueAfter}
+use Rattle.text.proofs.Decimal.{decimal-by, decimal-length, decimal-value, decimal-leads, decimal-zero}
 use Rattle.text.proofs.Lengths.{hex-length}
 use Rattle.candump.specs.Digits.{between, isDigit, isHex, digitValue, numberAfter, numberOf, bytesOf}
 use Rattle.candump.specs.Lines.{mostSeconds, mostIdentifier, mostDataDigits, lineOf, isName, fits, timeOf, identifierOf, dataOf}
