@@ -82,6 +82,17 @@ cut-none zero sn r h = refl
 cut-none (suc fuel) sn [] h = refl
 cut-none (suc fuel) sn (x ∷ r) h = absurd (omega arith)
 
+-- a bound that is large enough makes no difference
+pub cut-enough : (a b : ℕ) (sn : Sn) (r : List ℕ) → length r ≤ a → length r ≤ b → cutRest consecutiveMost a sn r ≡ cutRest consecutiveMost b sn r
+unfolding cutRest
+cut-enough zero b sn r h k = sym (cut-none b sn r (omega arith))
+cut-enough (suc a) zero sn r h k = cut-none (suc a) sn r (omega arith)
+cut-enough (suc a) (suc b) sn [] h k = refl
+cut-enough (suc a) (suc b) sn (x ∷ r) h k =
+    let l = length-drop consecutiveMost (x ∷ r) in
+    ap (λ (fs : List (List ℕ)). consecutiveFrame sn (take consecutiveMost (x ∷ r)) ∷ fs)
+    (cut-enough a b (nextSn sn) (drop consecutiveMost (x ∷ r)) (omega arith) (omega arith))
+
 -- a message of n bytes that stands at the front of an area
 module _ (n : ℕ) (out : List ℕ) where
   unfoldable pub partAt : ℕ → List ℕ

@@ -14,31 +14,14 @@ use Rattle.rules.specs.declared.BerthSettings.{BerthSettings}
 use Rattle.rules.specs.declared.Sn.{Sn}
 use Rattle.rules.proofs.Cases.{Tested, holds, fails, eqb-is, eqb-not, leb-is, leb-not, leb-cases, split}
 use Rattle.laws.specs.Line.{Handed, there, back, inBlocks, exchanged}
-use Rattle.laws.proofs.Frames.{fills-no, fills-yes, counted-on, drop-take, cut-some, cut-none}
+use Rattle.laws.proofs.Frames.{fills-no, fills-yes, counted-on, drop-take, cut-some, cut-none, cut-enough}
 use Rattle.plain.specs.Engine.{snOf, cutter, blockBytes, block, permission, enough, exchange}
-use Rattle.plain.proofs.Steps.{cutter-none, cutter-more, permission-none, block-step, permission-step, one-block}
+use Rattle.plain.proofs.Steps.{sn-on, cutter-none, cutter-more, permission-none, block-step, permission-step, one-block}
 
 -- ---- the consecutive frames of what is left, without a bound
 
-cut-enough : (a b : ℕ) (sn : Sn) (left : List ℕ) → length left ≤ a → length left ≤ b → cutRest consecutiveMost a sn left ≡ cutRest consecutiveMost b sn left
-unfolding cutRest
-cut-enough zero zero sn left h k = refl
-cut-enough zero (suc b) sn [] h k = refl
-cut-enough zero (suc b) sn (x ∷ left) h k = absurd (omega arith)
-cut-enough (suc a) zero sn [] h k = refl
-cut-enough (suc a) zero sn (x ∷ left) h k = absurd (omega arith)
-cut-enough (suc a) (suc b) sn [] h k = refl
-cut-enough (suc a) (suc b) sn (x ∷ left) h k =
-    let l = length-drop consecutiveMost (x ∷ left) in
-    ap (λ (r : List (List ℕ)). consecutiveFrame sn (take consecutiveMost (x ∷ left)) ∷ r)
-    (cut-enough a b (nextSn sn) (drop consecutiveMost (x ∷ left)) (omega arith) (omega arith))
-
 abbrev pub rest : (number : ℕ) → List ℕ → List (List ℕ)
 rest number left = cutRest consecutiveMost (length left) (snOf number) left
-
-sn-on : (number : ℕ) → nextSn (snOf number) ≡ snOf (number + 1)
-unfolding nextSn snOf
-sn-on number = ap (λ (x : ℕ). record { 0 = x }) (omega arith)
 
 pub rest-none : (number : ℕ) (left : List ℕ) → length left ≡ 0 → rest number left ≡ []
 rest-none number left e = cut-none (length left) (snOf number) left e

@@ -3,15 +3,16 @@
 use mathlib.Core.Path.{_≡_, refl, sym, ap, _∙_}
 use Prim.Native.Nat.{ℕ, zero, suc, _+_, _*_, _≤_, _<_}
 use native.Mathlib.Omega.{arith}
-use mathlib.Core.List.{List, [], _∷_, _++_, append-nil}
+use mathlib.Core.List.{List, [], _∷_, _++_, map, append-nil}
 use lib.ListN.{length, take, drop, length-take, length-drop}
 use lib.Seq.{take-length, drop-length}
 use lib.Dec.{eqb}
 use Rattle.rules.specs.Numbers.{consecutiveMost}
-use Rattle.rules.specs.Frames.{consecutiveFrame, goFrame}
+use Rattle.rules.specs.Frames.{consecutiveFrame, goFrame, nextSn, cutRest}
 use Rattle.rules.specs.declared.BerthSettings.{BerthSettings}
 use Rattle.rules.proofs.Cases.{Tested, holds, fails, eqb-cases, eqb-is, split}
 use Rattle.laws.specs.Line.{Handed, there, back}
+use Rattle.laws.proofs.Frames.{cut-enough}
 use Rattle.plain.specs.Engine.{snOf, cutWithin, cutter, blockBytes, nextBlock, behindBlock, blockWithin, block, permissionWithin, permission, enough}
 
 pub some-left : (left : List ℕ) → (length left ≡ 0 → ⊥) → 0 < length left
@@ -19,18 +20,22 @@ some-left left here = split (length left) 0 (λ h. absurd (here (omega arith))) 
 
 -- ---- the cutter
 
-cut-enough : (a b number : ℕ) (left : List ℕ) → length left ≤ a → length left ≤ b → cutWithin a number left ≡ cutWithin b number left
-unfolding cutWithin
-cut-enough zero zero number left h k = refl
-cut-enough zero (suc b) number [] h k = refl
-cut-enough zero (suc b) number (x ∷ left) h k = absurd (omega arith)
-cut-enough (suc a) zero number [] h k = refl
-cut-enough (suc a) zero number (x ∷ left) h k = absurd (omega arith)
-cut-enough (suc a) (suc b) number [] h k = refl
-cut-enough (suc a) (suc b) number (x ∷ left) h k =
-    let l = length-drop consecutiveMost (x ∷ left) in
-    ap (λ (r : List Handed). there (consecutiveFrame (snOf number) (take consecutiveMost (x ∷ left))) ∷ r)
-    (cut-enough a b (number + 1) (drop consecutiveMost (x ∷ left)) (omega arith) (omega arith))
+pub sn-on : (number : ℕ) → nextSn (snOf number) ≡ snOf (number + 1)
+unfolding nextSn snOf
+sn-on number = ap (λ (x : ℕ). record { 0 = x }) (omega arith)
+
+-- the engine's frames are the paper's, within any bound
+cut-there : (most number : ℕ) (left : List ℕ) → cutWithin most number left ≡ map there (cutRest consecutiveMost most (snOf number) left)
+unfolding cutWithin cutRest
+cut-there zero number left = refl
+cut-there (suc most) number [] = refl
+cut-there (suc most) number (x ∷ left) =
+    rw (sn-on number)
+    (ap (λ (r : List Handed). there (consecutiveFrame (snOf number) (take consecutiveMost (x ∷ left))) ∷ r) (cut-there most (number + 1) (drop consecutiveMost (x ∷ left))))
+
+within-enough : (a b number : ℕ) (left : List ℕ) → length left ≤ a → length left ≤ b → cutWithin a number left ≡ cutWithin b number left
+within-enough a b number left h k =
+    cut-there a number left ∙ ap (map there) (cut-enough a b (snOf number) left h k) ∙ sym (cut-there b number left)
 
 pub cutter-none : (number : ℕ) (left : List ℕ) → length left ≡ 0 → cutter number left ≡ []
 unfolding cutWithin
@@ -44,7 +49,7 @@ cutter-more number [] h = absurd (omega arith)
 cutter-more number (x ∷ left) h =
     let l = length-drop consecutiveMost (x ∷ left) in
     ap (λ (r : List Handed). there (consecutiveFrame (snOf number) (take consecutiveMost (x ∷ left))) ∷ r)
-    (cut-enough (length left) (length (drop consecutiveMost (x ∷ left))) (number + 1) (drop consecutiveMost (x ∷ left)) (omega arith) (omega arith))
+    (within-enough (length left) (length (drop consecutiveMost (x ∷ left))) (number + 1) (drop consecutiveMost (x ∷ left)) (omega arith) (omega arith))
 
 -- a frame takes a byte or more
 cut-fewer : (most number : ℕ) (left : List ℕ) → length (cutWithin most number left) ≤ length left
