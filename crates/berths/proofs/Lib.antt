@@ -1,4 +1,4 @@
--- Facts that the walks of this crate cite.
+-- Facts that the proofs of this crate's functions cite.
 pub mod Stored
 pub mod OneTick
 pub mod CardTick

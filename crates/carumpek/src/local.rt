@@ -1,6 +1,5 @@
-// The same calls for a program whose node is a local: each lends it to the entry and gives it back beside the answer, so that
-// the program's own proof needs no walk. The calls that count on cards take twelve of them and how many to lend: the first so many, or all
-// where that is above twelve. The others stay as they are.
+// The same calls for a program that keeps its node by value: each lends it to the entry and gives it back beside the answer. The calls that
+// count on cards take twelve of them and how many to lend: the first so many, or all where that is above twelve. The others stay as they are.
 ghost use Rattle.std.specs.Prelude.{◌≡◌, ltb};
 ghost use Rattle.rules.specs.Tests.{pick};
 ghost use Rattle.node.specs.Promises.{SetUpPromise, FramePromise, TickPromise, SendPromise, TurnPromise, ShowPromise, ChangePromise, OfFirst};

@@ -1,2 +1,2 @@
--- Facts that the walks of this crate cite.
+-- Facts that the proofs of this crate's functions cite.
 pub mod Arms

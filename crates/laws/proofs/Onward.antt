@@ -76,7 +76,7 @@ module _ (i j : ℕ) (set : Settings) (party : Party) (n : ℕ) (out : List ℕ)
   pub young-flow : (l : Line) (m : ℕ) → Phase i j set party n out E l m → T (flow_due l.rx) → Young (hand_r i j set party n out E l)
   young-flow l m ph t z = whole-lasts (gap_left (tx_clock l.tx)) (after_flow l.rx) (gap-most l m ph) (flow-whole l.rx t)
 
-  module _ (fit : n ≤ length out) (some : 1 ≤ n) (in_area_lem : n ≤ set.area) (small : set.area ≤ short_most) where
+  module _ (fit : n ≤ length out) (some : 1 ≤ n) (in_area : n ≤ set.area) (small : set.area ≤ short_most) where
     -- a frame of the message that comes in gives the taker all its time
     whole-more : (l : Line) (q : List (List ℕ)) (p : Taking) (u k : ℕ) → l.rx ≡ Rx.Awaits p u → TakeAt n out p k l.ina → pos_at (suc k) < n
         → Whole (took_r i j set party n out E l q (frame_came set (taker_berth i j set party n out E l) (frame_at n out k))).rx
@@ -89,10 +89,10 @@ module _ (i j : ℕ) (set : Settings) (party : Party) (n : ℕ) (out : List ℕ)
     unfolding span
     whole-there l m d q z (single-ready t last ina a b e) = absurd (nil≢cons z)
     whole-there l m d q z (single-sent {own = own} last ina g a b e) =
-        rw (← (head-eq_of_cons-eq z), heard-single i j set party n out E fit some in_area_lem small a own last) (unfold took_r in (inl refl))
+        rw (← (head-eq_of_cons-eq z), heard-single i j set party n out E fit some in_area small a own last) (unfold took_r in (inl refl))
     whole-there l m d q z (first-ready t last ina h a b c e) = absurd (nil≢cons z)
     whole-there l m d q z (first-sent {own = own} o t last ina h g a b c x e) =
-        rw (← (head-eq_of_cons-eq z), heard-first i j set party n out E fit some in_area_lem small a own last) (unfold took_r in (inr refl))
+        rw (← (head-eq_of_cons-eq z), heard-first i j set party n out E fit some in_area small a own last) (unfold took_r in (inr refl))
     whole-there l m d q z (go-owed o t p u last ina f h g a b c e) = absurd (nil≢cons z)
     whole-there l m d q z (go-sent o t p u last ina f h g a b c x e) = absurd (nil≢cons z)
     whole-there l m d q z (in-block o t r p u last ina f zero h g s) = absurd (nil≢cons (sym s.queued ∙ z))

@@ -137,7 +137,7 @@ module _ (s : Side) (k : ℕ) (h : Held) (sound : Sound h) (small : k < berth_co
           inr (other-berth k h sound small s blank met some ne, omega arith)
 
 module _ (i j : ℕ) (small-i : i < berth_count) (small-j : j < berth_count) (set : Settings) (party : Party) (n : ℕ) (out : List ℕ) (E : BerthSettings → List Handed)
-    (fit : n ≤ length out) (some_bytes : 1 ≤ n) (in_area_lem : n ≤ set.area) (small : set.area ≤ short_most) where
+    (fit : n ≤ length out) (some_bytes : 1 ≤ n) (in_area : n ≤ set.area) (small : set.area ≤ short_most) where
   abbrev Lives : World → Type 0
   Lives w = Alive i j small-i small-j set party n out E w
 
@@ -161,11 +161,11 @@ module _ (i j : ℕ) (small-i : i < berth_count) (small-j : j < berth_count) (se
   unfolding acts
   onto-there w s d q e =
       let z : w.to_b ≡ d ∷ q = unfold line_in in e in
-      let g = alive-carried_b i j small-i small-j set party n out E fit some_bytes in_area_lem small w d q z s in
-      let (l, k) = there-whole i j set party n out E fit some_bytes in_area_lem small (line_in i j w) s.steps d q e s.phase in
+      let g = alive-carried_b i j small-i small-j set party n out E fit some_bytes in_area small w d q z s in
+      let (l, k) = there-whole i j set party n out E fit some_bytes in_area small (line_in i j w) s.steps d q e s.phase in
       let line = took-B i j small-i small-j set party n out E w d q s.sound-b s.settings-b (omega (arith, whole-heard)) k in
       let y : Young (line_in i j (carried_b j w (d ∷ q))) =
-      subst (λ (x : Line). Young x) (sym line) (young-there i j set party n out E fit some_bytes in_area_lem small (line_in i j w) s.steps d q e s.phase) in
+      subst (λ (x : Line). Young x) (sym line) (young-there i j set party n out E fit some_bytes in_area small (line_in i j w) s.steps d q e s.phase) in
       subst (λ (x : List (List ℕ)). Onto w s.steps (carried_b j w x)) (sym z)
       (record { alive = g.alive; young = y; less = fewer-steps w (carried_b j w (d ∷ q)) s.steps g.alive.steps g.fewer })
 
@@ -173,11 +173,11 @@ module _ (i j : ℕ) (small-i : i < berth_count) (small-j : j < berth_count) (se
   unfolding acts
   onto-back w s young d q e =
       let z : w.to_a ≡ d ∷ q = unfold line_in in e in
-      let g = alive-carried_a i j small-i small-j set party n out E fit some_bytes in_area_lem small w d q z s in
-      let (l, k) = back_whole i j set party n out E fit some_bytes in_area_lem small (line_in i j w) s.steps d q e s.phase in
+      let g = alive-carried_a i j small-i small-j set party n out E fit some_bytes in_area small w d q z s in
+      let (l, k) = back_whole i j set party n out E fit some_bytes in_area small (line_in i j w) s.steps d q e s.phase in
       let (line, o) = took-A i j small-i small-j set party n out E w d q s.sound-a (omega (arith, whole-heard)) k in
       let y : Young (line_in i j (carried_a i w (d ∷ q))) =
-      subst (λ (x : Line). Young x) (sym line) (young-back i j set party n out E fit some_bytes in_area_lem small w.a.node.settings (line_in i j w) s.steps d q e s.phase young) in
+      subst (λ (x : Line). Young x) (sym line) (young-back i j set party n out E fit some_bytes in_area small w.a.node.settings (line_in i j w) s.steps d q e s.phase young) in
       subst (λ (x : List (List ℕ)). Onto w s.steps (carried_a i w x)) (sym z)
       (record { alive = g.alive; young = y; less = fewer-steps w (carried_a i w (d ∷ q)) s.steps g.alive.steps g.fewer })
 
@@ -301,10 +301,10 @@ module _ (i j : ℕ) (small-i : i < berth_count) (small-j : j < berth_count) (se
 
   finish : (fuel : ℕ) (w : World) (s : Lives w) → Young (line_in i j w) → far w s.steps < fuel → Ends w
   finish zero w s young h = absurd (omega arith)
-  finish (suc fuel) w s young h = go (next i j set party n out E fit some_bytes in_area_lem small (line_in i j w) s.steps s.phase young)
+  finish (suc fuel) w s young h = go (next i j set party n out E fit some_bytes in_area small (line_in i j w) s.steps s.phase young)
       (λ w' o. finish fuel w' o.alive o.young (omega (arith, o.less)))
     where
-      go : Next i j set party n out E fit some_bytes in_area_lem small (line_in i j w) s.steps → ((w' : World) → Onto w s.steps w' → Ends w') → Ends w
+      go : Next i j set party n out E fit some_bytes in_area small (line_in i j w) s.steps → ((w' : World) → Onto w s.steps w' → Ends w') → Ends w
       go (bring-there d q e) on = let (r, f) = on (acts i j w carry_b) (onto-there w s d q e) in (bring_b ∷ r, before w bring_b carry_b r (unfold deeds_of in refl) tt f)
       go (bring-back d q e) on = let (r, f) = on (acts i j w carry_a) (onto-back w s young d q e) in (bring_a ∷ r, before w bring_a carry_a r (unfold deeds_of in refl) tt f)
       go (hand-message t) on =

@@ -380,7 +380,7 @@ module _ (i j : ℕ) (small-i : i < berth_count) (small-j : j < berth_count) (se
         phase = ph;
       }
 
-  module _ (fit : n ≤ length out) (some : 1 ≤ n) (in_area_lem : n ≤ set.area) (small : set.area ≤ short_most) where
+  module _ (fit : n ≤ length out) (some : 1 ≤ n) (in_area : n ≤ set.area) (small : set.area ≤ short_most) where
     -- a phase, however many steps are to come
     abbrev Phased : Line → Type 0
     Phased l = (m : ℕ) × Phase i j set party n out E l m
@@ -417,7 +417,7 @@ module _ (i j : ℕ) (small-i : i < berth_count) (small-j : j < berth_count) (se
     unfolding carried_a left_a
     alive-carried_a w d q z s =
         let e : (line_in i j w).to_s ≡ d ∷ q = unfold line_in in z in
-        let (l, k) = back_whole i j set party n out E fit some in_area_lem small (line_in i j w) s.steps d q e s.phase in
+        let (l, k) = back_whole i j set party n out E fit some in_area small (line_in i j w) s.steps d q e s.phase in
         let (line, o) = took-A w d q s.sound-a (omega (arith, whole-heard)) k in
         let (m, h, ph) = carries-S i j set party n out E w.a.node.settings (line_in i j w) s.steps d q e s.phase in
         record {
@@ -436,9 +436,9 @@ module _ (i j : ℕ) (small-i : i < berth_count) (small-j : j < berth_count) (se
     unfolding carried_b left_b
     alive-carried_b w d q z s =
         let e : (line_in i j w).to_r ≡ d ∷ q = unfold line_in in z in
-        let (l, k) = there-whole i j set party n out E fit some in_area_lem small (line_in i j w) s.steps d q e s.phase in
+        let (l, k) = there-whole i j set party n out E fit some in_area small (line_in i j w) s.steps d q e s.phase in
         let line = took-B w d q s.sound-b s.settings-b (omega (arith, whole-heard)) k in
-        let (m, h, ph) = carries-R i j set party n out E fit some in_area_lem small (line_in i j w) s.steps d q e s.phase in
+        let (m, h, ph) = carries-R i j set party n out E fit some in_area small (line_in i j w) s.steps d q e s.phase in
         record {
           alive = record {
             sound-a = s.sound-a;

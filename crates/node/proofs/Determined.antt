@@ -62,11 +62,11 @@ module _ (n : Node) (cards : List Card) (n' : Node) (cards' : List Card) where
       → left (turn_says a buffer') (lent n' cards' incoming outgoing) buffer' ≡ outcome (lent n cards incoming outgoing) (turn buffer)
   turn_is outgoing buffer buffer' a p incoming = same (p incoming)
 
-pub show-is : (n : Node) (incoming outgoing : List ℕ) (k : ℕ) (choice : Choice) (part : List ℕ) (in-at out_at part_at : ℕ × ℕ)
-    → ShowPromise n incoming outgoing k choice part in-at out_at part_at
+pub show-is : (n : Node) (incoming outgoing : List ℕ) (k : ℕ) (choice : Choice) (part : List ℕ) (in_at out_at part_at : ℕ × ℕ)
+    → ShowPromise n incoming outgoing k choice part in_at out_at part_at
     → (cards : List Card)
     → left (shown part) (lent n cards incoming outgoing) [] ≡ outcome (lent n cards incoming outgoing) (show k choice)
-show-is n incoming outgoing k choice part in-at out_at part_at p cards = same (p.agrees cards)
+show-is n incoming outgoing k choice part in_at out_at part_at p cards = same (p.agrees cards)
 
 -- ---- what holds of a frame's outcome holds of the code (paper 02, W11)
 
@@ -184,10 +184,10 @@ module _ (n : Node) (cards : List Card) (n₁ n₂ : Node) (c₁ c₂ : List Car
 shown-tells : (p q : List ℕ) → shown p ≡ shown q → p ≡ q
 shown-tells p q e = cc
 
-pub show-determined : (n : Node) (incoming outgoing : List ℕ) (k : ℕ) (choice : Choice) (p₁ p₂ : List ℕ) (in-at out_at at₁ at₂ : ℕ × ℕ)
-    → ShowPromise n incoming outgoing k choice p₁ in-at out_at at₁ → ShowPromise n incoming outgoing k choice p₂ in-at out_at at₂
+pub show-determined : (n : Node) (incoming outgoing : List ℕ) (k : ℕ) (choice : Choice) (p₁ p₂ : List ℕ) (in_at out_at at₁ at₂ : ℕ × ℕ)
+    → ShowPromise n incoming outgoing k choice p₁ in_at out_at at₁ → ShowPromise n incoming outgoing k choice p₂ in_at out_at at₂
     → (p₁ ≡ p₂) × (at₁ ≡ at₂)
-show-determined n incoming outgoing k choice p₁ p₂ in-at out_at at₁ at₂ p q =
+show-determined n incoming outgoing k choice p₁ p₂ in_at out_at at₁ at₂ p q =
     let e = same (p.agrees []) ∙ sym (same (q.agrees [])) in
     (shown-tells p₁ p₂ (ap (λ o. o.answer) e), p.starts [] ∙ sym (q.starts []))
 

@@ -228,10 +228,10 @@ not-fixed-set-up n s t e f a =
     (λ p. ap (λ (o : Outcome). named o.answer) (same (p.1 [] [] [])) ∙ rw f)
 
 pub not-fixed-part : (h : Held) (choice : Choice) (j k : ℕ) → (length (showing h j choice) ≡ length (showing h k choice) → ⊥) → (part : List ℕ)
-    → (i : ℕ) × ((at in-at out_at : ℕ × ℕ) × ShowPromise h.node h.incoming h.outgoing i choice part in-at out_at at → ⊥)
+    → (i : ℕ) × ((at in_at out_at : ℕ × ℕ) × ShowPromise h.node h.incoming h.outgoing i choice part in_at out_at at → ⊥)
 unfolding reply refusal needs first_unmet
 not-fixed-part h choice j k ne part =
-    not-both (λ i. (at in-at out_at : ℕ × ℕ) × ShowPromise h.node h.incoming h.outgoing i choice part in-at out_at at) j k
+    not-both (λ i. (at in_at out_at : ℕ × ℕ) × ShowPromise h.node h.incoming h.outgoing i choice part in_at out_at at) j k
     (length part) (length (showing h j choice)) (length (showing h k choice)) ne
     (λ p. names h (show j choice) refl (p.3.agrees h.cards)) (λ p. names h (show k choice) refl (p.3.agrees h.cards))
 
@@ -438,7 +438,7 @@ pub not-fixed-here :
     × ((a : TurnAnswer) → (h : Held) × ((n : Node) × (cards : List Card) × (buffer : List ℕ) × TurnPromise h.node h.cards h.outgoing (replicate 8 0) a n cards buffer → ⊥))
     × ((a : TickAnswer) → (h : Held) × ((n : Node) × (cards : List Card) × TickPromise h.node h.cards a n cards → ⊥))
     × ((a : SetUpAnswer) → (s : ℕ × ℕ × ℕ) × ((n : Node) × SetUpPromise blank_node s.0 s.1 s.2 a n → ⊥))
-    × ((part : List ℕ) → (k : ℕ) × ((at in-at out_at : ℕ × ℕ) × ShowPromise (hearing Rx.Idle 1).node (replicate 80 0) (replicate 80 0) k Choice.Arrived part in-at out_at at → ⊥))
+    × ((part : List ℕ) → (k : ℕ) × ((at in_at out_at : ℕ × ℕ) × ShowPromise (hearing Rx.Idle 1).node (replicate 80 0) (replicate 80 0) k Choice.Arrived part in_at out_at at → ⊥))
     × ((a : ChangeAnswer) → (k : ℕ) × ((n : Node) × ChangePromise (hearing Rx.Idle 0).node k 1 5 a n → ⊥))
 unfolding
     passed_over least_distance due distance showing shown_length showable in_order all each berth_in_order right_store berth_at area_of

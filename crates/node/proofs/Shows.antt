@@ -68,9 +68,9 @@ module _ (n : Node) (incoming outgoing : List ℕ) (k : ℕ) where
         mine = ltb_yes (and_right (right_store n outgoing) _ u);
       }
 
-module _ (n : Node) (incoming outgoing : List ℕ) (k : ℕ) (in-at out_at : ℕ × ℕ) where
+module _ (n : Node) (incoming outgoing : List ℕ) (k : ℕ) (in_at out_at : ℕ × ℕ) where
   pub shows-none : (choice : Choice) → ((cards : List Card) → showable (lent n cards incoming outgoing) k ≡ false)
-      → ShowPromise n incoming outgoing k choice [] in-at out_at in-at
+      → ShowPromise n incoming outgoing k choice [] in_at out_at in_at
   unfolding refusal needs reply done written showing shown_length
   shows-none choice e =
       record {
@@ -83,7 +83,7 @@ module _ (n : Node) (incoming outgoing : List ℕ) (k : ℕ) (in-at out_at : ℕ
       → ((cards : List Card) → showable (lent n cards incoming outgoing) k ≡ true)
       → shown ≡ chosen choice (berth_at n k).last (length_sending (berth_at n k).tx) → shown ≤ n.settings.area
       → ShowPromise n incoming outgoing k choice (take (lo + shown - lo) (drop lo (chosen one incoming outgoing)))
-      in-at out_at ((chosen one in-at out_at).0, lo + (chosen one in-at out_at).1)
+      in_at out_at ((chosen one in_at out_at).0, lo + (chosen one in_at out_at).1)
   unfolding refusal needs reply done written showing shown_length area_of
   shows choice one lo shown same-choice starts e is fits =
       let length-is = rw same-choice at is in

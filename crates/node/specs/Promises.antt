@@ -79,11 +79,11 @@ starts_at h k choice incoming outgoing =
     incoming
 
 -- show is lent everything to look at only, so nothing else changes
-pub record ShowPromise (n : Node) (incoming outgoing : List ℕ) (k : ℕ) (choice : Choice) (part : List ℕ) (in-at out_at part_at : ℕ × ℕ) : Type 0 where
+pub record ShowPromise (n : Node) (incoming outgoing : List ℕ) (k : ℕ) (choice : Choice) (part : List ℕ) (in_at out_at part_at : ℕ × ℕ) : Type 0 where
   pub agrees :
       (cards : List Card) →
       Agrees (left (shown part) (lent n cards incoming outgoing) []) (outcome (lent n cards incoming outgoing) (show k choice))
-  pub starts : (cards : List Card) → part_at ≡ starts_at (lent n cards incoming outgoing) k choice in-at out_at
+  pub starts : (cards : List Card) → part_at ≡ starts_at (lent n cards incoming outgoing) k choice in_at out_at
 
 -- a change takes no store and no card (paper 02, W3)
 abbrev pub ChangePromise : Node → (k parameter value : ℕ) → ChangeAnswer → Node → Type 0

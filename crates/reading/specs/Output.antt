@@ -25,7 +25,7 @@ buffer_after s buffer some =
     pick (leb (length some) (length buffer - waiting_in s buffer)) (paste buffer (waiting_in s buffer) some (length some))
     (pick (leb (length some) (length buffer)) (paste buffer 0 some (length some)) buffer)
 
--- ---- what goes to the file meanwhile. No contract can say what is written; by this definition no byte is lost (`put_Keeps`)
+-- ---- what goes to the file meanwhile. No contract can say what is written; by this definition no byte is lost (`put_keeps`)
 
 unfoldable pub waiting_bytes : Sink → List ℕ → List ℕ
 waiting_bytes s buffer = take (waiting_in s buffer) buffer

@@ -86,7 +86,7 @@ least-ten served k (b ∷ bs) = let l = least-ten served (suc k) bs in omega ari
 -- at most ten are passed over, so None passes over ten
 pub passed-ten : (n : Node) → passed_over n ≤ berth_count
 unfolding passed_over
-passed-ten n = least-ten n.served 0 n.berths
+passed-ten n = least-ten _ 0 n.berths
 
 module _ (n : Node) (o : InOrder n) where
   -- PASSED OVER is at most the distance of any due berth

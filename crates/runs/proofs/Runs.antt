@@ -55,7 +55,7 @@ step_is {h} (frame_step id d a n cards incoming p) = same (p h.outgoing)
 step_is {h} (tick_step a n cards p) = same (p.agrees h.incoming h.outgoing)
 step_is {h} (send_step k party m a n outgoing p) = same (p h.cards h.incoming)
 step_is {h} (turn_step buffer a n cards buffer' p) = same (p h.incoming)
-step_is {h} (show_step k choice part in-at out_at part_at p) = same (p.agrees h.cards)
+step_is {h} (show_step k choice part in_at out_at part_at p) = same (p.agrees h.cards)
 step_is {h} (change_step k parameter value a n p) = same (p h.cards h.incoming h.outgoing)
 
 -- ---- a chain is a run of the rules, from any start

@@ -39,8 +39,8 @@ pub data Step (h : Held) : Call → Outcome → Type 0 where
   turn_step : (buffer : List ℕ) (a : TurnAnswer) (n : Node) (cards : List Card) (buffer' : List ℕ)
       → TurnPromise h.node h.cards h.outgoing buffer a n cards buffer'
       → Step h (turn buffer) (left (turn_says a buffer') (with_cards (with_node h n) cards) buffer')
-  show_step : (k : ℕ) (choice : Choice) (part : List ℕ) (in-at out_at part_at : ℕ × ℕ)
-      → ShowPromise h.node h.incoming h.outgoing k choice part in-at out_at part_at
+  show_step : (k : ℕ) (choice : Choice) (part : List ℕ) (in_at out_at part_at : ℕ × ℕ)
+      → ShowPromise h.node h.incoming h.outgoing k choice part in_at out_at part_at
       → Step h (show k choice) (left (shown part) h [])
   change_step : (k parameter value : ℕ) (a : ChangeAnswer) (n : Node) → ChangePromise h.node k parameter value a n
       → Step h (change k parameter value) (left (change_says a) (with_node h n) [])

@@ -38,9 +38,9 @@ module _ {n : Node} {ordered : Bool} {area at last : ℕ} {tx : Tx} {k : ℕ} (o
     fits = rw o.size (own-fits, can.incoming-right, can.outgoing-right)
 
     -- the part of the chosen store, from where the area starts
-    pub part : (in-at out_at : ℕ × ℕ) (one : Choice) → choice ≡ one → (lo : ℕ) → lo ≡ at * area
+    pub part : (in_at out_at : ℕ × ℕ) (one : Choice) → choice ≡ one → (lo : ℕ) → lo ≡ at * area
         → ShowPromise n incoming outgoing k choice (take (lo + len - lo) (drop lo (chosen one incoming outgoing)))
-        in-at out_at ((chosen one in-at out_at).0, lo + (chosen one in-at out_at).1)
-    part in-at out_at one same-choice lo e =
+        in_at out_at ((chosen one in_at out_at).0, lo + (chosen one in_at out_at).1)
+    part in_at out_at one same-choice lo e =
         let starts : lo ≡ k * n.settings.area = e ∙ rw (o.place can.mine, o.size) in
-        shows n incoming outgoing k in-at out_at choice one lo len same-choice starts yes own own-fits
+        shows n incoming outgoing k in_at out_at choice one lo len same-choice starts yes own own-fits
