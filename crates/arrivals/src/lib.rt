@@ -34,6 +34,7 @@ pub struct Told {
 }
 
 // An answer that stores nothing.
+#[tactic(auto, unfolding(crate::specs::Reading::as_heard))]
 fn unstored(rx: Rx, last: u32, old: u8, word: Word) -> Heard
     ensures { (d : List ℕ) → Hears result d (record { rx = rx; last = last; old = old; word = word; place = 0; bytes = [] }) }
 {
@@ -48,6 +49,7 @@ fn unstored(rx: Rx, last: u32, old: u8, word: Word) -> Heard
     }
 }
 
+#[tactic(auto, unfolding(rules::specs::Arrivals::ignored))]
 fn ignored(why: u8, rx: Rx, last: u32) -> Heard
     ensures { (d : List ℕ) → Hears result d (ignored why rx last) }
 {
@@ -65,6 +67,7 @@ fn old_code(rx: Rx) -> u8
     }
 }
 
+#[tactic(auto, using(crate::proofs::RuleSets::single_came_steps), unfolding(rules::specs::Arrivals::single_came, crate::specs::Reading::as_heard))]
 fn single_came(rx: Rx, last: u32, frame: &[u8]) -> Heard
     requires { 0 < length frame.now }
     ensures { Hears result frame.now (single_came rx last frame.now) }
@@ -95,6 +98,7 @@ fn taking(n: u32) -> Taking
     }
 }
 
+#[tactic(auto, unfolding(rules::specs::Arrivals::begun, crate::specs::Reading::as_heard))]
 fn begun(n: u32, rx: Rx) -> Heard
     ensures { (d : List ℕ) → length d ≡ frame_size → Hears result d (begun n rx d) }
 {
@@ -110,6 +114,7 @@ fn begun(n: u32, rx: Rx) -> Heard
     }
 }
 
+#[tactic(auto, using(crate::proofs::RuleSets::first_came_steps), unfolding(rules::specs::Arrivals::first_came, rules::specs::Arrivals::turned_away))]
 fn first_came(settings: Settings, rx: Rx, last: u32, frame: &[u8]) -> Heard
     ensures { Hears result frame.now (first_came settings rx last frame.now) }
 {
@@ -130,6 +135,7 @@ fn missing(p: Taking) -> u32
     p.total - p.got
 }
 
+#[tactic(auto, unfolding(rules::specs::Arrivals::grown))]
 fn grown(p: Taking, count: u8) -> Taking
     requires { p.got < p.total }
     ensures { result ≡ grown p count }
@@ -143,6 +149,7 @@ fn grown(p: Taking, count: u8) -> Taking
 }
 
 // The bytes of the next frame, where an answer stores them: this side, last length and word with the piece at got.
+#[tactic(auto, unfolding(rules::specs::Arrivals::piece, crate::specs::Reading::as_heard))]
 fn pieced(p: Taking, rx: Rx, last: u32, word: Word) -> Heard
     requires { p.got < p.total }
     ensures { (d : List ℕ) → share consecutive_most (missing p) + 1 ≤ length d → Hears result d (record { rx = rx; last = last; old = 0; word = word; place = p.got; bytes = piece p d }) }
@@ -159,6 +166,7 @@ fn pieced(p: Taking, rx: Rx, last: u32, word: Word) -> Heard
     }
 }
 
+#[tactic(auto, unfolding(rules::specs::Arrivals::after_took))]
 fn after_took(block: u8, p: Taking) -> Rx
     requires { (s : Settings) × TakingRange s block p }
     ensures { result ≡ after_took block p }
@@ -171,6 +179,7 @@ fn after_took(block: u8, p: Taking) -> Rx
     Rx::Awaits(q, 0)
 }
 
+#[tactic(auto, using(crate::proofs::RuleSets::awaited_came_steps), unfolding(rules::specs::Arrivals::awaited_came, rules::specs::Arrivals::completed, rules::specs::Arrivals::took, rules::specs::Arrivals::wrong_sn))]
 fn awaited_came(block: u8, p: Taking, t: u16, last: u32, frame: &[u8]) -> Heard
     requires { (0 < length frame.now) × ((s : Settings) × TakingRange s block p) }
     ensures { Hears result frame.now (awaited_came block p t last frame.now) }
@@ -205,6 +214,7 @@ fn consecutive_came(block: u8, rx: Rx, last: u32, frame: &[u8]) -> Heard
 }
 
 // The peer's block size and gap are taken; nothing else of the sending moves.
+#[tactic(auto, unfolding(rules::specs::Arrivals::granted))]
 fn granted(o: Sending, frame: &[u8]) -> Sending
     requires { least_flow ≤ length frame.now }
     ensures { result ≡ granted o frame.now }
@@ -223,6 +233,7 @@ fn granted(o: Sending, frame: &[u8]) -> Sending
     }
 }
 
+#[tactic(auto, unfolding(rules::specs::Arrivals::by_status, crate::specs::Reading::told_of))]
 fn by_status(o: Sending, party: Party, frame: &[u8]) -> Told
     requires { least_flow ≤ length frame.now }
     ensures { told_of result ≡ by_status o party frame.now }
@@ -253,6 +264,7 @@ fn by_status(o: Sending, party: Party, frame: &[u8]) -> Told
     }
 }
 
+#[tactic(auto, unfolding(crate::specs::Reading::told_of, rules::specs::Arrivals::flow_ignored))]
 fn flow_ignored(why: u8, tx: Tx) -> Told
     ensures { told_of result ≡ flow_ignored why tx }
 {
@@ -263,6 +275,7 @@ fn flow_ignored(why: u8, tx: Tx) -> Told
 }
 
 // Flow control, at a send side.
+#[tactic(auto, using(crate::proofs::RuleSets::flow_came_steps))]
 pub fn flow_came(tx: Tx, frame: &[u8]) -> Told
     requires { 0 < length frame.now }
     ensures { told_of result ≡ flow_came tx frame.now }
@@ -279,6 +292,7 @@ pub fn flow_came(tx: Tx, frame: &[u8]) -> Told
 }
 
 // Whether a frame is flow control, which touches only the send side; the other kinds touch only the receive side.
+#[tactic(auto, unfolding(crate::specs::Reading::is_flow))]
 pub fn is_flow(frame: &[u8]) -> bool
     ensures { result ≡ is_flow frame.now }
 {
@@ -308,6 +322,7 @@ fn why_consecutive(rx: Rx, frame: &[u8]) -> u8
 }
 
 // Why a frame with data that is no flow control is ignored, 0 where it is not: a frame that changes nothing need not be taken to the side.
+#[tactic(auto, unfolding(crate::specs::Reading::why_ignored))]
 pub fn why_ignored(rx: Rx, frame: &[u8]) -> u8
     requires { (0 < length frame.now) × ((s : Settings) × ((block : ℕ) × ((last : ℕ) × RxRange s block last rx))) }
     ensures { result ≡ why_ignored rx frame.now }
@@ -326,6 +341,7 @@ pub fn why_ignored(rx: Rx, frame: &[u8]) -> u8
 }
 
 // A frame with data that is no flow control, at a receive side with this block size.
+#[tactic(auto, unfolding(crate::specs::Reading::rx_came))]
 pub fn rx_came(settings: Settings, block: u8, rx: Rx, last: u32, frame: &[u8]) -> Heard
     requires { (0 < length frame.now) × RxRange settings block last rx }
     ensures { Hears result frame.now (rx_came settings block rx last frame.now) }

@@ -1,2 +1,3 @@
 -- The law of the lines that are printed.
 pub mod Lines
+pub mod RuleSets

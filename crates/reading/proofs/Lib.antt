@@ -5,3 +5,4 @@ pub mod Ends
 pub mod Examples
 pub mod Places
 pub mod Refill
+pub mod RuleSets
