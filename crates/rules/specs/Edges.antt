@@ -1,6 +1,6 @@
 -- The edges of the refusals as rows: one on either side of each, each range of a node in order on either side, and one for each pair of
 -- neighbouring refusals that both hold.
-use Rattle.std.specs.Prelude.{ℕ, ◌+◌, List, [], ◌∷◌, ◌++◌, length, replicate}
+use Rattle.std.specs.Prelude.{ℕ, List, [], ◌∷◌, ◌++◌, replicate}
 use Rattle.rules.specs.Parties.{scheduler}
 use Rattle.rules.specs.Nodes.{fresh_with, fresh, with_rx, with_tx, Held, with_cards}
 use Rattle.rules.specs.Events.{Call, frame, tick, send, turn, change}

@@ -1,5 +1,5 @@
 -- The starred cases of paper 01 (A 40, BS 2, STmin 05) as one table, and the claim that a row makes.
-use Rattle.std.specs.Prelude.{◌≡◌, ℕ, zero, suc, ◌+◌, ◌%◌, List, [], ◌∷◌, length, replicate}
+use Rattle.std.specs.Prelude.{◌≡◌, ℕ, zero, suc, ◌+◌, ◌%◌, List, [], ◌∷◌, replicate}
 use Rattle.rules.specs.Numbers.{the_scheduler}
 use Rattle.rules.specs.Parties.{scheduler}
 use Rattle.rules.specs.Nodes.{fresh_with, Held, with_rx, with_tx}
