@@ -1,360 +1,251 @@
-// Paper 01, "A frame arrives", at one berth. Nothing is stored here: an answer says which part of the frame goes to which place of
-// the area, as the rule does.
-#![tactic(auto)]
+//! A frame arrives at a berth: what it changes there, which of its bytes are kept in the berth's area, and what it did.
+#![tactic(auto, unfolding(rules::specs::Arrivals::grown, rules::specs::Arrivals::after_took, rules::specs::Arrivals::awaited_came, rules::specs::Arrivals::completed, rules::specs::Arrivals::took, rules::specs::Arrivals::wrong_sn, rules::specs::Arrivals::ignored, rules::specs::Arrivals::heard_by, rules::specs::Arrivals::granted, rules::specs::Arrivals::by_status, rules::specs::Arrivals::frame_came, rules::specs::Arrivals::by_kind, rules::specs::Arrivals::told_by))]
 
 pub mod areas;
 
-ghost use Rattle.std.specs.Prelude.{◌≡◌, List, [], ℕ, ◌+◌, ◌≤◌, ◌<◌, length};
-ghost use Rattle.rules.specs.Numbers.{frame_size, least_flow, consecutive_most};
-ghost use Rattle.rules.specs.Frames.{share};
-ghost use Rattle.rules.specs.Ranges.{TakingRange, RxRange};
-ghost use Rattle.rules.specs.Arrivals.{ignored, old_code, single_came, taking, begun, first_came, missing, piece, grown, after_took, awaited_came, consecutive_came, granted, by_status, flow_ignored, flow_came};
+ghost use Rattle.std.specs.Prelude.{◌≡◌, None, true, ◌≤◌, ◌<◌, length};
+ghost use Rattle.std.proofs.lemmas.List.Edits.{sets};
+ghost use Rattle.rules.specs.Numbers.{least_flow, single_most, first_bytes};
+ghost use Rattle.rules.specs.Ranges.{AreaRange, BerthRange, TakingRange, RxRange};
+ghost use Rattle.rules.specs.Arrivals.{old_code, single_came, taking, first_came, missing, piece, grown, after_took, consecutive_came, granted, by_status, flow_came, heard_by, told_by, frame_came};
+ghost use Rattle.rules.specs.Frames.{consecutive_fits};
+ghost use Rattle.rules.specs.Words.{code_said, word_said};
 ghost use Rattle.rules.specs.declared.Settings.{Settings};
-ghost use Rattle.arrivals.specs.Reading.{Hears, told_of, is_flow, rx_came, unless_fits, why_consecutive, why_ignored};
+ghost use Rattle.arrivals.specs.Reading.{Answers, Leaves, told_of};
 
-use rules::{Party, Rx, Sending, Settings, Sn, Taking, Tx, Word};
+use rules::{Berth, Code, Party, Reason, Rx, Sending, Settings, Sn, Taking, Tx, Word};
 
-// What a frame makes of a receive side. `count` bytes of the frame, from `from` on, are to be stored at `place`.
-#[derive(Clone, Copy)]
-pub struct Heard {
-    pub rx: Rx,
-    pub last: u32,
-    pub old: u8,
-    pub word: Word,
-    pub place: u32,
-    pub from: u32,
-    pub count: u32,
-}
-
-// What a flow control frame makes of a send side.
-#[derive(Clone, Copy)]
-pub struct Told {
-    pub tx: Tx,
+/// What a frame did at a berth: the code of the reception that it ended, if any, and the word.
+#[derive(Clone, Copy, Debug, PartialEq, Eq)]
+pub struct Arrival {
+    pub old: Option<Code>,
     pub word: Word,
 }
 
-// An answer that stores nothing.
-#[tactic(auto, unfolding(crate::specs::Reading::as_heard))]
-fn unstored(rx: Rx, last: u32, old: u8, word: Word) -> Heard
-    ensures { (d : List ℕ) → Hears result d (record { rx = rx; last = last; old = old; word = word; place = 0; bytes = [] }) }
+/// A frame that is ignored ends nothing.
+fn ignored(reason: Reason) -> Arrival
+    ensures { result ≡ record { old = None; word = Word.Ignored reason } }
 {
-    Heard {
-        rx: rx,
-        last: last,
-        old: old,
-        word: word,
-        place: 0,
-        from: 0,
-        count: 0,
+    Arrival {
+        old: None,
+        word: Word::Ignored(reason),
     }
 }
 
-#[tactic(auto, unfolding(rules::specs::Arrivals::ignored))]
-fn ignored(why: u8, rx: Rx, last: u32) -> Heard
-    ensures { (d : List ℕ) → Hears result d (ignored why rx last) }
-{
-    unstored(rx, last, 0, Word::Ignored(why))
-}
-
-fn old_code(rx: Rx) -> u8
-    ensures { result ≡ old_code rx }
+/// The code with which a new message ends the reception before it, if one is under way.
+fn old_code(rx: Rx) -> Option<Code>
+    ensures { code_said result ≡ old_code rx }
 {
     match rx {
-        Rx::Idle => 0,
-        Rx::OwesOverflow(_) => 0,
-        Rx::OwesGo(_, _) => rules::N_UNEXP_PDU,
-        Rx::Awaits(_, _) => rules::N_UNEXP_PDU,
+        Rx::OwesGo(..) | Rx::Awaits(..) => Some(Code::UnexpPdu),
+        Rx::Idle | Rx::OwesOverflow(_) => None,
     }
 }
 
-#[tactic(auto, using(crate::proofs::RuleSets::single_came_steps), unfolding(rules::specs::Arrivals::single_came, crate::specs::Reading::as_heard))]
-fn single_came(rx: Rx, last: u32, frame: &[u8]) -> Heard
-    requires { 0 < length frame.now }
-    ensures { Hears result frame.now (single_came rx last frame.now) }
+/// A single frame holds a whole message.
+// Casts widen, or are proved to fit: `try_from` would add an error that cannot come.
+#[tactic(auto, using(crate::proofs::RuleSets::single_came_steps), unfolding(rules::specs::Arrivals::single_came, rules::specs::Arrivals::ignored, rules::specs::Arrivals::heard_by))]
+fn single_came(berth: &mut Berth, area: &mut [u8], frame: &[u8]) -> Arrival
+    requires data { 0 < length frame.now }
+    requires room { single_most ≤ length area.old }
+    ensures { Leaves (heard_by berth.old (single_came berth.old.rx berth.old.last frame.now)) result berth.new area.old area.new }
 {
-    if frames::single_fits(frame) {
-        let l = frames::wide(frames::low(frame));
-        return Heard {
-            rx: Rx::Idle,
-            last: l,
-            old: old_code(rx),
-            word: Word::Delivered(l),
-            place: 0,
-            from: 1,
-            count: l,
-        };
+    if !frames::single_fits(frame) {
+        return ignored(Reason::WrongLength);
     }
-    ignored(rules::WRONG_LENGTH, rx, last)
+    let length = frames::low(frame) as u32;
+    areas::keep(area, 0, frame, 1, length);
+    let old = old_code(berth.rx);
+    berth.rx = Rx::Idle;
+    berth.last = length;
+    Arrival {
+        old,
+        word: Word::Delivered(length),
+    }
 }
 
-fn taking(n: u32) -> Taking
-    ensures { result ≡ taking n }
+fn taking(total: u32) -> Taking
+    ensures { result ≡ taking total }
 {
     Taking {
-        total: n,
+        total,
         got: rules::FIRST_BYTES,
         sn: Sn::first(),
         taken: 0,
     }
 }
 
-#[tactic(auto, unfolding(rules::specs::Arrivals::begun, crate::specs::Reading::as_heard))]
-fn begun(n: u32, rx: Rx) -> Heard
-    ensures { (d : List ℕ) → length d ≡ frame_size → Hears result d (begun n rx d) }
+/// A first frame begins a message, unless it is longer than the area.
+#[tactic(auto, using(crate::proofs::RuleSets::first_came_steps), unfolding(rules::specs::Arrivals::first_came, rules::specs::Arrivals::turned_away, rules::specs::Arrivals::begun, rules::specs::Arrivals::ignored, rules::specs::Arrivals::heard_by))]
+fn first_came(settings: Settings, berth: &mut Berth, area: &mut [u8], frame: &[u8]) -> Arrival
+    requires room { first_bytes ≤ length area.old }
+    ensures { Leaves (heard_by berth.old (first_came settings berth.old.rx berth.old.last frame.now)) result berth.new area.old area.new }
 {
-    let p = taking(n);
-    Heard {
-        rx: Rx::OwesGo(p, 0),
-        last: 0,
-        old: old_code(rx),
-        word: Word::Begun(n),
-        place: 0,
-        from: 2,
-        count: rules::FIRST_BYTES,
+    if !frames::first_fits(frame) {
+        return ignored(Reason::WrongLength);
+    }
+    let old = old_code(berth.rx);
+    let length = frames::announced(frame);
+    if settings.area < length {
+        berth.rx = Rx::OwesOverflow(0);
+        return Arrival {
+            old,
+            word: Word::TooLong,
+        };
+    }
+    areas::keep(area, 0, frame, 2, rules::FIRST_BYTES);
+    berth.rx = Rx::OwesGo(taking(length), 0);
+    berth.last = 0;
+    Arrival {
+        old,
+        word: Word::Begun(length),
     }
 }
 
-#[tactic(auto, using(crate::proofs::RuleSets::first_came_steps), unfolding(rules::specs::Arrivals::first_came, rules::specs::Arrivals::turned_away))]
-fn first_came(settings: Settings, rx: Rx, last: u32, frame: &[u8]) -> Heard
-    ensures { Hears result frame.now (first_came settings rx last frame.now) }
+// The rules' own word of a reception, as berth's `to_go` is of a sending.
+fn missing(reception: Taking) -> u32
+    requires { reception.got < reception.total }
+    ensures { result ≡ missing reception }
 {
-    if frames::first_fits(frame) {
-        let n = frames::announced(frame);
-        if settings.area < n {
-            return unstored(Rx::OwesOverflow(0), last, old_code(rx), Word::TooLong);
-        }
-        return begun(n, rx);
-    }
-    ignored(rules::WRONG_LENGTH, rx, last)
+    reception.total - reception.got
 }
 
-fn missing(p: Taking) -> u32
-    requires { p.got < p.total }
-    ensures { result ≡ missing p }
+/// The bytes of the next frame go where the reception has got to: so many as are missing, and at most seven.
+#[tactic(auto, using(crate::proofs::RuleSets::keep_piece_steps), unfolding(rules::specs::Arrivals::piece))]
+fn keep_piece(reception: Taking, area: &mut [u8], frame: &[u8])
+    requires got { reception.got < reception.total }
+    requires total { reception.total ≤ length area.old }
+    requires fits { consecutive_fits (missing reception) frame.now ≡ true }
+    ensures { area.new ≡ sets area.old reception.got (piece reception frame.now) }
 {
-    p.total - p.got
+    let count = frames::share(missing(reception));
+    areas::keep(area, reception.got, frame, 1, count);
 }
 
-#[tactic(auto, unfolding(rules::specs::Arrivals::grown))]
-fn grown(p: Taking, count: u8) -> Taking
-    requires { p.got < p.total }
-    ensures { result ≡ grown p count }
+fn grown(reception: Taking, taken: u8) -> Taking
+    requires { reception.got < reception.total }
+    ensures { result ≡ grown reception taken }
 {
     Taking {
-        total: p.total,
-        got: frames::done_after(p.got, p.total),
-        sn: p.sn.next(),
-        taken: count,
+        got: frames::done_after(reception.got, reception.total),
+        sn: reception.sn.next(),
+        taken,
+        ..reception
     }
 }
 
-// The bytes of the next frame, where an answer stores them: this side, last length and word with the piece at got.
-#[tactic(auto, unfolding(rules::specs::Arrivals::piece, crate::specs::Reading::as_heard))]
-fn pieced(p: Taking, rx: Rx, last: u32, word: Word) -> Heard
-    requires { p.got < p.total }
-    ensures { (d : List ℕ) → share consecutive_most (missing p) + 1 ≤ length d → Hears result d (record { rx = rx; last = last; old = 0; word = word; place = p.got; bytes = piece p d }) }
+/// The receive side behind a frame that is not its last: one that fills its block has go owed for it.
+fn after_took(block: u8, reception: Taking) -> Rx
+    requires { (s : Settings) × TakingRange s block reception }
+    ensures { result ≡ after_took block reception }
 {
-    let count = frames::share(missing(p));
-    Heard {
-        rx: rx,
-        last: last,
-        old: 0,
-        word: word,
-        place: p.got,
-        from: 1,
-        count: count,
+    if frames::fills_block(block, reception.taken) {
+        return Rx::OwesGo(grown(reception, 0), 0);
     }
+    let taken = frames::counted(block, reception.taken);
+    Rx::Awaits(grown(reception, taken), 0)
 }
 
-#[tactic(auto, unfolding(rules::specs::Arrivals::after_took))]
-fn after_took(block: u8, p: Taking) -> Rx
-    requires { (s : Settings) × TakingRange s block p }
-    ensures { result ≡ after_took block p }
+/// A consecutive frame holds the next bytes of a message under way.
+fn consecutive_came(settings: Settings, berth: &mut Berth, area: &mut [u8], frame: &[u8]) -> Arrival
+    requires data { 0 < length frame.now }
+    requires range { RxRange settings berth.old.settings.block berth.old.last berth.old.rx }
+    requires area { length area.old ≡ settings.area }
+    ensures { Leaves (heard_by berth.old (consecutive_came berth.old.settings.block berth.old.rx berth.old.last frame.now)) result berth.new area.old area.new }
 {
-    if frames::fills_block(block, p.taken) {
-        let q = grown(p, 0);
-        return Rx::OwesGo(q, 0);
+    let Rx::Awaits(reception, _) = berth.rx else {
+        return ignored(Reason::NotAwaited);
+    };
+    let missing = missing(reception);
+    if !frames::consecutive_fits(missing, frame) {
+        return ignored(Reason::WrongLength);
     }
-    let q = grown(p, frames::counted(block, p.taken));
-    Rx::Awaits(q, 0)
-}
-
-#[tactic(auto, using(crate::proofs::RuleSets::awaited_came_steps), unfolding(rules::specs::Arrivals::awaited_came, rules::specs::Arrivals::completed, rules::specs::Arrivals::took, rules::specs::Arrivals::wrong_sn))]
-fn awaited_came(block: u8, p: Taking, t: u16, last: u32, frame: &[u8]) -> Heard
-    requires { (0 < length frame.now) × ((s : Settings) × TakingRange s block p) }
-    ensures { Hears result frame.now (awaited_came block p t last frame.now) }
-{
-    let r = missing(p);
-    if frames::consecutive_fits(r, frame) {
-        let sn = p.sn.0;
-        if frames::low(frame) == sn {
-            if r <= rules::CONSECUTIVE_MOST {
-                return pieced(p, Rx::Idle, p.total, Word::Delivered(p.total));
-            }
-            return pieced(p, after_took(block, p), last, Word::Took);
-        }
-        return unstored(
-            Rx::Idle,
-            last,
-            0,
-            Word::Failed(rules::N_WRONG_SN, Party::scheduler()),
-        );
+    if frames::low(frame) != reception.sn.0 {
+        berth.rx = Rx::Idle;
+        return Arrival {
+            old: None,
+            word: Word::Failed(Code::WrongSn, Party::scheduler()),
+        };
     }
-    ignored(rules::WRONG_LENGTH, Rx::Awaits(p, t), last)
-}
-
-fn consecutive_came(block: u8, rx: Rx, last: u32, frame: &[u8]) -> Heard
-    requires { (0 < length frame.now) × ((s : Settings) × RxRange s block last rx) }
-    ensures { Hears result frame.now (consecutive_came block rx last frame.now) }
-{
-    match rx {
-        Rx::Awaits(p, t) => awaited_came(block, p, t, last, frame),
-        _ => ignored(rules::NOT_AWAITED, rx, last),
+    keep_piece(reception, area, frame);
+    if missing <= rules::CONSECUTIVE_MOST {
+        berth.rx = Rx::Idle;
+        berth.last = reception.total;
+        return Arrival {
+            old: None,
+            word: Word::Delivered(reception.total),
+        };
+    }
+    berth.rx = after_took(berth.settings.block, reception);
+    Arrival {
+        old: None,
+        word: Word::Took,
     }
 }
 
-// The peer's block size and gap are taken; nothing else of the sending moves.
-#[tactic(auto, unfolding(rules::specs::Arrivals::granted))]
-fn granted(o: Sending, frame: &[u8]) -> Sending
+/// The peer's block size and gap are taken; nothing else of the sending moves.
+fn granted(sending: Sending, frame: &[u8]) -> Sending
     requires { least_flow ≤ length frame.now }
-    ensures { result ≡ granted o frame.now }
+    ensures { result ≡ granted sending frame.now }
 {
-    let sn = o.sn;
-    let block = frame[1];
-    let gap = frames::gap_of(frame[2]);
     Sending {
-        length: o.length,
-        position: o.position,
-        sn: sn,
-        block: block,
+        block: frame[1],
         sent: 0,
-        gap: gap,
+        gap: frames::gap_of(frame[2]),
         left: 0,
+        ..sending
     }
 }
 
-#[tactic(auto, unfolding(rules::specs::Arrivals::by_status, crate::specs::Reading::told_of))]
-fn by_status(o: Sending, party: Party, frame: &[u8]) -> Told
+/// The send side behind flow control that it awaited, and the word, by the status.
+fn by_status(sending: Sending, party: Party, frame: &[u8]) -> (Tx, Word)
     requires { least_flow ≤ length frame.now }
-    ensures { told_of result ≡ by_status o party frame.now }
+    ensures { told_of result ≡ by_status sending party frame.now }
 {
-    let status = frames::low(frame);
-    if status == rules::GO_STATUS {
-        let q = granted(o, frame);
-        return Told {
-            tx: Tx::Consecutive(party, q, 0),
-            word: Word::Going,
-        };
-    }
-    if status == rules::WAIT_STATUS {
-        return Told {
-            tx: Tx::AwaitsFlow(party, o, 0),
-            word: Word::Waiting,
-        };
-    }
-    if status == rules::OVERFLOW_STATUS {
-        return Told {
-            tx: Tx::Idle,
-            word: Word::Failed(rules::N_BUFFER_OVFLW, party),
-        };
-    }
-    Told {
-        tx: Tx::Idle,
-        word: Word::Failed(rules::N_INVALID_FS, party),
+    match frames::low(frame) {
+        rules::GO_STATUS => (
+            Tx::Consecutive(party, granted(sending, frame), 0),
+            Word::Going,
+        ),
+        rules::WAIT_STATUS => (Tx::AwaitsFlow(party, sending, 0), Word::Waiting),
+        rules::OVERFLOW_STATUS => (Tx::Idle, Word::Failed(Code::BufferOvflw, party)),
+        _ => (Tx::Idle, Word::Failed(Code::InvalidFs, party)),
     }
 }
 
-#[tactic(auto, unfolding(crate::specs::Reading::told_of, rules::specs::Arrivals::flow_ignored))]
-fn flow_ignored(why: u8, tx: Tx) -> Told
-    ensures { told_of result ≡ flow_ignored why tx }
+/// Flow control touches only the send side.
+#[tactic(auto, using(crate::proofs::RuleSets::flow_came_steps), unfolding(rules::specs::Arrivals::flow_ignored, rules::specs::Arrivals::told_by))]
+pub fn flow_came(berth: &mut Berth, frame: &[u8]) -> Arrival
+    requires data { 0 < length frame.now }
+    ensures { Answers (told_by berth.old (flow_came berth.old.tx frame.now)) result berth.new }
 {
-    Told {
-        tx: tx,
-        word: Word::Ignored(why),
+    let Tx::AwaitsFlow(party, sending, _) = berth.tx else {
+        return ignored(Reason::NotAwaited);
+    };
+    if !frames::flow_fits(frame) {
+        return ignored(Reason::WrongLength);
     }
+    let (tx, word) = by_status(sending, party, frame);
+    berth.tx = tx;
+    Arrival { old: None, word }
 }
 
-// Flow control, at a send side.
-#[tactic(auto, using(crate::proofs::RuleSets::flow_came_steps))]
-pub fn flow_came(tx: Tx, frame: &[u8]) -> Told
-    requires { 0 < length frame.now }
-    ensures { told_of result ≡ flow_came tx frame.now }
+/// A frame arrives at a berth in order, whose area this is.
+// What a call is lent comes from several owners: a struct of references would be made for one call and taken apart in it.
+pub fn frame_came(settings: Settings, berth: &mut Berth, area: &mut [u8], frame: &[u8]) -> Arrival
+    requires settings { AreaRange settings.area }
+    requires berth { BerthRange settings berth.old }
+    requires area { length area.old ≡ settings.area }
+    ensures { Leaves (frame_came settings berth.old frame.now) result berth.new area.old area.new }
 {
-    match tx {
-        Tx::AwaitsFlow(party, o, _) => {
-            if frames::flow_fits(frame) {
-                return by_status(o, party, frame);
-            }
-            flow_ignored(rules::WRONG_LENGTH, tx)
-        }
-        _ => flow_ignored(rules::NOT_AWAITED, tx),
+    if frame.is_empty() {
+        return ignored(Reason::NoData);
     }
-}
-
-// Whether a frame is flow control, which touches only the send side; the other kinds touch only the receive side.
-#[tactic(auto, unfolding(crate::specs::Reading::is_flow))]
-pub fn is_flow(frame: &[u8]) -> bool
-    ensures { result ≡ is_flow frame.now }
-{
-    if frame.len() == 0 {
-        return false;
+    match frames::kind(frame) {
+        rules::SINGLE_KIND => single_came(berth, area, frame),
+        rules::FIRST_KIND => first_came(settings, berth, area, frame),
+        rules::CONSECUTIVE_KIND => consecutive_came(settings, berth, area, frame),
+        rules::FLOW_KIND => flow_came(berth, frame),
+        _ => ignored(Reason::OtherKind),
     }
-    frames::kind(frame) == rules::FLOW_KIND
-}
-
-fn unless_fits(fits: bool) -> u8
-    ensures { result ≡ unless_fits fits }
-{
-    if fits {
-        return 0;
-    }
-    rules::WRONG_LENGTH
-}
-
-fn why_consecutive(rx: Rx, frame: &[u8]) -> u8
-    requires { (s : Settings) × ((block : ℕ) × ((last : ℕ) × RxRange s block last rx)) }
-    ensures { result ≡ why_consecutive rx frame.now }
-{
-    match rx {
-        Rx::Awaits(p, _) => unless_fits(frames::consecutive_fits(missing(p), frame)),
-        _ => rules::NOT_AWAITED,
-    }
-}
-
-// Why a frame with data that is no flow control is ignored, 0 where it is not: a frame that changes nothing need not be taken to the side.
-#[tactic(auto, unfolding(crate::specs::Reading::why_ignored))]
-pub fn why_ignored(rx: Rx, frame: &[u8]) -> u8
-    requires { (0 < length frame.now) × ((s : Settings) × ((block : ℕ) × ((last : ℕ) × RxRange s block last rx))) }
-    ensures { result ≡ why_ignored rx frame.now }
-{
-    let kind = frames::kind(frame);
-    if kind == rules::SINGLE_KIND {
-        return unless_fits(frames::single_fits(frame));
-    }
-    if kind == rules::FIRST_KIND {
-        return unless_fits(frames::first_fits(frame));
-    }
-    if kind == rules::CONSECUTIVE_KIND {
-        return why_consecutive(rx, frame);
-    }
-    rules::OTHER_KIND
-}
-
-// A frame with data that is no flow control, at a receive side with this block size.
-#[tactic(auto, unfolding(crate::specs::Reading::rx_came))]
-pub fn rx_came(settings: Settings, block: u8, rx: Rx, last: u32, frame: &[u8]) -> Heard
-    requires { (0 < length frame.now) × RxRange settings block last rx }
-    ensures { Hears result frame.now (rx_came settings block rx last frame.now) }
-{
-    let kind = frames::kind(frame);
-    if kind == rules::SINGLE_KIND {
-        return single_came(rx, last, frame);
-    }
-    if kind == rules::FIRST_KIND {
-        return first_came(settings, rx, last, frame);
-    }
-    if kind == rules::CONSECUTIVE_KIND {
-        return consecutive_came(block, rx, last, frame);
-    }
-    ignored(rules::OTHER_KIND, rx, last)
 }

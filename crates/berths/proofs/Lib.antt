@@ -1,6 +1,5 @@
 -- Facts that the proofs of this crate's functions cite.
-pub mod Stored
-pub mod OneTick
-pub mod CardTick
+pub mod RuleSets
+pub mod Filled
 pub mod EachTick
-pub mod Clearing
+pub mod Ticking

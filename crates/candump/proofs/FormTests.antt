@@ -8,34 +8,14 @@ use mathlib.Core.Bool.{Bool, true, false, not, ◌&&◌, ◌||◌}
 use mathlib.Core.List.{List}
 use lib.ListN.{length, get_or, take, drop, length-drop}
 use lib.Seq.{get_or-drop}
-use lib.Dec.{ltb, leb, eqb}
-use borrow.Author.Tests.{ltb-true, ltb-false}
-use Rattle.rules.proofs.Cases.{yes_of, or-neither, leb-is, leb-not, and-false, eqb_is, eqb-not}
+use lib.Dec.{eqb}
+use Rattle.rules.proofs.Cases.{yes_of, leb-is, leb-not, and-false, eqb_is, eqb-not}
 use Rattle.candump.specs.Digits.{between, is_hex, is_of, span, stands, digit_value, number_after, number_of}
 use Rattle.candump.specs.Lines.{most_seconds, most_name, most_data_digits, decimal_digits, identifier_digits, most_identifier, hash, dot, opens, closes, space, LF}
 use Rattle.candump.specs.Reading.{seconds_count, time_form, name_form, identifier_form, data_form}
 use Rattle.candump.proofs.Spans.{span-within, span-at-drop, stands-within}
 use Rattle.records.proofs.Gets.{gets, gets-range}
 use Rattle.candump.specs.declared.digits.Class.{Class}
-
--- ---- a number within its bounds
-
-pub outside : (most n : ℕ) → ltb n 1 || ltb most n ≡ true → between 1 most n ≡ false
-unfolding between
-outside most n e = go (ltb n 1) refl
-  where
-    go : (t : Bool) → ltb n 1 ≡ t → (leb 1 n && leb n most) ≡ false
-    go true f = rw (leb-not 1 n (ltb-true n 1 f))
-    go false f = rw (leb-not n most (ltb-true most n (rw f at e))) (and-false (leb 1 n))
-
-pub bounds : (most n : ℕ) → ltb n 1 || ltb most n ≡ false → (1 ≤ n) × (n ≤ most)
-bounds most n e =
-    let f = or-neither (ltb n 1) (ltb most n) e in
-    (ltb-false n 1 f.0, ltb-false most n f.1)
-
-pub inside : (most n : ℕ) → ltb n 1 || ltb most n ≡ false → between 1 most n ≡ true
-unfolding between
-inside most n e = let f = bounds most n e in rw (leb-is 1 n f.0, leb-is n most f.1)
 
 -- a byte behind a place
 pub stands-drop : (l : List ℕ) (from at b : ℕ) → stands (drop from l) at b ≡ stands l (from + at) b
@@ -56,9 +36,9 @@ the_rest true b false d e f p q = rw p
 the_rest false b c d e f p q = refl
 
 module _ (l : List ℕ) (s : ℕ) (counted : s ≡ span Class.Digit (drop 1 l)) where
-  pub seconds-outside : ltb s 1 || ltb most_seconds s ≡ true → time_form l ≡ false
+  pub seconds-outside : between 1 most_seconds s ≡ false → time_form l ≡ false
   unfolding time_form seconds_count
-  seconds-outside e = rw (← counted) (second-fails (stands l 0 opens) (between 1 most_seconds s) _ (outside most_seconds s e))
+  seconds-outside e = rw (← counted) (second-fails (stands l 0 opens) (between 1 most_seconds s) _ e)
 
   pub decimals-outside : (n : ℕ) → n ≡ span Class.Digit (drop (s + 2) l) → (n ≡ decimal_digits → ⊥) → time_form l ≡ false
   unfolding time_form seconds_count
@@ -67,24 +47,24 @@ module _ (l : List ℕ) (s : ℕ) (counted : s ≡ span Class.Digit (drop 1 l)) 
       (fourth-fails (stands l 0 opens) (between 1 most_seconds s) (stands l (s + 1) dot) (eqb (span Class.Digit (drop (s + 2) l)) decimal_digits) _
       (rw (← k) (eqb-not n decimal_digits f)))
 
-  pub time-tested : (n : ℕ) → ltb s 1 || ltb most_seconds s ≡ false → n ≡ span Class.Digit (drop (s + 2) l) → n ≡ decimal_digits
+  pub time-tested : (n : ℕ) → between 1 most_seconds s ≡ true → n ≡ span Class.Digit (drop (s + 2) l) → n ≡ decimal_digits
       → time_form l ≡ ((stands l 0 opens && stands l (s + 1) dot) && (stands l (s + 8) closes && stands l (s + 9) space))
   unfolding time_form seconds_count
   time-tested n e k f =
       rw (← counted)
       (the_rest (stands l 0 opens) (between 1 most_seconds s) (stands l (s + 1) dot) (eqb (span Class.Digit (drop (s + 2) l)) decimal_digits)
-      (stands l (s + 8) closes) (stands l (s + 9) space) (inside most_seconds s e) (eqb_is _ decimal_digits (sym k ∙ f)))
+      (stands l (s + 8) closes) (stands l (s + 9) space) e (eqb_is _ decimal_digits (sym k ∙ f)))
 
 -- ---- the name
 
 module _ (l : List ℕ) (from n : ℕ) (counted : n ≡ span Class.Letter (drop from l)) where
-  pub name-outside : ltb n 1 || ltb most_name n ≡ true → name_form (drop from l) ≡ false
+  pub name-outside : between 1 most_name n ≡ false → name_form (drop from l) ≡ false
   unfolding name_form
-  name-outside e = rw (← counted, outside most_name n e)
+  name-outside e = rw (← counted, e)
 
-  pub name-tested : ltb n 1 || ltb most_name n ≡ false → name_form (drop from l) ≡ stands l (from + n) space
+  pub name-tested : between 1 most_name n ≡ true → name_form (drop from l) ≡ stands l (from + n) space
   unfolding name_form
-  name-tested e = rw (← counted, inside most_name n e) (stands-drop l from n space)
+  name-tested e = rw (← counted, e) (stands-drop l from n space)
 
 -- ---- the data
 

@@ -1,7 +1,8 @@
 -- A line read part after part: where one part is of the form its length is told, and the next part is the rest of the line; where one is not,
 -- the line is not.
-use mathlib.Core.Path.{◌≡◌, refl, sym, ◌∙◌}
-use Prim.Native.Nat.{ℕ, ◌+◌, ◌-◌, ◌*◌, ◌/◌, ◌%◌, ◌≤◌, ◌<◌}
+use mathlib.Core.Path.{◌≡◌, refl, sym, ap, ◌∙◌}
+use Rattle.std.specs.Prelude.{Option, Some, None, unwrap_or}
+use Prim.Native.Nat.{ℕ, ◌+◌, ◌-◌, ◌*◌, ◌/◌, ◌%◌, ◌≤◌}
 use native.Mathlib.Omega.{arith}
 use mathlib.Core.Bool.{Bool, true, false}
 use mathlib.Core.List.{List}
@@ -9,12 +10,15 @@ use lib.ListN.{length, take, drop, length-drop}
 use lib.Seq.{drop-drop, length-take-le, take_all}
 use lib.Dec.{leb, eqb}
 use mir.Facts.{leb_yes, eqb_yes}
-use Rattle.rules.specs.Tests.{pick, each}
+use Rattle.std.specs.Bool.{then_some}
+use Rattle.rules.specs.Tests.{each, unless, first_unmet}
 use Rattle.rules.proofs.Cases.{is_true, yes_of, and_left, and_right}
 use Rattle.candump.specs.Digits.{between, is_hex, span, stands, number_of, bytes_of}
-use Rattle.candump.specs.Lines.{most_seconds, most_name, identifier_digits, most_identifier, most_data_digits, opens, hash, LF}
-use Rattle.candump.specs.Reading.{seconds_count, time_length, name_length, from_name, from_identifier, from_data, parts_in, time_form, name_form, identifier_form, data_form, of_form, fields_of, no_fields, fields_in}
+use Rattle.candump.specs.Lines.{most_seconds, most_name, identifier_digits, most_identifier, most_data_digits, opens, hash, LF, other_form}
+use Rattle.candump.specs.declared.Log.{Log}
+use Rattle.candump.specs.Reading.{seconds_count, time_length, name_length, from_name, from_identifier, from_data, parts_in, time_form, name_form, identifier_form, data_form, of_form, fields_of, fields_in, since_first, times_refusal, read_refusal, refused_line, read_line, reads}
 use Rattle.candump.specs.declared.digits.Class.{Class}
+use Rattle.candump.specs.declared.form.Fields.{Fields}
 use Rattle.candump.proofs.Fits.{Fit, fit_of}
 use Rattle.candump.proofs.Forms.{parts-of-line}
 use Rattle.candump.proofs.Pairs.{pairs-length}
@@ -23,18 +27,21 @@ use Rattle.candump.proofs.Values.{between-range}
 
 -- ---- what a test picks
 
--- a value that the form has is not the one that another form has
-pub record Told (t : Bool) (v r : ℕ) : Type 0 where
+-- what is told where the form is
+pub record Told {X : Type 0} (t : Bool) (v r : X) : Type 0 where
   pub form : t ≡ true
   pub value : r ≡ v
 
-told : (t : Bool) (v w r : ℕ) → r ≡ pick t v w → (r ≡ w → ⊥) → Told t v r
-told true v w r e f = record { form = refl; value = e }
-told false v w r e f = absurd (f e)
+told : {X : Type 0} (t : Bool) (v r : X) → Some r ≡ then_some t v → Told t v r
+told true v r e = record { form = refl; value = ap (λ o. unwrap_or o v) e }
+told false v r e = absurd (none_some e)
+  where
+    none_some : {X : Type 0} {r : X} → ◌≡◌ {A = Option X} (Some r) None → ⊥
+    none_some e = cc
 
-untold : (t : Bool) (v w r : ℕ) → r ≡ pick t v w → (t ≡ true → r ≡ v → ⊥) → t ≡ false
-untold true v w r e f = absurd (f refl e)
-untold false v w r e f = refl
+untold : {X : Type 0} (t : Bool) (v : X) → None ≡ then_some t v → t ≡ false
+untold true v e = cc
+untold false v e = refl
 
 time-few : (l : List ℕ) → time_form l ≡ true → seconds_count l ≤ 10
 unfolding time_form
@@ -62,14 +69,14 @@ data-ends l e =
 
 -- ---- the time
 
-module _ (l : List ℕ) (timed : ℕ) (first : timed ≡ pick (time_form l) (time_length l) 0) where
-  pub no-time : timed ≡ 0 → of_form l ≡ false
+module _ (l : List ℕ) where
+  pub no-time : None ≡ then_some (time_form l) (time_length l) → of_form l ≡ false
   unfolding of_form
-  no-time e = rw (untold (time_form l) (time_length l) 0 timed first (λ t h. omega (arith, h, e)))
+  no-time e = rw (untold (time_form l) (time_length l) e)
 
-  module _ (there : timed ≡ 0 → ⊥) where
+  module _ (timed : ℕ) (timing : Some timed ≡ then_some (time_form l) (time_length l)) where
     its-time : Told (time_form l) (time_length l) timed
-    its-time = told (time_form l) (time_length l) 0 timed first there
+    its-time = told (time_form l) (time_length l) timed timing
 
     pub timed-within : timed ≤ 20
     timed-within = omega (arith, its-time.value, time-few l its-time.form)
@@ -85,107 +92,110 @@ module _ (l : List ℕ) (timed : ℕ) (first : timed ≡ pick (time_form l) (tim
 
     -- ---- the name
 
-    module _ (named : ℕ) (second : named ≡ pick (name_form (drop timed l)) (name_length (drop timed l)) 0) where
-      pub no_name : named ≡ 0 → of_form l ≡ false
+    pub no_name : None ≡ then_some (name_form (drop timed l)) (name_length (drop timed l)) → of_form l ≡ false
+    unfolding of_form
+    no_name e =
+        let f = untold (name_form (drop timed l)) (name_length (drop timed l)) e in
+        rw (its-time.form, rw behind-time at f)
+
+    module _ (named : ℕ) (naming : Some named ≡ then_some (name_form (drop timed l)) (name_length (drop timed l))) where
+      its-name : Told (name_form (drop timed l)) (name_length (drop timed l)) named
+      its-name = told (name_form (drop timed l)) (name_length (drop timed l)) named naming
+
+      pub named-within : timed + named ≤ 36
+      named-within = omega (arith, timed-within, its-name.value, name-few (drop timed l) its-name.form)
+
+      name-formed : name_form (from_name l) ≡ true
+      name-formed = rw behind-time at its-name.form
+
+      behind-name : drop (timed + named) l ≡ from_identifier l
+      behind-name = sym (drop-drop named timed l) ∙ rw (its-name.value, behind-time)
+
+      -- ---- the identifier
+
+      pub no-identifier : None ≡ then_some (identifier_form (drop (timed + named) l)) (number_of 16 (take identifier_digits (drop (timed + named) l))) → of_form l ≡ false
       unfolding of_form
-      no_name e =
-          let f = untold (name_form (drop timed l)) (name_length (drop timed l)) 0 named second (λ t h. omega (arith, h, e)) in
-          rw (its-time.form, rw behind-time at f)
+      no-identifier e =
+          let f = untold (identifier_form (drop (timed + named) l)) _ e in
+          rw (its-time.form, name-formed, rw behind-name at f)
 
-      module _ (called : named ≡ 0 → ⊥) where
-        its-name : Told (name_form (drop timed l)) (name_length (drop timed l)) named
-        its-name = told (name_form (drop timed l)) (name_length (drop timed l)) 0 named second called
+      module _ (id : ℕ) (identifying : Some id ≡ then_some (identifier_form (drop (timed + named) l)) (number_of 16 (take identifier_digits (drop (timed + named) l)))) where
+        its-identifier : Told (identifier_form (from_identifier l)) (number_of 16 (take identifier_digits (from_identifier l))) id
+        its-identifier = rw behind-name at (told (identifier_form (drop (timed + named) l)) _ id identifying)
 
-        pub named-within : timed + named ≤ 36
-        named-within = omega (arith, timed-within, its-name.value, name-few (drop timed l) its-name.form)
+        pub identifier-is : id ≡ number_of 16 (parts_in l).identifier
+        unfolding parts_in
+        identifier-is = its-identifier.value
 
-        name-formed : name_form (from_name l) ≡ true
-        name-formed = rw behind-time at its-name.form
+        behind-identifier : drop (timed + named + identifier_digits + 1) l ≡ from_data l
+        behind-identifier =
+            let e : timed + named + identifier_digits + 1 ≡ (timed + named) + (identifier_digits + 1) = omega arith in
+            rw e (sym (drop-drop (identifier_digits + 1) (timed + named) l) ∙ rw behind-name)
 
-        behind-name : drop (timed + named) l ≡ from_identifier l
-        behind-name = sym (drop-drop named timed l) ∙ rw (its-name.value, behind-time)
+        -- ---- the data
 
-        -- ---- the identifier
+        abbrev from : ℕ
+        from = timed + named + identifier_digits + 1
 
-        module _ (id : ℕ) (third : id ≡ pick (identifier_form (drop (timed + named) l)) (number_of 16 (take identifier_digits (drop (timed + named) l))) (most_identifier + 1)) where
-          pub no-identifier : most_identifier < id → of_form l ≡ false
+        pub no-data : None ≡ then_some (data_form (drop from l)) (span Class.Hex (drop from l)) → of_form l ≡ false
+        unfolding of_form
+        no-data e =
+            let f = untold (data_form (drop from l)) _ e in
+            rw (its-time.form, name-formed, its-identifier.form, rw behind-identifier at f)
+
+        module _ (count : ℕ) (counting : Some count ≡ then_some (data_form (drop from l)) (span Class.Hex (drop from l))) where
+          its-data : Told (data_form (drop from l)) (span Class.Hex (drop from l)) count
+          its-data = told (data_form (drop from l)) _ count counting
+
+          pub count-few : count ≤ 16
+          count-few = omega (arith, its-data.value, data-few (drop from l) its-data.form)
+
+          pub all-formed : of_form l ≡ true
           unfolding of_form
-          no-identifier h =
-              let r = drop (timed + named) l in
-              let f = untold (identifier_form r) _ _ id third (λ t e. omega (arith, h, e, identifier-low r t)) in
-              rw (its-time.form, name-formed, rw behind-name at f)
+          all-formed = rw (its-time.form, name-formed, its-identifier.form, rw behind-identifier at its-data.form)
 
-          module _ (low : id ≤ most_identifier) where
-            its-identifier : Told (identifier_form (from_identifier l)) (number_of 16 (take identifier_digits (from_identifier l))) id
-            its-identifier = rw behind-name at (told (identifier_form (drop (timed + named) l)) _ _ id third (λ e. omega (arith, e, low)))
+          abbrev digits : List ℕ
+          digits = take (from + count - from) (drop from l)
 
-            pub identifier-is : id ≡ number_of 16 (parts_in l).identifier
-            unfolding parts_in
-            identifier-is = its-identifier.value
+          its-fit : Fit (parts_in l)
+          its-fit = fit_of (parts_in l) (parts-of-line l all-formed).0
 
-            behind-identifier : drop (timed + named + identifier_digits + 1) l ≡ from_data l
-            behind-identifier =
-                let e : timed + named + identifier_digits + 1 ≡ (timed + named) + (identifier_digits + 1) = omega arith in
-                rw e (sym (drop-drop (identifier_digits + 1) (timed + named) l) ∙ rw behind-name)
+          pub payload-is : digits ≡ (parts_in l).payload
+          unfolding parts_in
+          payload-is =
+              let e : from + count - from ≡ count = omega arith in
+              rw (e, its-data.value, behind-identifier)
 
-            -- ---- the data
+          payload-length : length (parts_in l).payload ≡ count
+          unfolding parts_in
+          payload-length =
+              length-take-le (span Class.Hex (from_data l)) (from_data l) (span-within Class.Hex (from_data l)) ∙ sym (rw behind-identifier at its-data.value)
 
-            abbrev from : ℕ
-            from = timed + named + identifier_digits + 1
+          pub payload-within : from + count ≤ length l
+          payload-within = omega (arith, its-data.value, data-ends (drop from l) its-data.form, length-drop from l)
 
-            module _ (count : ℕ) (fourth : count ≡ pick (data_form (drop from l)) (span Class.Hex (drop from l)) (most_data_digits + 1)) where
-              pub no-data : most_data_digits < count → of_form l ≡ false
-              unfolding of_form
-              no-data h =
-                  let f = untold (data_form (drop from l)) _ _ count fourth (λ t e. omega (arith, h, e, data-few (drop from l) t)) in
-                  rw (its-time.form, name-formed, its-identifier.form, rw behind-identifier at f)
+          pub payload-fits : (each is_hex digits ≡ true) × (length digits ≤ 16) × (length digits % 2 ≡ 0)
+          payload-fits =
+              rw payload-is
+              (is_true _ its-fit.data_hex, leb_yes its-fit.few, eqb_yes its-fit.even)
 
-              module _ (few : count ≤ most_data_digits) where
-                its-data : Told (data_form (drop from l)) (span Class.Hex (drop from l)) count
-                its-data = told (data_form (drop from l)) _ _ count fourth (λ e. omega (arith, e, few))
-
-                pub all-formed : of_form l ≡ true
-                unfolding of_form
-                all-formed = rw (its-time.form, name-formed, its-identifier.form, rw behind-identifier at its-data.form)
-
-                abbrev digits : List ℕ
-                digits = take (from + count - from) (drop from l)
-
-                its-fit : Fit (parts_in l)
-                its-fit = fit_of (parts_in l) (parts-of-line l all-formed).0
-
-                pub payload-is : digits ≡ (parts_in l).payload
-                unfolding parts_in
-                payload-is =
-                    let e : from + count - from ≡ count = omega arith in
-                    rw (e, its-data.value, behind-identifier)
-
-                payload-length : length (parts_in l).payload ≡ count
-                unfolding parts_in
-                payload-length =
-                    length-take-le (span Class.Hex (from_data l)) (from_data l) (span-within Class.Hex (from_data l)) ∙ sym (rw behind-identifier at its-data.value)
-
-                pub payload-within : from + count ≤ length l
-                payload-within = omega (arith, its-data.value, data-ends (drop from l) its-data.form, length-drop from l)
-
-                pub payload-fits : (each is_hex digits ≡ true) × (length digits ≤ 16) × (length digits % 2 ≡ 0)
-                payload-fits =
-                    rw payload-is
-                    (is_true _ its-fit.data_hex, leb_yes its-fit.few, eqb_yes its-fit.even)
-
-                pub count-is : count / 2 ≡ length (bytes_of (parts_in l).payload)
-                count-is =
-                    let p = (parts_in l).payload in
-                    let e : length p % 2 ≡ 0 = eqb_yes its-fit.even in
-                    let t : take (count / 2 * 2) p ≡ p = take_all (count / 2 * 2) p (omega (arith, payload-length, e)) in
-                    sym (rw t at (pairs-length (count / 2) p (omega (arith, payload-length))))
+          pub count-is : count / 2 ≡ length (bytes_of (parts_in l).payload)
+          count-is =
+              let p = (parts_in l).payload in
+              let e : length p % 2 ≡ 0 = eqb_yes its-fit.even in
+              let t : take (count / 2 * 2) p ≡ p = take_all (count / 2 * 2) p (omega (arith, payload-length, e)) in
+              sym (rw t at (pairs-length (count / 2) p (omega (arith, payload-length))))
 
 -- ---- the whole
 
-pub good-is : (l : List ℕ) → (fields_in l).good ≡ of_form l
-unfolding fields_in fields_of no_fields
-good-is l = go (of_form l) refl
-  where
-    go : (t : Bool) → of_form l ≡ t → (pick (of_form l) (fields_of (parts_in l)) no_fields).good ≡ of_form l
-    go true e = rw e
-    go false e = rw e
+-- fields are told where the line is of the form, and are those of its parts
+pub read_on : (log : Option Log) (l : List ℕ) (f : Fields) → Some f ≡ fields_in l
+    → unless (times_refusal (since_first log f.time) f.time) (refused_line log) (read_line log f) ≡ reads log l
+unfolding reads read_refusal first_unmet times_refusal fields_in fields_of
+read_on log l f e =
+    let t = told (of_form l) (fields_of (parts_in l)) f e in
+    rw (t.form, t.value) refl
+
+pub read_none : (log : Option Log) (l : List ℕ) → None ≡ fields_in l → refused_line log other_form ≡ reads log l
+unfolding reads read_refusal first_unmet fields_in
+read_none log l e = rw (untold (of_form l) (fields_of (parts_in l)) e) refl

@@ -14,6 +14,8 @@ use Rattle.rules.proofs.Cases.{is_true, and_left, and_right, eqb_is, ltb-not, pi
 use Rattle.records.specs.Records.{zero_byte, unused_in, number_at, frame_in, send_in, record_of}
 use Rattle.records.specs.Made.{frame_record, tick_record, turn_record}
 use Rattle.records.specs.declared.record.Record.{Record}
+use Rattle.records.specs.declared.record.BadRecord.{BadRecord}
+use Rattle.std.specs.Prelude.{Result, Ok, Err}
 use Rattle.candump.specs.Reading.{padded}
 use Rattle.candump.specs.Files.{Bytes}
 use Rattle.candump.proofs.Fits.{split_off}
@@ -35,12 +37,12 @@ record TickTold (d : List ℕ) : Type 0 where
   kind : get_or d 0 0 ≡ 2
   rest : T (unused_in d 1 16)
 
-abbrev Told : List ℕ → Record → Type 0
-Told d Record.Bad = Unit {0}
-Told d (Record.Frame identifier long) = FrameTold d identifier long
-Told d Record.Tick = TickTold d
-Told d (Record.Send berth long first) = Unit {0}
-Told d Record.Turn = Unit {0}
+abbrev Told : List ℕ → Result Record BadRecord → Type 0
+Told d (Err bad) = Unit {0}
+Told d (Ok (Record.Frame identifier long)) = FrameTold d identifier long
+Told d (Ok Record.Tick) = TickTold d
+Told d (Ok (Record.Send berth long first)) = Unit {0}
+Told d (Ok Record.Turn) = Unit {0}
 
 module _ (d : List ℕ) (sixteen : length d ≡ 16) where
   frame-told : get_or d 0 0 ≡ 1 → Told d (frame_in d)
@@ -82,14 +84,12 @@ told d =
 -- ---- bytes that are zero
 
 zeros-are : (l : List ℕ) → T (each zero_byte l) → l ≡ replicate (length l) 0
-unfolding each
 zeros-are [] t = refl
 zeros-are (x ∷ l) t =
     let e : x ≡ 0 = eqb_yes (and_left (zero_byte x) (each zero_byte l) t) in
     rw e (ap (λ (r : List ℕ). 0 ∷ r) (zeros-are l (and_right (zero_byte x) (each zero_byte l) t)))
 
 are-zeros : (n : ℕ) → T (each zero_byte (replicate n 0))
-unfolding each
 are-zeros zero = tt
 are-zeros (suc n) = are-zeros n
 
@@ -139,12 +139,12 @@ module _ (d : List ℕ) (identifier long : ℕ) (small : Bytes d) where
       (l, rw (l, high, low) (cc (f.kind, f.count)))
 
 -- WHERE A RECORD IS READ AS A FRAME it is the record of that frame, byte for byte, with zeros behind its data.
-pub frame_back : (d : List ℕ) (identifier long : ℕ) → Bytes d → record_of d ≡ Record.Frame identifier long
+pub frame_back : (d : List ℕ) (identifier long : ℕ) → Bytes d → record_of d ≡ Ok (Record.Frame identifier long)
     → (long ≤ 8) × ((length (take long (drop 8 d)) ≡ long) × (d ≡ frame_record identifier long (padded (take long (drop 8 d)))))
 frame_back d identifier long small e = let f : FrameTold d identifier long = rw e at (told d) in (f.few, frame-parts d identifier long small f)
 
 -- AND A TICK'S RECORD is that of a tick.
-pub tick-back : (d : List ℕ) → record_of d ≡ Record.Tick → d ≡ tick_record
+pub tick-back : (d : List ℕ) → record_of d ≡ Ok Record.Tick → d ≡ tick_record
 tick-back d e =
     let t : TickTold d = rw e at (told d) in
     let s = t.sixteen in
@@ -154,8 +154,8 @@ tick-back d e =
 
 -- A RECORD THAT IS MADE of a frame is read as that frame.
 pub frame-there : (identifier : ℕ) (bytes : List ℕ) → identifier < 65536 → length bytes ≤ 8
-    → record_of (frame_record identifier (length bytes) (padded bytes)) ≡ Record.Frame identifier (length bytes)
-unfolding record_of frame_record padded frame_in unused_in number_at each
+    → record_of (frame_record identifier (length bytes) (padded bytes)) ≡ Ok (Record.Frame identifier (length bytes))
+unfolding record_of frame_record padded frame_in unused_in number_at
 frame-there identifier bytes low few =
     let zeros : List ℕ = replicate (8 - length bytes) 0 in
     let front : List ℕ = 1 ∷ 0 ∷ identifier / 256 % 256 ∷ identifier % 256 ∷ length bytes ∷ 0 ∷ 0 ∷ 0 ∷ [] in
@@ -172,10 +172,10 @@ frame-there identifier bytes low few =
       number,
     )
 
-pub tick-there : record_of tick_record ≡ Record.Tick
-unfolding record_of unused_in each
+pub tick-there : record_of tick_record ≡ Ok Record.Tick
+unfolding record_of unused_in
 tick-there = refl
 
-pub turn-there : record_of turn_record ≡ Record.Turn
-unfolding record_of unused_in each
+pub turn-there : record_of turn_record ≡ Ok Record.Turn
+unfolding record_of unused_in
 turn-there = refl

@@ -2,10 +2,11 @@
 use mathlib.Core.Path.{◌≡◌, refl, sym, ap, ◌∙◌}
 use Prim.Native.Nat.{ℕ, suc, ◌+◌, ◌≤◌, ◌<◌}
 use native.Mathlib.Omega.{arith}
-use mathlib.Core.Bool.{Bool, true, false, not}
+use mathlib.Core.Bool.{Bool, true, false, not, cond}
+use Rattle.std.specs.List.{prefix_len}
 use mathlib.Core.List.{List, [], ◌∷◌, ◌++◌}
-use lib.ListN.{length, get_or, take, drop, drop_of_length-le, get_or-eq_default}
-use lib.Seq.{drop-cons, take-length, get_or-take, get_or-drop, length-take-le}
+use lib.ListN.{length, get_or, take, drop, get_or-eq_default}
+use lib.Seq.{take-length, get_or-take, get_or-drop, length-take-le}
 use lib.Dec.{T, eqb}
 use mir.Facts.{eqb_yes, yes_and}
 use Rattle.rules.specs.Tests.{pick, each}
@@ -25,7 +26,7 @@ module _ (class : Class) where
 
   -- each byte of the span is of the class
   pub span-each : (l : List ℕ) → T (each (is_of class) (take (span class l) l))
-  unfolding span each
+  unfolding span
   span-each [] = tt
   span-each (b ∷ l) = go (test-cases (is_of class b)) (span-each l)
     where
@@ -47,7 +48,7 @@ module _ (class : Class) where
 
   -- bytes of the class end at one that is not of it
   pub span-ends : (xs : List ℕ) (b : ℕ) (ys : List ℕ) → T (each (is_of class) xs) → is_of class b ≡ false → span class (xs ++ b ∷ ys) ≡ length xs
-  unfolding span each
+  unfolding span
   span-ends [] b ys t e = rw e
   span-ends (x ∷ xs) b ys t e =
       let h : is_of class x ≡ true = is_true (is_of class x) (and_left (is_of class x) (each (is_of class) xs) t) in
@@ -55,7 +56,7 @@ module _ (class : Class) where
 
   -- all bytes are of the class just where the span is the whole
   pub span-whole : (xs : List ℕ) → T (each (is_of class) xs) → span class xs ≡ length xs
-  unfolding span each
+  unfolding span
   span-whole [] t = refl
   span-whole (x ∷ xs) t =
       let h : is_of class x ≡ true = is_true (is_of class x) (and_left (is_of class x) (each (is_of class) xs) t) in
@@ -82,19 +83,17 @@ module _ (class : Class) where
   pub span-at-drop : (l : List ℕ) (from i : ℕ) → i < span class (drop from l) → is_of class (get_or l (from + i) 0) ≡ true
   span-at-drop l from i h = rw (get_or-drop from l i 0) at (span-at (drop from l) i h)
 
-  -- from a place on
-  pub span-on : (l : List ℕ) (i : ℕ) → i < length l → is_of class (get_or l i 0) ≡ true → span class (drop i l) ≡ suc (span class (drop (suc i) l))
-  span-on l i h e = ap (span class) (drop-cons l i 0 h) ∙ span_more (get_or l i 0) (drop (suc i) l) e
-
-  pub span-off : (l : List ℕ) (i : ℕ) → i < length l → is_of class (get_or l i 0) ≡ false → span class (drop i l) ≡ 0
-  span-off l i h e = ap (span class) (drop-cons l i 0 h) ∙ span_none (get_or l i 0) (drop (suc i) l) e
-
-  pub span-past : (l : List ℕ) (i : ℕ) → length l ≤ i → span class (drop i l) ≡ 0
+  -- std's word for it
+  pub prefix-span : (l : List ℕ) → prefix_len (is_of class) l ≡ span class l
   unfolding span
-  span-past l i h = rw (drop_of_length-le l h)
+  prefix-span [] = refl
+  prefix-span (b ∷ l) = go (is_of class b) (prefix-span l)
+    where
+      go : (t : Bool) → prefix_len (is_of class) l ≡ span class l → cond t (1 + prefix_len (is_of class) l) 0 ≡ pick t (suc (span class l)) 0
+      go true e = omega (arith, e)
+      go false e = refl
 
 pub each_append : (f : ℕ → Bool) (xs ys : List ℕ) → T (each f xs) → T (each f ys) → T (each f (xs ++ ys))
-unfolding each
 each_append f [] ys t u = u
 each_append f (x ∷ xs) ys t u = yes_and (f x) (each f (xs ++ ys)) (and_left (f x) (each f xs) t) (each_append f xs ys (and_right (f x) (each f xs) t) u)
 
@@ -106,3 +105,7 @@ stands_at l at b e = eqb_yes (yes_of e)
 pub stands-within : (l : List ℕ) (at b : ℕ) → stands l at b ≡ true → 0 < b → at < length l
 stands-within l at b e h =
     split (length l) at (λ k. absurd (omega (arith, sym (stands_at l at b e) ∙ get_or-eq_default l 0 k))) (λ k. k)
+
+pub stands_beyond : (l : List ℕ) (at b : ℕ) → length l ≤ at → 0 < b → stands l at b ≡ false
+unfolding stands
+stands_beyond l at b k h = rw (get_or-eq_default l 0 k) (eqb-not 0 b (λ e. omega (arith, e)))

@@ -11,14 +11,15 @@ use lib.Dec.{T, leb, ltb, eqb}
 use mir.Facts.{leb_yes, ltb_yes}
 use Rattle.rules.specs.Tests.{pick, unless, first_unmet}
 use Rattle.rules.proofs.Cases.{Tested, holds, fails, eqb-cases, met, is_true, and_left, and_right, leb-is}
-use Rattle.records.specs.Records.{record_of}
+use Rattle.records.specs.Records.{bad, record_of}
 use Rattle.records.specs.Made.{frame_record, tick_record}
 use Rattle.records.specs.declared.record.Record.{Record}
 use Rattle.candump.specs.Lines.{most_identifier, line_of, is_name}
+use Rattle.std.specs.Prelude.{Option, Ok}
+use Rattle.candump.specs.declared.Log.{Log}
 use Rattle.candump.specs.Reading.{most_ticks, empty_log, log_of, padded, since_first, ticks_up_to, times_refusal}
 use Rattle.candump.specs.Writing.{eleven_digits, written_parts, writable, write_refusal, line_for, time_after, refused_record, written_record, writes}
 use Rattle.candump.specs.Files.{behind, joined, lines_in, records_of, read_lines, write_records, Bytes}
-use Rattle.candump.specs.declared.Log.{Log}
 use Rattle.candump.proofs.WrittenLines.{written-fits, written-refusal, written-reads}
 use Rattle.candump.proofs.Records.{frame_back}
 use Rattle.candump.proofs.Cuts.{line-in-front}
@@ -60,22 +61,22 @@ module _ (name : List ℕ) (m t : ℕ) (d : List ℕ) (ds : List (List ℕ)) whe
 -- ---- the time
 
 -- so many ticks are waiting at this time: where there was no line yet, or since the last one, up to the last time that is counted
-pub data Waits (t w : ℕ) : Log → Bool → Type 0 where
+pub data Waits (t w : ℕ) : Option Log → Bool → Type 0 where
   none_yet : Waits t w empty_log false
   since : {z p : ℕ} → z ≤ p → t ≡ min (p + 1000 * w) (2 ^ 64 - 1) → Waits t w (log_of z p) true
 
-pub tick-waits : {t w : ℕ} {log : Log} {begun : Bool} → Waits t w log begun → Waits (time_after t Record.Tick) (suc w) log begun
+pub tick-waits : {t w : ℕ} {log : Option Log} {begun : Bool} → Waits t w log begun → Waits (time_after t (Ok Record.Tick)) (suc w) log begun
 unfolding time_after
 tick-waits none_yet = none_yet
 tick-waits (since h e) = since h (omega arith)
 
 -- a frame's line is not refused for its time; just the ticks that were waiting are read, none before the first line; then none is waiting
-pub record Reads (t w : ℕ) (log : Log) (begun : Bool) : Type 0 where
+pub record Reads (t w : ℕ) (log : Option Log) (begun : Bool) : Type 0 where
   pub passes : times_refusal (since_first log t) t ≡ 0
   pub ticks : replicate (ticks_up_to (since_first log t) t) tick_record ≡ pick begun (replicate w tick_record) []
   pub next : Waits t 0 (log_of (since_first log t).first t) true
 
-pub frame-waits : {t w : ℕ} {log : Log} {begun : Bool} → Waits t w log begun → t < eleven_digits → T (pick begun (leb w most_ticks) true) → Reads t w log begun
+pub frame-waits : {t w : ℕ} {log : Option Log} {begun : Bool} → Waits t w log begun → t < eleven_digits → T (pick begun (leb w most_ticks) true) → Reads t w log begun
 unfolding times_refusal first_unmet since_first ticks_up_to
 frame-waits {t} {w} none_yet early few =
     let z : (t - t) / 1000 - (t - t) / 1000 ≡ 0 = omega arith in
@@ -84,7 +85,7 @@ frame-waits {t} {w} (since {z} {p} h e) early few =
     let k : (t - z) / 1000 - (p - z) / 1000 ≡ w = omega arith in
     record { passes = rw (leb-is p t (omega arith), k, is_true (leb w most_ticks) few); ticks = rw k; next = since {z = z} {p = t} (omega arith) (omega arith) }
 
-pub bad-unable : (t : ℕ) → T (writable t Record.Bad) → ⊥
+pub bad-unable : (t : ℕ) → T (writable t bad) → ⊥
 unfolding writable
 bad-unable t u = u
 
@@ -104,14 +105,14 @@ bytes_take (suc n) (b ∷ bs) (first, small) = (first, bytes_take n bs small)
 
 -- ---- a frame's line at the front is read as that frame with its ticks before it
 
-module _ (n : ℕ) (log : Log) (name : List ℕ) (t : ℕ) (d : List ℕ) (identifier long : ℕ) where
+module _ (n : ℕ) (log : Option Log) (name : List ℕ) (t : ℕ) (d : List ℕ) (identifier long : ℕ) where
   abbrev pub its_line : List ℕ
   its_line = line_of (written_parts t name identifier (take long (drop 8 d)))
 
   abbrev pub its_log : Log
   its_log = since_first log t
 
-  pub line_reads : record_of d ≡ Record.Frame identifier long → Bytes d → is_name name ≡ true → T (writable t (Record.Frame identifier long))
+  pub line_reads : record_of d ≡ Ok (Record.Frame identifier long) → Bytes d → is_name name ≡ true → T (writable t (Ok (Record.Frame identifier long)))
       → times_refusal its_log t ≡ 0 → (rest : List ℕ)
       → read_lines n log (lines_in (its_line ++ rest))
       ≡ behind (joined (replicate (ticks_up_to its_log t) tick_record) ++ d) (read_lines (suc n) (log_of its_log.first t) (lines_in rest))

@@ -12,11 +12,11 @@ use Rattle.rules.specs.Tests.{pick, unless, each, first_unmet}
 use Rattle.rules.proofs.Cases.{Tested, holds, fails, eqb-cases, yes_of}
 use Rattle.records.specs.Records.{record_of}
 use Rattle.candump.specs.Lines.{other_form, LF, is_name}
-use Rattle.candump.specs.Reading.{parts_in, of_form, fields_of, empty_log, read_refusal, refused_line, read_line, reads}
+use Rattle.std.specs.Prelude.{Option}
+use Rattle.candump.specs.declared.Log.{Log}
+use Rattle.candump.specs.Reading.{Line, parts_in, of_form, fields_of, empty_log, read_refusal, refused_line, read_line, reads}
 use Rattle.candump.specs.Writing.{writable, write_refusal, line_for, time_after, Wrote, refused_record, written_record, writes}
 use Rattle.candump.specs.Files.{Outcome, ended, stopped, behind, lines_in, records_of, read_lines, read_file, records_in, write_records, write_file}
-use Rattle.candump.specs.declared.Log.{Log}
-use Rattle.candump.specs.declared.LineRead.{LineRead}
 use Rattle.candump.proofs.Cuts.{unended-form, unended-line, lines-behind}
 use Rattle.candump.proofs.Steps.{writes-refused}
 
@@ -49,7 +49,7 @@ further front output refusal n k o e =
     ap (behind front) e ∙ ap (λ (m : ℕ). record { output = front ++ output; refused = refusal; number = m }) j
 
 -- READING STOPS AT THE FIRST REFUSED LINE: behind lines that are taken, its refusal and its number, whatever stands behind it.
-pub reading-stops : (n : ℕ) (log : Log) (ls : List (List ℕ)) (l : List ℕ) (rest : List (List ℕ)) (refusal : ℕ)
+pub reading-stops : (n : ℕ) (log : Option Log) (ls : List (List ℕ)) (l : List ℕ) (rest : List (List ℕ)) (refusal : ℕ)
     → (read_lines n log ls).refused ≡ 0 → (read_lines n log (ls ++ l ∷ [])).refused ≡ suc refusal
     → read_lines n log (ls ++ l ∷ rest) ≡ record { output = (read_lines n log ls).output; refused = suc refusal; number = n + length ls }
 unfolding read_lines
@@ -83,11 +83,11 @@ writing-stops name n t (x ∷ ds) d rest refusal none some =
 
 -- ---- a last line without LF
 
-other-refused : (log : Log) (l : List ℕ) → of_form l ≡ false → read_refusal log l ≡ other_form
+other-refused : (log : Option Log) (l : List ℕ) → of_form l ≡ false → read_refusal log l ≡ other_form
 unfolding read_refusal first_unmet
 other-refused log l e = rw e
 
-then-refused : (n : ℕ) (log : Log) (ls : List (List ℕ)) (l : List ℕ) → of_form l ≡ false → (read_lines n log ls).refused ≡ 0
+then-refused : (n : ℕ) (log : Option Log) (ls : List (List ℕ)) (l : List ℕ) → of_form l ≡ false → (read_lines n log ls).refused ≡ 0
     → (read_lines n log (ls ++ l ∷ [])).refused ≡ other_form
 unfolding read_lines
 then-refused n log [] l other none = rw (other-refused log l other)
@@ -107,13 +107,13 @@ unended-refused file b bs e none =
 
 -- ---- a refusal leaves what was lent
 
-log-left : (log : Log) (done : LineRead) (n refusal : ℕ) → done.refused ≡ 0 → (unless n (refused_line log) done).refused ≡ suc refusal
+log-left : (log : Option Log) (done : Line) (n refusal : ℕ) → done.refused ≡ 0 → (unless n (refused_line log) done).refused ≡ suc refusal
     → (unless n (refused_line log) done).log ≡ log
 log-left log done zero refusal z e = absurd (omega arith)
 log-left log done (suc n) refusal z e = refl
 
 -- A REFUSED LINE LEAVES THE LOG.
-pub refused-leaves-log : (log : Log) (l : List ℕ) (refusal : ℕ) → (reads log l).refused ≡ suc refusal → (reads log l).log ≡ log
+pub refused-leaves-log : (log : Option Log) (l : List ℕ) (refusal : ℕ) → (reads log l).refused ≡ suc refusal → (reads log l).log ≡ log
 unfolding reads read_line
 refused-leaves-log log l refusal e = log-left log (read_line log (fields_of (parts_in l))) (read_refusal log l) refusal refl e
 

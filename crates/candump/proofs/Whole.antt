@@ -13,11 +13,13 @@ use Rattle.rules.proofs.Cases.{is_true, yes_of, and_left, and_right}
 use Rattle.records.specs.Records.{record_of}
 use Rattle.records.specs.Made.{tick_record}
 use Rattle.records.specs.declared.record.Record.{Record}
+use Rattle.records.specs.declared.record.BadRecord.{BadRecord}
 use Rattle.candump.specs.Lines.{most_identifier, other_form, is_name}
+use Rattle.std.specs.Prelude.{Option, Result, Ok, Err}
+use Rattle.candump.specs.declared.Log.{Log}
 use Rattle.candump.specs.Reading.{most_ticks, empty_log, log_of, since_first}
 use Rattle.candump.specs.Writing.{eleven_digits, writable, line_for, time_after}
 use Rattle.candump.specs.Files.{Outcome, stopped, joined, lines_in, read_lines, read_file, pieces, records_in, write_records, write_file, is_frame, is_tick, frames_from, frames_and_ticks, near_from, near, Bytes}
-use Rattle.candump.specs.declared.Log.{Log}
 use Rattle.candump.proofs.Steps.{Went, goes_on, Waits, none_yet, tick-waits, frame-waits, bad-unable, bytes_drop, bytes_take, line_reads}
 
 -- ---- records joined
@@ -39,10 +41,10 @@ given ds = record { output = joined ds; refused = 0; number = 0 }
 -- what is claimed of some records
 abbrev Back : List ℕ → List (List ℕ) → Type 0
 Back name ds =
-    (n m t w : ℕ) (log : Log) (begun : Bool) → Waits t w log begun → (write_records name m t ds).refused ≡ 0 → near_from begun w ds ≡ true
+    (n m t w : ℕ) (log : Option Log) (begun : Bool) → Waits t w log begun → (write_records name m t ds).refused ≡ 0 → near_from begun w ds ≡ true
     → read_lines n log (lines_in (write_records name m t ds).output) ≡ given (frames_from begun w ds)
 
-module _ (name d : List ℕ) (ds : List (List ℕ)) (ih : Back name ds) (n m t w : ℕ) (log : Log) (begun : Bool) (on : Went name m t d ds) where
+module _ (name d : List ℕ) (ds : List (List ℕ)) (ih : Back name ds) (n m t w : ℕ) (log : Option Log) (begun : Bool) (on : Went name m t d ds) where
   -- of a record without a line, behind which it is so late and so many ticks are waiting, nothing is read
   quiet : (later waiting : ℕ) → Waits later waiting log begun → write_records name m t (d ∷ ds) ≡ write_records name (suc m) later ds
       → frames_from begun w (d ∷ ds) ≡ frames_from begun waiting ds → near_from begun w (d ∷ ds) ≡ near_from begun waiting ds
@@ -55,22 +57,22 @@ module _ (name d : List ℕ) (ds : List (List ℕ)) (ih : Back name ds) (n m t w
     abbrev Goal : Type 0
     Goal = read_lines n log (lines_in (write_records name m t (d ∷ ds)).output) ≡ given (frames_from begun w (d ∷ ds))
 
-    tick-step : record_of d ≡ Record.Tick → Goal
+    tick-step : record_of d ≡ Ok Record.Tick → Goal
     unfolding frames_from near_from is_frame is_tick line_for
-    tick-step is = quiet (time_after t Record.Tick) (suc w) (tick-waits s) (rw is at on.on) (rw is) (rw is) none close
+    tick-step is = quiet (time_after t (Ok Record.Tick)) (suc w) (tick-waits s) (rw is at on.on) (rw is) (rw is) none close
 
-    send-step : (berth long first : ℕ) → record_of d ≡ Record.Send berth long first → Goal
+    send-step : (berth long first : ℕ) → record_of d ≡ Ok (Record.Send berth long first) → Goal
     unfolding frames_from near_from is_frame is_tick line_for time_after
     send-step berth long first is = quiet t w s (rw is at on.on) (rw is) (rw is) none close
 
-    turn_step : record_of d ≡ Record.Turn → Goal
+    turn_step : record_of d ≡ Ok Record.Turn → Goal
     unfolding frames_from near_from is_frame is_tick line_for time_after
     turn_step is = quiet t w s (rw is at on.on) (rw is) (rw is) none close
 
-    frame_step : (identifier long : ℕ) → record_of d ≡ Record.Frame identifier long → Bytes d → Goal
+    frame_step : (identifier long : ℕ) → record_of d ≡ Ok (Record.Frame identifier long) → Bytes d → Goal
     unfolding frames_from near_from is_frame line_for time_after writable
     frame_step identifier long is small =
-        let able : T (writable t (Record.Frame identifier long)) = rw is at on.able in
+        let able : T (writable t (Ok (Record.Frame identifier long))) = rw is at on.able in
         let early : t < eleven_digits = ltb_yes (and_right (leb identifier most_identifier) (ltb t eleven_digits) able) in
         let near-all = yes_of (rw is at close) in
         let few = and_left (pick begun (leb w most_ticks) true) (near_from true 0 ds) near-all in
@@ -87,12 +89,12 @@ module _ (name d : List ℕ) (ds : List (List ℕ)) (ih : Back name ds) (n m t w
     one-step : Bytes d → Goal
     one-step small = go (record_of d) refl
       where
-        go : (r : Record) → record_of d ≡ r → Goal
-        go Record.Bad is = absurd (bad-unable t (rw is at on.able))
-        go (Record.Frame identifier long) is = frame_step identifier long is small
-        go Record.Tick is = tick-step is
-        go (Record.Send berth long first) is = send-step berth long first is
-        go Record.Turn is = turn_step is
+        go : (r : Result Record BadRecord) → record_of d ≡ r → Goal
+        go (Err bad) is = absurd (bad-unable t (rw is at on.able))
+        go (Ok (Record.Frame identifier long)) is = frame_step identifier long is small
+        go (Ok Record.Tick) is = tick-step is
+        go (Ok (Record.Send berth long first)) is = send-step berth long first is
+        go (Ok Record.Turn) is = turn_step is
 
 -- ---- all records
 

@@ -1,14 +1,14 @@
--- Paper 02, W10: whole files. A log's lines read one after the other, and records written one after the other, up to the first refusal.
-use Rattle.std.specs.Prelude.{ℕ, zero, suc, ◌+◌, ◌/◌, ◌<◌, Bool, true, false, ◌&&◌, List, [], ◌∷◌, ◌++◌, length, take, drop, replicate, leb, eqb}
+-- Whole files. A log's lines read one after the other, and records written one after the other, up to the first refusal.
+use Rattle.std.specs.Prelude.{Option, ℕ, zero, suc, ◌+◌, ◌/◌, ◌<◌, Bool, true, false, ◌&&◌, List, [], ◌∷◌, ◌++◌, length, take, drop, replicate, leb, eqb, Result, Ok, Err}
 use Rattle.rules.specs.Tests.{pick}
 use Rattle.records.specs.Records.{record_of}
 use Rattle.records.specs.Made.{tick_record}
 use Rattle.records.specs.declared.record.Record.{Record}
+use Rattle.records.specs.declared.record.BadRecord.{BadRecord}
 use Rattle.candump.specs.Lines.{other_form, LF, is_name}
-use Rattle.candump.specs.Reading.{most_ticks, empty_log, read_refusal, reads}
-use Rattle.candump.specs.Writing.{writes}
 use Rattle.candump.specs.declared.Log.{Log}
-use Rattle.candump.specs.declared.LineRead.{LineRead}
+use Rattle.candump.specs.Reading.{Line, most_ticks, empty_log, read_refusal, reads}
+use Rattle.candump.specs.Writing.{writes}
 
 -- ---- what comes of a file: what is put out, and the refusal that ended it, with the number of its line or record; 0 and 0 if none did, and the
 -- number 0 too where the name was refused
@@ -48,11 +48,11 @@ lines_in [] = []
 lines_in (b ∷ bs) = pick (eqb b LF) ((b ∷ []) ∷ lines_in bs) (in_front b (lines_in bs))
 
 -- the records of a line: its ticks, and its frame
-unfoldable pub records_of : LineRead → List ℕ
+unfoldable pub records_of : Line → List ℕ
 records_of r = joined (replicate r.ticks tick_record) ++ r.bytes
 
 -- lines from this number on
-unfoldable pub read_lines : ℕ → Log → List (List ℕ) → Outcome
+unfoldable pub read_lines : ℕ → Option Log → List (List ℕ) → Outcome
 read_lines n log [] = ended
 read_lines n log (l ∷ ls) =
     pick (eqb (read_refusal log l) 0) (behind (records_of (reads log l)) (read_lines (suc n) (reads log l).log ls)) (stopped (read_refusal log l) n)
@@ -87,19 +87,19 @@ write_file name file = pick (is_name name) (write_records name 1 0 (records_in f
 -- ---- the law's words
 
 -- a frame or a tick, or neither
-unfoldable pub is_frame : Record → Bool
-is_frame Record.Bad = false
-is_frame (Record.Frame identifier long) = true
-is_frame Record.Tick = false
-is_frame (Record.Send berth long first) = false
-is_frame Record.Turn = false
+unfoldable pub is_frame : Result Record BadRecord → Bool
+is_frame (Err bad) = false
+is_frame (Ok (Record.Frame identifier long)) = true
+is_frame (Ok Record.Tick) = false
+is_frame (Ok (Record.Send berth long first)) = false
+is_frame (Ok Record.Turn) = false
 
-unfoldable pub is_tick : Record → Bool
-is_tick Record.Bad = false
-is_tick (Record.Frame identifier long) = false
-is_tick Record.Tick = true
-is_tick (Record.Send berth long first) = false
-is_tick Record.Turn = false
+unfoldable pub is_tick : Result Record BadRecord → Bool
+is_tick (Err bad) = false
+is_tick (Ok (Record.Frame identifier long)) = false
+is_tick (Ok Record.Tick) = true
+is_tick (Ok (Record.Send berth long first)) = false
+is_tick (Ok Record.Turn) = false
 
 -- the frames and the ticks between them: those before the first frame and behind the last are left out. So many ticks wait for the next frame,
 -- and there was a frame before them or not

@@ -1,14 +1,16 @@
--- Paper 02, W10: reading a line. Where its parts stand, whether it is of the form (`form-is-line`: just where it is the line of parts
+-- Reading a line. Where its parts stand, whether it is of the form (`form-is-line`: just where it is the line of parts
 -- that fit), and its record with the ticks before it.
-use Rattle.std.specs.Prelude.{ℕ, ◌+◌, ◌-◌, ◌/◌, ◌%◌, Bool, true, false, ◌&&◌, List, [], ◌∷◌, ◌++◌, length, take, drop, replicate, leb, eqb}
-use Rattle.rules.specs.Tests.{pick, unless, Need, need, first_unmet}
+use Rattle.std.specs.Prelude.{ℕ, ◌+◌, ◌-◌, ◌/◌, ◌%◌, Bool, ◌&&◌, List, [], ◌∷◌, ◌++◌, length, take, drop, replicate, leb, eqb, Option, Some, None, unwrap_or, Result, Ok, Err}
+use Rattle.std.specs.Bool.{then_some}
+use Rattle.rules.specs.Tests.{unless, Need, need, first_unmet}
 use Rattle.records.specs.Made.{frame_record}
 use Rattle.candump.specs.Digits.{between, span, stands, number_of}
-use Rattle.candump.specs.Lines.{Parts, most_seconds, decimal_digits, most_name, identifier_digits, most_identifier, most_data_digits, other_form, earlier, too_far, opens, closes, dot, hash, space, LF, time_of, identifier_of, data_of}
+use Rattle.candump.specs.Lines.{Parts, most_seconds, decimal_digits, most_name, identifier_digits, most_identifier, most_data_digits, other_form, earlier, too_far, opens, closes, dot, hash, space, LF, error_number, time_of, identifier_of, data_of}
 use Rattle.candump.specs.declared.digits.Class.{Class}
 use Rattle.candump.specs.declared.form.Fields.{Fields}
 use Rattle.candump.specs.declared.Log.{Log}
 use Rattle.candump.specs.declared.LineRead.{LineRead}
+use Rattle.candump.specs.declared.LogError.{LogError}
 
 -- ---- where the parts stand
 
@@ -86,22 +88,18 @@ of_form l = time_form l && (name_form (from_name l) && (identifier_form (from_id
 unfoldable pub padded : List ℕ → List ℕ
 padded bytes = bytes ++ replicate (8 - length bytes) 0
 
-unfoldable pub no_fields : Fields
-no_fields = record { good = false; time = 0; identifier = 0; count = 0; bytes = replicate 8 0 }
-
 unfoldable pub fields_of : Parts → Fields
 fields_of p =
     record {
-      good = true;
       time = time_of p;
       identifier = identifier_of p;
       count = length (data_of p);
       bytes = padded (data_of p);
     }
 
--- a line of another form says nothing
-unfoldable pub fields_in : List ℕ → Fields
-fields_in l = pick (of_form l) (fields_of (parts_in l)) no_fields
+-- one of another form says nothing
+unfoldable pub fields_in : List ℕ → Option Fields
+fields_in l = then_some (of_form l) (fields_of (parts_in l))
 
 -- ---- the ticks before it
 
@@ -112,40 +110,48 @@ millisecond = 1000
 abbrev pub most_ticks : ℕ
 most_ticks = 60000
 
-abbrev pub empty_log : Log
-empty_log = record { begun = false; first = 0; last = 0 }
+-- before its first line
+abbrev pub empty_log : Option Log
+empty_log = None
 
-abbrev pub log_of : ℕ → ℕ → Log
-log_of first last = record { begun = true; first = first; last = last }
+abbrev pub log_of : ℕ → ℕ → Option Log
+log_of first last = Some (record { first = first; last = last })
 
 -- where there was no line yet, this one is the first
-unfoldable pub since_first : Log → ℕ → Log
-since_first log t = pick log.begun log (log_of t t)
+unfoldable pub since_first : Option Log → ℕ → Log
+since_first log t = unwrap_or log (record { first = t; last = t })
 
 -- for times t of this line, p of the line before and z of the first, (t - z) / 1 ms - (p - z) / 1 ms, both rounded down
 unfoldable pub ticks_up_to : Log → ℕ → ℕ
-ticks_up_to log t = (t - log.first) / millisecond - (log.last - log.first) / millisecond
+ticks_up_to since t = (t - since.first) / millisecond - (since.last - since.first) / millisecond
 
 -- ---- the call: 19, then 20, then 21; a refusal leaves the log
 
 -- no time is earlier than that of the line before, and no two neighbouring lines are over 60,000 ticks apart
 abbrev pub times_needs : Log → ℕ → List Need
-times_needs log t = need earlier (leb log.last t) ∷ need too_far (leb (ticks_up_to log t) most_ticks) ∷ []
+times_needs since t = need earlier (leb since.last t) ∷ need too_far (leb (ticks_up_to since t) most_ticks) ∷ []
 
 -- 20, then 21
 unfoldable pub times_refusal : Log → ℕ → ℕ
-times_refusal log t = first_unmet (times_needs log t)
+times_refusal since t = first_unmet (times_needs since t)
 
 -- 19 before both, held against the log from its first line on
-unfoldable pub read_refusal : Log → List ℕ → ℕ
+unfoldable pub read_refusal : Option Log → List ℕ → ℕ
 read_refusal log l =
     first_unmet (need other_form (of_form l) ∷ times_needs (since_first log (time_of (parts_in l))) (time_of (parts_in l)))
 
-abbrev pub refused_line : Log → ℕ → LineRead
+-- what is answered: the refusal, else the ticks and the record; and the log behind it
+pub record Line : Type 0 where
+  pub refused : ℕ
+  pub ticks : ℕ
+  pub bytes : List ℕ
+  pub log : Option Log
+
+abbrev pub refused_line : Option Log → ℕ → Line
 refused_line log n = record { refused = n; ticks = 0; bytes = replicate 16 0; log = log }
 
 -- the record of kind 1 and the ticks before it; the next line is held against this one
-unfoldable pub read_line : Log → Fields → LineRead
+unfoldable pub read_line : Option Log → Fields → Line
 read_line log f =
     record {
       refused = 0;
@@ -155,5 +161,10 @@ read_line log f =
     }
 
 -- reading a line: refused, or its record and the ticks before it
-unfoldable pub reads : Log → List ℕ → LineRead
+unfoldable pub reads : Option Log → List ℕ → Line
 reads log l = unless (read_refusal log l) (refused_line log) (read_line log (fields_of (parts_in l)))
+
+-- as the code answers it: an error leaves the log
+unfoldable pub line_said : Option Log → Result LineRead LogError → Line
+line_said log (Ok r) = record { refused = 0; ticks = r.ticks; bytes = r.bytes; log = Some r.log }
+line_said log (Err e) = refused_line log (error_number e)

@@ -1,17 +1,16 @@
 -- What the turns put out, and where they stop, is what the log's rules say of the whole list: each turn does what they say of one line or
 -- record, and the number is one more each time as long as it fits.
-use Rattle.std.proofs.Common.{◌≡◌, ℕ, zero, suc, ◌+◌, ◌%◌, ◌^◌, ◌<◌, Bool, true, false, eqb, List, [], ◌∷◌, ◌++◌, map, length, replicate, refl, ap, ◌∙◌, append-nil, mod-eq_of_lt, arith}
+use Rattle.std.proofs.Common.{◌≡◌, ℕ, zero, suc, ◌+◌, ◌%◌, ◌^◌, ◌<◌, Bool, true, false, eqb, List, [], ◌∷◌, ◌++◌, map, length, replicate, refl, ap, ◌∙◌, append-nil, mod-eq_of_lt, arith, Option}
 use mathlib.Core.List.{map-append}
 use Rattle.rules.specs.Tests.{pick, unless, first_unmet}
 use Rattle.records.specs.Made.{frame_record, tick_record, turn_record}
 use Rattle.candump.specs.Digits.{between, is_digit, is_hex, is_letter, is_of, span, stands, digit_value, number_after, bytes_of}
-use Rattle.candump.specs.Reading.{seconds_count, parts_in, time_form, name_form, identifier_form, data_form, of_form, padded, fields_of, empty_log, since_first, ticks_up_to, times_refusal, read_refusal, refused_line, read_line, reads}
+use Rattle.candump.specs.Reading.{Line, seconds_count, parts_in, time_form, name_form, identifier_form, data_form, of_form, padded, fields_of, empty_log, since_first, ticks_up_to, times_refusal, read_refusal, refused_line, read_line, reads}
 use Rattle.candump.specs.Writing.{writes}
 use Rattle.candump.proofs.Whole.{joined-append}
 use Rattle.candump.specs.Files.{Outcome, stopped, behind, joined, records_of, read_lines, write_records}
 use Rattle.candump.specs.declared.Log.{Log}
-use Rattle.candump.specs.declared.LineRead.{LineRead}
-use Rattle.candump_converter.specs.declared.Way.{Way}
+use Rattle.candump_converter.specs.declared.asked.Way.{Way}
 use Rattle.candump_converter.specs.Pieces.{with_turn, line_records}
 use Rattle.candump_converter.specs.Turns.{line_step, record_step, step_for, after}
 use Rattle.candump_converter.specs.Files.{outcome, records_read, read_with}
@@ -19,11 +18,11 @@ use Rattle.candump_converter.specs.Files.{outcome, records_read, read_with}
 next-number : (n k : ℕ) → n + suc k < 2 ^ 64 → after n ≡ suc n
 next-number n k few = let e : (n + 1) % 2 ^ 64 ≡ n + 1 = mod-eq_of_lt (omega arith) in e ∙ omega arith
 
-refusal_is : (n : ℕ) (log : Log) (r : LineRead) → r.refused ≡ 0 → (unless n (refused_line log) r).refused ≡ n
+refusal_is : (n : ℕ) (log : Option Log) (r : Line) → r.refused ≡ 0 → (unless n (refused_line log) r).refused ≡ n
 refusal_is zero log r e = e
 refusal_is (suc n) log r e = refl
 
-read-refused : (log : Log) (l : List ℕ) → (reads log l).refused ≡ read_refusal log l
+pub read-refused : (log : Option Log) (l : List ℕ) → (reads log l).refused ≡ read_refusal log l
 unfolding reads read_line
 read-refused log l = refusal_is (read_refusal log l) log _ refl
 
@@ -51,27 +50,27 @@ module _ (turns : Bool) (ds es : List (List ℕ)) (n : ℕ) (front : List ℕ) (
   line-then : (r refused : ℕ) → r ≡ refused → goes (eqb r 0) r ≡ says (eqb refused 0) refused
   line-then r refused e = rw e (line-goes (eqb refused 0) refused)
 
-pub reads-with : (turns : Bool) (name : List ℕ) (n : ℕ) (log : Log) (t : ℕ) (ls : List (List ℕ)) → n + length ls < 2 ^ 64
+pub reads-with : (turns : Bool) (name : List ℕ) (n : ℕ) (log : Option Log) (t : ℕ) (ls : List (List ℕ)) → n + length ls < 2 ^ 64
     → outcome (Way.Read turns) name n log t ls ≡ read_with turns n log ls
 unfolding outcome read_with records_read read_lines joined step_for line_step
 reads-with turns name n log t [] few = refl
 reads-with turns name n log t (l ∷ ls) few =
-    let r : LineRead = reads log l in
+    let r : Line = reads log l in
     rw (next-number n (length ls) few, reads-with turns name (suc n) r.log t ls (omega arith))
     (line-then turns (line_records r.ticks r.bytes) (records_read r.log ls) n (records_of r) (read_lines (suc n) r.log ls) r.refused (read_refusal log l) (read-refused log l))
 
 -- THE RECORDS OF THE LINES, one behind the other, are what the log's rules read.
-records-line : (r : LineRead) → joined (line_records r.ticks r.bytes) ≡ records_of r
+records-line : (r : Line) → joined (line_records r.ticks r.bytes) ≡ records_of r
 unfolding joined records_of
 records-line r = joined-append (replicate r.ticks tick_record) (r.bytes ∷ []) ∙ ap (λ (l : List ℕ). joined (replicate r.ticks tick_record) ++ l) (append-nil r.bytes)
 
-line_read : (go : Bool) (r : LineRead) (es : List (List ℕ)) (o : Outcome) (refused n : ℕ) → o.output ≡ joined es
+line_read : (go : Bool) (r : Line) (es : List (List ℕ)) (o : Outcome) (refused n : ℕ) → o.output ≡ joined es
     → (pick go (behind (records_of r) o) (stopped refused n)).output ≡ joined (pick go (line_records r.ticks r.bytes ++ es) [])
 unfolding joined
 line_read true r es o refused n e = rw (e, joined-append, records-line)
 line_read false r es o refused n e = refl
 
-pub records-read : (n : ℕ) (log : Log) (ls : List (List ℕ)) → (read_lines n log ls).output ≡ joined (records_read log ls)
+pub records-read : (n : ℕ) (log : Option Log) (ls : List (List ℕ)) → (read_lines n log ls).output ≡ joined (records_read log ls)
 unfolding read_lines records_read joined
 records-read n log [] = refl
 records-read n log (l ∷ ls) =
@@ -83,14 +82,14 @@ alone [] = refl
 alone (d ∷ ds) = ap (λ (l : List (List ℕ)). d ∷ l) (alone ds)
 
 -- READ WITHOUT TURNS, the lines are what the log's rules make of them.
-pub reads_lines : (name : List ℕ) (n : ℕ) (log : Log) (t : ℕ) (ls : List (List ℕ)) → n + length ls < 2 ^ 64
+pub reads_lines : (name : List ℕ) (n : ℕ) (log : Option Log) (t : ℕ) (ls : List (List ℕ)) → n + length ls < 2 ^ 64
     → outcome (Way.Read false) name n log t ls ≡ read_lines n log ls
 unfolding read_with
 reads_lines name n log t ls few = reads-with false name n log t ls few ∙ rw (alone, ← records-read n log ls)
 
 -- ---- WRITTEN, the records are what the log's rules make of them
 
-pub writes-records : (name : List ℕ) (n : ℕ) (log : Log) (t : ℕ) (ds : List (List ℕ)) → n + length ds < 2 ^ 64
+pub writes-records : (name : List ℕ) (n : ℕ) (log : Option Log) (t : ℕ) (ds : List (List ℕ)) → n + length ds < 2 ^ 64
     → outcome Way.Write name n log t ds ≡ write_records name n t ds
 unfolding outcome write_records joined step_for record_step
 writes-records name n log t [] few = refl

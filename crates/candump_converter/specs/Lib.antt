@@ -2,3 +2,5 @@
 pub mod Pieces
 pub mod Turns
 pub mod Files
+pub mod Lines
+pub mod Runs

@@ -1,5 +1,3 @@
--- Facts that the proofs of this crate's functions cite.
-pub mod Arms
-pub mod OneShow
-pub mod Ticking
-pub mod SetsUp
+-- What a call leaves and answers is what the rules say of it.
+mod Calls
+mod Frames

@@ -1,5 +1,5 @@
 -- What a test of a frame's length says where it held: so much of the frame is there.
-use Prim.Native.Nat.{ℕ, ◌+◌, ◌≤◌, ◌<◌}
+use Prim.Native.Nat.{ℕ, ◌+◌, ◌≤◌}
 use native.Mathlib.Omega.{arith}
 use mathlib.Core.Path.{◌≡◌}
 use mathlib.Core.Bool.{true, ◌&&◌, ◌||◌}
@@ -11,7 +11,6 @@ use mir.Facts.{leb_yes, eqb_yes}
 use Rattle.rules.specs.Numbers.{frame_size, single_most, consecutive_most, least_flow, short_most}
 use Rattle.rules.specs.Tests.{pick}
 use Rattle.rules.specs.Frames.{low, single_fits, first_fits, consecutive_fits, flow_fits, share, short_length, escape_length}
-use Rattle.rules.specs.Ranges.{BlockRange}
 use Rattle.rules.proofs.Cases.{yes_of, and_left, and_right, or_cases}
 
 pub share-most : (r : ℕ) → (share consecutive_most r ≤ r) × (share consecutive_most r ≤ consecutive_most)
@@ -50,7 +49,3 @@ consecutive-within r d e =
 pub flow-within : (d : List ℕ) → flow_fits d ≡ true → least_flow ≤ length d
 unfolding flow_fits
 flow-within d e = leb_yes (and_left (leb least_flow (length d)) (leb (length d) frame_size) (yes_of e))
-
--- one more frame in a block still fits a byte
-pub counts : {block n : ℕ} → BlockRange block n → block < 256 → n + 1 < 256
-counts r h = ⊎_elim (λ l. omega arith) (λ z. omega arith) r

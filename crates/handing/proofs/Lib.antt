@@ -1,2 +1,2 @@
--- Facts that the proofs of this crate's functions cite.
-pub mod Arms
+pub mod RuleSets
+pub mod Turning

@@ -1,2 +1,3 @@
--- Facts that the proofs of this crate's functions cite.
-pub mod Arms
+-- Facts that the checks of several functions cite.
+pub mod Put
+pub mod RuleSets

@@ -1,81 +1,51 @@
-// A frame for one berth, where the node and the cards lie: one side is read, a part is called over it (crate sides), the side is stored
-// back, and what the answer counts is counted. The call has made its tests (crate carumpek), so these may require what they found.
+//! A frame for one berth, where the node, the cards and the store lie: the berth takes it, and what it did is counted on the berth's card.
+//! The call has made its tests, so this may require what they found.
 #![tactic(auto)]
 
-ghost use Rattle.std.specs.Prelude.{◌≡◌, true, false, List, ℕ};
-ghost use Rattle.arrivals.specs.Reading.{is_flow};
-ghost use Rattle.sides.specs.Parts.{Arriving};
-ghost use Rattle.cards.specs.Counting.{answer_added};
-ghost use Rattle.rules.specs.declared.Card.{Card};
-ghost use Rattle.node.specs.Promises.{FramePromise};
+ghost use Rattle.std.specs.Prelude.{◌≡◌, Ok, ◌*◌, length};
+ghost use Rattle.rules.specs.Numbers.{berth_count};
+ghost use Rattle.rules.specs.Nodes.{berth_at, with_berth};
+ghost use Rattle.rules.specs.Ranges.{AreaRange, BerthRange};
+ghost use Rattle.rules.specs.Stores.{stored};
+ghost use Rattle.rules.specs.Cards.{added_at, is_single, frame_adds};
+ghost use Rattle.rules.specs.Answers.{heard, frame_says};
+ghost use Rattle.hearing.specs.Frames.{came};
 
-use rules::{Card, FrameAnswer, Node};
+use arrivals::Arrival;
+use rules::{BerthNumber, Card, Heard, Node};
 
-// Flow control for the berth at a place: it touches the send side.
-fn tell(node: &mut Node, at: usize, payload: &[u8]) -> FrameAnswer
-    requires { (is_flow payload.now ≡ true) × ((cards : List Card) × ((id : ℕ) × ((incoming : List ℕ) × Arriving node.old cards id at incoming payload.now))) }
-    ensures { (cards : List Card) (id : ℕ) (incoming : List ℕ) → Arriving node.old cards id at incoming payload.now → FramePromise node.old cards incoming id payload.now result node.new (answer_added cards at payload.now result) incoming }
-{
-    let tx = node.berths[at].tx;
-    let told = sides::told(at, tx, payload);
-    berths::put::tx(&mut *node, at, told.tx);
-    told.answer
-}
-
-// Any other frame: it touches the receive side, and one that is ignored not even that. No data is the first reason to ignore it.
-fn hear(node: &mut Node, at: usize, incoming: &mut [u8], payload: &[u8]) -> FrameAnswer
-    requires { (is_flow payload.now ≡ false) × ((cards : List Card) × ((id : ℕ) × Arriving node.old cards id at incoming.old payload.now)) }
-    ensures { (cards : List Card) (id : ℕ) → Arriving node.old cards id at incoming.old payload.now → FramePromise node.old cards incoming.old id payload.now result node.new (answer_added cards at payload.now result) incoming.new }
-{
-    if payload.len() == 0 {
-        return sides::ignored(at, rules::NO_DATA);
-    }
-    let rx = node.berths[at].rx;
-    let why = arrivals::why_ignored(rx, payload);
-    if why != 0 {
-        return sides::ignored(at, why);
-    }
-    let own = node.berths[at].settings;
-    let last = node.berths[at].last;
-    let heard = sides::heard(node.settings, own, at, rx, last, incoming, payload);
-    berths::put::rx(&mut *node, at, heard.rx, heard.last);
-    heard.answer
-}
-
-// Either of the two. Of cards they know nothing: their promise is of every list, with what the answer adds.
-fn came(node: &mut Node, at: usize, incoming: &mut [u8], payload: &[u8]) -> FrameAnswer
-    requires { (cards : List Card) × ((id : ℕ) × Arriving node.old cards id at incoming.old payload.now) }
-    ensures { (cards : List Card) (id : ℕ) → Arriving node.old cards id at incoming.old payload.now → FramePromise node.old cards incoming.old id payload.now result node.new (answer_added cards at payload.now result) incoming.new }
-{
-    if arrivals::is_flow(payload) {
-        return tell(&mut *node, at, payload);
-    }
-    hear(&mut *node, at, incoming, payload)
-}
-
-// A frame for the berth at a place, and what its answer counts on the berth's card. Most answers count nothing, and then no card is
-// touched.
+/// A frame for a berth of a node in order.
+// Casts widen, or are proved to fit: `try_from` would add an error that cannot come.
+#[tactic(auto, using(crate::proofs::RuleSets::arrived_steps), unfolding(rules::specs::Nodes::berth_at, rules::specs::Nodes::with_berth, rules::specs::Cards::added_at, rules::specs::Cards::card_at, rules::specs::Answers::frame_says))]
 pub fn arrived(
     node: &mut Node,
     cards: &mut [Card],
-    at: usize,
+    berth: BerthNumber,
     incoming: &mut [u8],
     payload: &[u8],
-) -> FrameAnswer
-    requires { (id : ℕ) × Arriving node.old cards.old id at incoming.old payload.now }
-    ensures { (id : ℕ) → Arriving node.old cards.old id at incoming.old payload.now → FramePromise node.old cards.old incoming.old id payload.now result node.new cards.new incoming.new }
+) -> Heard
+    requires settings { AreaRange node.old.settings.area }
+    requires berth { BerthRange node.old.settings (berth_at node.old berth.number) }
+    requires cards { length cards.old ≡ berth_count }
+    requires store { length incoming.old ≡ berth_count * node.old.settings.area }
+    ensures node { node.new ≡ with_berth node.old berth.number (came node.old berth.number payload.now).berth }
+    ensures card { cards.new ≡ added_at cards.old berth.number (frame_adds (is_single payload.now) (came node.old berth.number payload.now).old (came node.old berth.number payload.now).word) }
+    ensures store { incoming.new ≡ stored node.old.settings.area berth.number (came node.old berth.number payload.now).place (came node.old berth.number payload.now).bytes incoming.old }
+    ensures answer { frame_says (Ok result) ≡ heard berth.number (came node.old berth.number payload.now).old (came node.old berth.number payload.now).word }
 {
-    let answer = came(&mut *node, at, incoming, payload);
-    if cards::delivers(answer) {
-        let single = cards::is_single(payload);
-        let old = cards::old(answer);
-        berths::put::delivered(&mut *cards, at, single, old);
-        return answer;
+    let settings = node.settings;
+    let start = berth.area_start(settings.area);
+    let area = &mut incoming[start..start + settings.area as usize];
+    let Arrival { old, word } = arrivals::frame_came(
+        settings,
+        &mut node.berths[berth.place()],
+        area,
+        payload,
+    );
+    cards::count_frame(&mut cards[berth.place()], payload, old, word);
+    Heard {
+        berth: berth.number,
+        old,
+        word,
     }
-    if cards::counts(answer) {
-        let adds = cards::of_answer(answer);
-        berths::put::card(&mut *cards, at, adds);
-        return answer;
-    }
-    answer
 }

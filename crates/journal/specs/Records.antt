@@ -1,13 +1,15 @@
--- Paper 02, W4: an entry, its record of sixteen bytes, and what the three calls answer and leave.
-use Rattle.std.specs.Prelude.{ℕ, zero, suc, ◌+◌, ◌-◌, ◌/◌, ◌^◌, Bool, false, ◌&&◌, ◌||◌, List, [], ◌∷◌, ◌++◌, length, get_or, take, drop, ltb, leb, eqb}
+-- An entry, its record of sixteen bytes, and what the three calls answer and leave.
+use Rattle.std.specs.Prelude.{⊤, ◌≡◌, ◌≢◌, ℕ, zero, suc, ◌+◌, ◌-◌, ◌/◌, ◌^◌, Bool, false, ◌&&◌, ◌||◌, List, [], ◌∷◌, ◌++◌, length, get_or, take, drop, ltb, leb, eqb, Result, Ok, Err, MatchResult}
 use Rattle.rules.specs.Tests.{pick, unless, need, first_unmet}
 use Rattle.rules.specs.Numbers.{berth_count, N_OK, N_TIMEOUT_A, N_TIMEOUT_Bs, N_TIMEOUT_Cr, N_WRONG_SN, N_INVALID_FS, N_UNEXP_PDU, N_BUFFER_OVFLW}
 use Rattle.rules.specs.Answers.{Paper}
 use Rattle.journal.specs.Numbers.{bytes_of, number_of}
 use Rattle.journal.specs.declared.Entry.{Entry}
-use Rattle.journal.specs.declared.WriteAnswer.{WriteAnswer}
-use Rattle.journal.specs.declared.ReadAnswer.{ReadAnswer}
-use Rattle.journal.specs.declared.CheckAnswer.{CheckAnswer}
+use Rattle.journal.specs.declared.Kind.{Kind}
+use Rattle.journal.specs.declared.Kind.TheVariants.{Receive, Send}
+use Rattle.journal.specs.declared.JournalError.{JournalError}
+use Rattle.journal.specs.declared.JournalError.TheVariants.{NoRoom, Outside}
+use Rattle.journal.specs.declared.FirstBad.{FirstBad}
 
 -- ---- the numbers
 
@@ -42,6 +44,19 @@ no_room = 16
 abbrev pub outside : ℕ
 outside = 17
 
+-- the code's names for these
+abbrev pub error_number : JournalError → ℕ
+error_number NoRoom = no_room
+error_number Outside = outside
+
+abbrev pub kind_number : Kind → ℕ
+kind_number Receive = receive_kind
+kind_number Send = send_kind
+
+-- a number is that of the kind, or of none
+abbrev pub IsKind : ℕ → Result Kind JournalError → Type 0
+IsKind n r = MatchResult r (λ kind. kind_number kind ≡ n) (λ error. (error ≡ Outside) × (n ≢ receive_kind) × (n ≢ send_kind))
+
 -- ---- an entry within the rules
 
 -- receive codes are 1, 2, 4, 5 or 7, send codes 1, 2, 3, 6 or 9
@@ -54,6 +69,11 @@ send_codes = N_OK ∷ N_TIMEOUT_A ∷ N_TIMEOUT_Bs ∷ N_INVALID_FS ∷ N_BUFFER
 unfoldable pub one_of : ℕ → List ℕ → Bool
 one_of n [] = false
 one_of n (m ∷ ms) = eqb n m || one_of n ms
+
+-- a code of this side
+abbrev pub allows : Kind → ℕ → Bool
+allows Receive code = one_of code receive_codes
+allows Send code = one_of code send_codes
 
 -- a code of its kind
 unfoldable pub code_allowed : ℕ → ℕ → Bool
@@ -103,17 +123,17 @@ refused_paper n = record { number = 0; values = n ∷ [] }
 unfoldable pub entry_paper : Entry → Paper
 entry_paper e = record { number = 1; values = e.kind ∷ e.berth ∷ e.code ∷ e.length ∷ e.tick ∷ [] }
 
-unfoldable pub write_paper : WriteAnswer → Paper
-write_paper (WriteAnswer.Refused n) = refused_paper n
-write_paper WriteAnswer.Written = record { number = 1; values = [] }
+unfoldable pub write_paper : Result ⊤ JournalError → Paper
+write_paper (Err error) = refused_paper (error_number error)
+write_paper (Ok _) = record { number = 1; values = [] }
 
-unfoldable pub read_paper : ReadAnswer → Paper
-read_paper (ReadAnswer.Refused n) = refused_paper n
-read_paper (ReadAnswer.Read e) = entry_paper e
+unfoldable pub read_paper : Result Entry JournalError → Paper
+read_paper (Err error) = refused_paper (error_number error)
+read_paper (Ok entry) = entry_paper entry
 
-unfoldable pub check_paper : CheckAnswer → Paper
-check_paper (CheckAnswer.Bad n) = refused_paper n
-check_paper (CheckAnswer.Good n) = record { number = 1; values = n ∷ [] }
+unfoldable pub check_paper : Result ℕ FirstBad → Paper
+check_paper (Err bad) = refused_paper bad.0
+check_paper (Ok good) = record { number = 1; values = good ∷ [] }
 
 -- ---- write: 16, then 17; a refusal leaves every byte, and bytes past 16 are never written
 
@@ -121,7 +141,7 @@ unfoldable pub write_refusal : Entry → List ℕ → ℕ
 write_refusal e out = first_unmet (need no_room (leb record_size (length out)) ∷ need outside (within e) ∷ [])
 
 unfoldable pub writes : Entry → List ℕ → Paper
-writes e out = unless (write_refusal e out) refused_paper (write_paper WriteAnswer.Written)
+writes e out = unless (write_refusal e out) refused_paper (write_paper (Ok tt))
 
 unfoldable pub written : Entry → List ℕ → List ℕ
 written e out = unless (write_refusal e out) (λ n. out) (record_of e ++ drop record_size out)
@@ -139,9 +159,9 @@ record_count file = (length file + (record_size - 1)) / record_size
 
 -- so many records are left, behind so many good ones
 unfoldable pub checks_from : ℕ → ℕ → List ℕ → Paper
-checks_from zero good rest = check_paper (CheckAnswer.Good good)
+checks_from zero good rest = check_paper (Ok good)
 checks_from (suc left) good rest =
-    pick (accepts rest) (checks_from left (good + 1) (drop record_size rest)) (check_paper (CheckAnswer.Bad (good + 1)))
+    pick (accepts rest) (checks_from left (good + 1) (drop record_size rest)) (refused_paper (good + 1))
 
 unfoldable pub checks : List ℕ → Paper
 checks file = checks_from (record_count file) 0 file

@@ -1,3 +1,4 @@
--- The law of the lines that are printed.
+-- The law of the lines that are printed, and a run of the reader.
 pub mod Lines
-pub mod RuleSets
+pub mod Read
+pub mod Running

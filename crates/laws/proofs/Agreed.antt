@@ -16,7 +16,7 @@ use Rattle.rules.specs.Refusals.{set_up_refusal}
 use Rattle.rules.specs.Calls.{Outcome, refused_outcome, outcome, set_up_outcome}
 use Rattle.rules.specs.Alone.{Says, hears, expires, accepts, hands, adopts}
 use Rattle.rules.specs.declared.BerthSettings.{BerthSettings}
-use Rattle.rules.specs.declared.Word.TheVariants.{Delivered, Begun, Failed, Ignored, TooLong, Took, Going, Waiting}
+use Rattle.rules.specs.Words.{Delivered, Begun, Failed, Ignored, TooLong, Took, Going, Waiting}
 use Rattle.rules.proofs.Cases.{is_true, split}
 use Rattle.rules.proofs.Ranges.{own-allowed}
 use Rattle.rules.proofs.Facts.{set-up-refusal-leaves}

@@ -6,7 +6,7 @@ use mathlib.Core.Bool.{true, false}
 use mathlib.Core.List.{List, [], ◌∷◌, ◌++◌, map}
 use lib.ListN.{length, take, set, replicate}
 use lib.Dec.{lit<, lit≤}
-use Rattle.rules.specs.Tests.{all, each, first_unmet}
+use Rattle.rules.specs.Tests.{all, first_unmet}
 use Rattle.rules.specs.Numbers.{berth_count, the_laptop, N_TIMEOUT_A, N_TIMEOUT_Cr}
 use Rattle.rules.specs.Parties.{scheduler, reporting}
 use Rattle.rules.specs.Nodes.{fresh_with, fresh, with_rx, with_tx, berth_at, Held, with_berth}
@@ -34,8 +34,7 @@ use Rattle.rules.specs.declared.Rx.{Rx}
 use Rattle.rules.specs.declared.Tx.{Tx}
 use Rattle.rules.specs.declared.Berth.{Berth}
 use Rattle.rules.specs.declared.Card.{Card}
-use Rattle.rules.specs.declared.Codes.{Codes}
-use Rattle.rules.specs.declared.Word.TheVariants.{Delivered, Failed, Ignored, Going}
+use Rattle.rules.specs.Words.{Codes, Delivered, Failed, Ignored, Going}
 use Rattle.rules.proofs.Ranges.{in-order-range}
 use Rattle.laws.specs.Own.{over, only, own_done, own, owns, says_of, of_berth, Sound, set_up, fresh_part, Alone}
 use Rattle.laws.specs.Histories.{Moment, history, moments, history_of, how_many}
@@ -86,7 +85,7 @@ two_run =
     ∷ frame 0x645 (0x02 ∷ 0xAA ∷ 0xBB ∷ []) ∷ tick ∷ show 5 Choice.Arrived ∷ []
 
 pub two-sound : Sound two
-unfolding in_order all each berth_in_order taking_in_range in_block
+unfolding in_order all berth_in_order taking_in_range in_block
 two-sound = record { order = in-order-range two.node tt; incoming = refl; outgoing = refl; ten = refl }
 
 -- the answers; what is berth 3's own, and what is berth 5's: the refused calls are in neither
@@ -96,7 +95,7 @@ pub two-computed : (answers two two_run
     ∷ codes (set (replicate 10 (pair_of 0 0)) 3 (pair_of 4 0)) ∷ shown (0xAA ∷ 0xBB ∷ []) ∷ [])
     × (owns 3 two two_run ≡ arrives (0x70 ∷ []) ∷ ticks ∷ ticks ∷ [])
     × (owns 5 two two_run ≡ sends scheduler (1 ∷ 2 ∷ 3 ∷ []) ∷ changes 0 20 ∷ ticks ∷ turns ∷ arrives (0x02 ∷ 0xAA ∷ 0xBB ∷ []) ∷ ticks ∷ [])
-unfolding owns own own_done answers final done reply written outcome refused_outcome refusal needs first_unmet right_store right_cards added_at ticked_cards berth_at in_order all each berth_in_order taking_in_range sending_in_range in_block after_frame after_turn came_at frame_came by_kind kind low heard_by told_by ignored single_came single_fits with_berth stored ticked_node ticked ran codes_of sent_berth begins_with passed_over least_distance distance due reached served_node handed_at hand_over reporting area_of single_frame padded showing showable shown_length value_allowed changed_settings changed_berth
+unfolding owns own own_done answers final done reply written outcome refused_outcome refusal needs first_unmet right_store right_cards added_at ticked_cards berth_at in_order all berth_in_order taking_in_range sending_in_range in_block after_frame after_turn came_at frame_came by_kind kind low heard_by told_by ignored single_came single_fits with_berth stored ticked_node ticked ran codes_of sent_berth begins_with passed_over least_distance distance due reached served_node handed_at hand_over reporting area_of single_frame padded showing showable shown_length value_allowed changed_settings changed_berth
 two-computed = (refl, refl, refl)
 
 -- so each is as it would be alone
@@ -114,7 +113,7 @@ pub afresh-computed : (set_up_refusal 8 2 0 ≡ 0)
     ≡ sent 5 ∷ changed 3 ∷ changed 5 ∷ heard 3 0 (Ignored 2) ∷ refused 9 ∷ codes (replicate 10 (pair_of 0 0))
     ∷ handed 0x665 (0x03 ∷ 1 ∷ 2 ∷ 3 ∷ 0xCC ∷ 0xCC ∷ 0xCC ∷ 0xCC ∷ []) 1 5 scheduler ∷ heard 5 0 (Delivered 2)
     ∷ codes (replicate 10 (pair_of 0 0)) ∷ shown (0xAA ∷ 0xBB ∷ []) ∷ [])
-unfolding set_up_refusal set_up_outcome set_up_node answers final done reply written outcome refused_outcome refusal needs first_unmet right_store right_cards added_at ticked_cards berth_at in_order all each settings_allowed berth_in_order taking_in_range sending_in_range in_block after_frame after_turn came_at frame_came by_kind kind low heard_by told_by ignored single_came single_fits with_berth stored ticked_node ticked ran codes_of sent_berth begins_with passed_over least_distance distance due reached served_node handed_at hand_over reporting area_of single_frame padded showing showable shown_length value_allowed changed_settings changed_berth
+unfolding set_up_refusal set_up_outcome set_up_node answers final done reply written outcome refused_outcome refusal needs first_unmet right_store right_cards added_at ticked_cards berth_at in_order all settings_allowed berth_in_order taking_in_range sending_in_range in_block after_frame after_turn came_at frame_came by_kind kind low heard_by told_by ignored single_came single_fits with_berth stored ticked_node ticked ran codes_of sent_berth begins_with passed_over least_distance distance due reached served_node handed_at hand_over reporting area_of single_frame padded showing showable shown_length value_allowed changed_settings changed_berth
 afresh-computed = (refl, refl)
 
 -- so each is as it would be alone from fresh
@@ -125,7 +124,7 @@ afresh-alone k l = each-alone-after-set-up two two.node.settings two_own two_run
 pub afresh-settings : ((berth_at (final afresh two_run).node 3).settings ≡ record { block = 4; stmin = 0 })
     × ((berth_at (final afresh two_run).node 5).settings ≡ record { block = 2; stmin = 20 })
     × ((berth_at (final afresh two_run).node 4).settings ≡ two_own)
-unfolding owns own own_done settings_after set_up_refusal set_up_outcome set_up_node answers final done reply written outcome refused_outcome refusal needs first_unmet right_store right_cards added_at ticked_cards berth_at in_order all each settings_allowed berth_in_order taking_in_range sending_in_range in_block after_frame after_turn came_at frame_came by_kind kind low heard_by told_by ignored single_came single_fits with_berth stored ticked_node ticked ran codes_of sent_berth begins_with passed_over least_distance distance due reached served_node handed_at hand_over reporting area_of single_frame padded showing showable shown_length value_allowed changed_settings changed_berth
+unfolding owns own own_done settings_after set_up_refusal set_up_outcome set_up_node answers final done reply written outcome refused_outcome refusal needs first_unmet right_store right_cards added_at ticked_cards berth_at in_order all settings_allowed berth_in_order taking_in_range sending_in_range in_block after_frame after_turn came_at frame_came by_kind kind low heard_by told_by ignored single_came single_fits with_berth stored ticked_node ticked ran codes_of sent_berth begins_with passed_over least_distance distance due reached served_node handed_at hand_over reporting area_of single_frame padded showing showable shown_length value_allowed changed_settings changed_berth
 afresh-settings = (run-settings 3 afresh two_run, run-settings 5 afresh two_run, run-settings 4 afresh two_run)
 
 -- ---- fairness: all ten are due, berth 4 was served last, and nine others are served before it
@@ -149,7 +148,7 @@ crowd_run = replicate 10 (turn blank)
 pub crowd-computed : (over turn_of (answers crowd crowd_run)
     ≡ served 5 ∷ served 6 ∷ served 7 ∷ served 8 ∷ served 9 ∷ served 0 ∷ served 1 ∷ served 2 ∷ served 3 ∷ served 4 ∷ [])
     × StaysDue 4 crowd crowd_run
-unfolding StaysDue over turn_of answers final done reply written outcome refused_outcome refusal needs first_unmet right_store right_cards added_at ticked_cards berth_at in_order all each berth_in_order taking_in_range sending_in_range in_block after_frame after_turn came_at frame_came by_kind kind low heard_by told_by ignored single_came single_fits with_berth stored ticked_node ticked ran codes_of sent_berth begins_with passed_over least_distance distance due reached served_node handed_at hand_over reporting area_of single_frame padded showing showable shown_length
+unfolding StaysDue over turn_of answers final done reply written outcome refused_outcome refusal needs first_unmet right_store right_cards added_at ticked_cards berth_at in_order all berth_in_order taking_in_range sending_in_range in_block after_frame after_turn came_at frame_came by_kind kind low heard_by told_by ignored single_came single_fits with_berth stored ticked_node ticked ran codes_of sent_berth begins_with passed_over least_distance distance due reached served_node handed_at hand_over reporting area_of single_frame padded showing showable shown_length
 crowd-computed = (refl, ((λ e. tt), ((λ e. tt), ((λ e. tt), ((λ e. tt), ((λ e. tt), ((λ e. tt), ((λ e. tt), ((λ e. tt), ((λ e. tt), ((λ e. tt), tt)))))))))))
 
 pub crowd-fair : Fair 4 (over turn_of (answers crowd crowd_run))
@@ -188,7 +187,7 @@ deeds =
 
 -- either party may send
 pub may-begin : (party : ℕ) → party ≤ the_laptop → MayBegin 2 7 party programme harbour mast
-unfolding set_up_node berth_at in_order all each berth_in_order
+unfolding set_up_node berth_at in_order all berth_in_order
 may-begin party allowed =
     record {
       small-i = lit< tt;
@@ -217,7 +216,7 @@ pub deeds-computed : AllApart 2 7 (begin 2 0 programme harbour mast) deeds
     ∷ back (0x30 ∷ 2 ∷ 1 ∷ 0xCC ∷ 0xCC ∷ 0xCC ∷ 0xCC ∷ 0xCC ∷ [])
     ∷ there (0x25 ∷ 35 ∷ 36 ∷ 0xCC ∷ 0xCC ∷ 0xCC ∷ 0xCC ∷ 0xCC ∷ [])
     ∷ [])
-unfolding AllApart spares frame_side living acts left_a left_b carried_a carried_b frames_by handed_side of_side of_berth only reports reported word_reports codes_reports failed_side says_of delivered_in over answers final done reply written outcome refused_outcome refusal needs first_unmet right_store right_cards added_at ticked_cards berth_at in_order all each settings_allowed berth_in_order taking_in_range sending_in_range in_block after_frame after_turn came_at frame_came by_kind kind low heard_by told_by ignored single_came single_fits with_berth stored ticked_node ticked ran codes_of sent_berth begins_with passed_over least_distance distance due reached served_node handed_at hand_over reporting area_of single_frame padded showing showable shown_length set_up_node first_came short_length escape_length announced first_fits begun awaited_came consecutive_fits piece grown completed after_took took wrong_sn counted fills_block next_sn share flow_fits by_status granted ticks_meant gap_of go_frame first_frame consecutive_frame moved after_consecutive set_up_outcome set_up_refusal
+unfolding AllApart spares frame_side living acts left_a left_b carried_a carried_b frames_by handed_side of_side of_berth only reports reported word_reports codes_reports failed_side says_of delivered_in over answers final done reply written outcome refused_outcome refusal needs first_unmet right_store right_cards added_at ticked_cards berth_at in_order all settings_allowed berth_in_order taking_in_range sending_in_range in_block after_frame after_turn came_at frame_came by_kind kind low heard_by told_by ignored single_came single_fits with_berth stored ticked_node ticked ran codes_of sent_berth begins_with passed_over least_distance distance due reached served_node handed_at hand_over reporting area_of single_frame padded showing showable shown_length set_up_node first_came short_length escape_length announced first_fits begun awaited_came consecutive_fits piece grown completed after_took took wrong_sn counted fills_block next_sn share flow_fits by_status granted ticks_meant gap_of go_frame first_frame consecutive_frame moved after_consecutive set_up_outcome set_up_refusal
 deeds-computed = (
   (lit< tt, ((λ e. tt), ((λ e. tt), (tt, ((λ e. tt), ((λ e. tt), ((λ e. tt), ((λ e. tt), (tt, ((λ e. tt), ((λ e. tt), (tt, ((λ e. tt), ((λ e. tt), ((λ e. tt), ((λ e. tt), ((λ e. tt), (tt, ((λ e. tt), (tt, ((λ e. tt), (tt, ((λ e. tt), ((λ e. tt), ((λ e. tt), ((λ e. tt), ((λ e. tt), (tt, ((λ e. tt), (tt, ((λ e. tt), (tt, tt)))))))))))))))))))))))))))))))),
   record { none-there = refl; none-back = refl; none-due = refl; no_gap = refl; no_flow = refl },
@@ -259,7 +258,7 @@ pub changes-computed : AllApart 2 7 (begin 2 1 programme harbour mast) (to_begun
     ∷ [])
 unfolding
     AllApart spares living acts left_a left_b carried_a carried_b frames_by handed_side of_side of_berth only reports reported word_reports says_of
-    delivered_in begun_in over done reply outcome refused_outcome refusal needs first_unmet right_store right_cards added_at berth_at in_order all each
+    delivered_in begun_in over done reply outcome refused_outcome refusal needs first_unmet right_store right_cards added_at berth_at in_order all
     berth_in_order taking_in_range sending_in_range in_block after_frame after_turn came_at frame_came by_kind kind low heard_by told_by with_berth stored
     sent_berth begins_with passed_over least_distance distance due reached served_node handed_at hand_over reporting area_of padded set_up_node first_came
     short_length escape_length announced first_fits begun awaited_came consecutive_fits piece grown completed after_took took counted fills_block
@@ -307,7 +306,7 @@ pub to-six-computed : history_of 6 harbour to_six
     ≡ before_going ++ (moment (arrives asks_five) (hears 0 Going) ∷ [] ++ (first_of_two ∷ replicate 6 quiet_tick ++ second_of_two ∷ []))
 unfolding
     history_of moments own own_done says_of outcome done reply refusal needs first_unmet right_store right_cards added_at ticked_cards
-    berth_at in_order all each berth_in_order sending_in_range in_block after_frame after_turn came_at frame_came by_kind kind low
+    berth_at in_order all berth_in_order sending_in_range in_block after_frame after_turn came_at frame_came by_kind kind low
     told_by with_berth stored ticked_node ticked ran codes_of sent_berth begins_with passed_over least_distance distance due reached served_node
     handed_at hand_over reporting area_of padded set_up_node flow_fits by_status granted ticks_meant gap_of first_frame consecutive_frame counted fills_block
     next_sn share moved after_consecutive
@@ -420,7 +419,7 @@ pub afresh-cards : (frozen_at 5 (final afresh two_run) ≡ false)
     ≡ record { begun = 1; delivered = 1; failed2 = 0; failed4 = 0; failed5 = 0; failed7 = 0; toolong = 0; sent = 1; unsent = 0 })
 unfolding
     set_up_refusal set_up_outcome set_up_node final done outcome refused_outcome refusal needs first_unmet right_store right_cards added_at
-    ticked_cards berth_at in_order all each settings_allowed berth_in_order taking_in_range sending_in_range in_block after_frame
+    ticked_cards berth_at in_order all settings_allowed berth_in_order taking_in_range sending_in_range in_block after_frame
     after_turn came_at frame_came by_kind kind low heard_by told_by ignored single_came single_fits with_berth stored ticked_node ticked ran
     sent_berth begins_with passed_over least_distance distance due reached served_node handed_at hand_over reporting area_of single_frame padded card_at
     frozen added is_single frame_adds tick_adds turn_adds value_allowed changed_settings changed_berth
@@ -481,7 +480,7 @@ stuck =
     }
 
 pub stuck-sound : Sound stuck
-unfolding in_order all each berth_in_order taking_in_range sending_in_range in_block
+unfolding in_order all berth_in_order taking_in_range sending_in_range in_block
 stuck-sound = record { order = in-order-range stuck.node tt; incoming = refl; outgoing = refl; ten = refl }
 
 pub stuck-free : AllComeFree stuck (answers stuck (replicate most_time tick)) (final stuck (replicate most_time tick))
@@ -532,7 +531,7 @@ live-computed : (answers stuck live
     ∷ handed 0x665 (0x21 ∷ 2 ∷ 2 ∷ 0xCC ∷ 0xCC ∷ 0xCC ∷ 0xCC ∷ 0xCC ∷ []) 1 1 scheduler ∷ [])
     × (owns 6 stuck live ≡ ticks ∷ [])
 unfolding
-    owns own own_done answers done reply outcome refusal needs first_unmet right_store right_cards added_at ticked_cards berth_at in_order all each
+    owns own own_done answers done reply outcome refusal needs first_unmet right_store right_cards added_at ticked_cards berth_at in_order all
     berth_in_order taking_in_range sending_in_range in_block after_frame after_turn came_at frame_came by_kind kind low heard_by single_came
     single_fits with_berth stored ticked_node ticked ran codes_of sent_berth begins_with passed_over least_distance distance due reached served_node
     handed_at hand_over reporting area_of consecutive_frame share padded
@@ -558,7 +557,7 @@ dip = send 6 1 (take 20 programme) ∷ turn blank ∷ frame 0x646 (0x30 ∷ 0 �
 
 dipped-time : time_left (clock_at send_side 6 (final harbour dip)) ≡ most_time
 unfolding
-    final outcome done reply refusal needs first_unmet right_store right_cards added_at ticked_cards berth_at in_order all each
+    final outcome done reply refusal needs first_unmet right_store right_cards added_at ticked_cards berth_at in_order all
     berth_in_order sending_in_range in_block after_frame after_turn came_at frame_came by_kind kind low told_by with_berth stored sent_berth begins_with
     passed_over least_distance distance due reached served_node handed_at hand_over reporting area_of padded set_up_node flow_fits by_status granted
     ticks_meant gap_of first_frame consecutive_frame counted fills_block next_sn share moved after_consecutive
@@ -604,7 +603,7 @@ pub shared-computed : (answers afresh (shared 1 0)
     ∷ record { berth = 3; side = send_side; code = 1; party = scheduler } ∷ record { berth = 4; side = send_side; code = 6; party = laptop } ∷ [])
 unfolding
     over reports reported word_reports failed_side set_up_refusal set_up_outcome set_up_node answers done reply outcome refused_outcome refusal needs first_unmet right_store
-    right_cards added_at berth_at in_order all each settings_allowed berth_in_order sending_in_range in_block after_frame after_turn came_at frame_came by_kind kind low
+    right_cards added_at berth_at in_order all settings_allowed berth_in_order sending_in_range in_block after_frame after_turn came_at frame_came by_kind kind low
     told_by with_berth stored sent_berth begins_with passed_over least_distance distance due reached served_node handed_at hand_over reporting
     area_of single_frame first_frame padded flow_fits by_status
 shared-computed = (refl, refl)
@@ -639,7 +638,7 @@ pub late-computed : answers (late laptop scheduler) (late_run 0)
     ≡ codes (set (set (replicate 10 (pair_of 0 0)) 3 (record { receive = 0; send = 3; party = laptop })) 4 (pair_of 0 2)) ∷ sent 3
     ∷ handed 0x663 (0x01 ∷ 7 ∷ 0xCC ∷ 0xCC ∷ 0xCC ∷ 0xCC ∷ 0xCC ∷ 0xCC ∷ []) 1 3 scheduler ∷ []
 unfolding
-    answers done reply outcome refusal needs first_unmet right_store right_cards added_at ticked_cards berth_at in_order all each berth_in_order sending_in_range
+    answers done reply outcome refusal needs first_unmet right_store right_cards added_at ticked_cards berth_at in_order all berth_in_order sending_in_range
     in_block after_turn with_berth stored ticked_node ticked ran codes_of sent_berth begins_with passed_over least_distance distance due reached served_node
     handed_at hand_over reporting area_of single_frame padded
 late-computed = refl

@@ -1,4 +1,4 @@
--- Demand 3, second half. While berth k stays due, each answered call for a frame serves k or leaves its distance smaller; a list along
+-- Fairness. While berth k stays due, each answered call for a frame serves k or leaves its distance smaller; a list along
 -- which a number below ten falls has no berth twice and at most nine.
 use mathlib.Core.Path.{◌≡◌, refl, ap, ◌∙◌}
 use Prim.Native.Nat.{ℕ, zero, suc, ◌+◌, ◌≤◌, ◌<◌}

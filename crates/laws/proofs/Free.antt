@@ -1,5 +1,5 @@
 -- Every berth comes free. A tick takes one off a side's time left, and where one was left ends the side with its code (rules/proofs/Clocks). So
--- by induction, of ticks that are a berth's only events, each side ends when its time has come and reports once; demand 3 brings this to
+-- by induction, of ticks that are a berth's only events, each side ends when its time has come and reports once; isolation brings this to
 -- every run of the node in which the berth has no other events of its own.
 use mathlib.Core.Path.{◌≡◌, refl, sym, ap, ap₂, ◌∙◌, subst}
 use Prim.Native.Nat.{ℕ, zero, suc, ◌-◌, ◌≤◌, ◌<◌}

@@ -184,7 +184,7 @@ spaced s p es v f =
     }
 
 -- THE LAW OF THE GAPS. Take any run of the six calls, from any start, and two consecutive frames that a berth hands over in it with no frame
--- answered Going between them. They are of one message. If the last Going carried an STmin that paper 01 reads as n > 0 ticks, at least
+-- answered Going between them. They are of one message. If the last Going carried an STmin that means n > 0 ticks, at least
 -- n + 1 ticks are answered between the two; hence n whole tick intervals pass, whatever the moment of the first tick. A node out of order
 -- hands over no frame.
 pub run-spaced : (k : ℕ) (h : Held) (cs : List Call) (f : TwoFrames (history_of k h cs)) → Spaced f

@@ -1,4 +1,4 @@
--- The laws, and the starred cases of paper 01.
+-- The laws, and the paper's starred cases.
 pub mod Isolation
 pub mod Reports
 pub mod SetUp

@@ -21,9 +21,7 @@ use Rattle.rules.specs.Calls.{answers, showable, chosen, shown_length, showing}
 use Rattle.rules.specs.Alone.{Says, part_of, says_all}
 use Rattle.rules.specs.declared.Party.{Party}
 use Rattle.rules.specs.declared.Choice.{Choice}
-use Rattle.rules.specs.declared.Codes.{Codes}
-use Rattle.rules.specs.declared.Word.{Word}
-use Rattle.rules.specs.declared.Word.TheVariants.{Delivered, Begun, Failed, Ignored, TooLong, Took, Going, Waiting}
+use Rattle.rules.specs.Words.{Codes, Word, Delivered, Begun, Failed, Ignored, TooLong, Took, Going, Waiting}
 use Rattle.rules.proofs.Cases.{Tested, holds, fails, leb-cases, eqb-cases, eqb_is, eqb-not, is_true, pick-either}
 use Rattle.laws.specs.Own.{over, only, owns, no_codes, says_of, of_berth, said_reports, part_shown}
 use Rattle.laws.proofs.Isolation.{berth-says}

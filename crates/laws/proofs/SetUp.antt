@@ -1,4 +1,4 @@
--- Demand 3, first half, in its own words: a run after a set-up. The set-up leaves every berth fresh and every card, and order and the
+-- Isolation in the demand's own words: a run after a set-up. The set-up leaves every berth fresh and every card, and order and the
 -- lengths of the stores and of the list of cards are kept by every call.
 use mathlib.Core.Path.{◌≡◌, refl, sym, ap, ◌∙◌}
 use Prim.Native.Nat.{ℕ, zero, suc, ◌*◌, ◌<◌}

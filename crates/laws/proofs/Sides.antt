@@ -22,6 +22,7 @@ use Rattle.rules.specs.Cards.{zero_card}
 use Rattle.rules.specs.Events.{Event, arrives, ticks, sends, turns, changes}
 use Rattle.rules.specs.Alone.{Part, Says, hears, hands, state_after, part_after, says, alone, says_all}
 use Rattle.rules.specs.Clocks.{tick_code, side_party}
+use Rattle.rules.specs.Words.{reason_number}
 use Rattle.rules.specs.declared.Settings.{Settings}
 use Rattle.rules.specs.declared.Party.{Party}
 use Rattle.rules.specs.declared.Rx.{Rx}
@@ -141,7 +142,7 @@ module _ (k : ℕ) where
   consecutive-all : (bs : ℕ) (rx : Rx) (last : ℕ) (d : List ℕ) → HeardAll (consecutive_came bs rx last d)
   unfolding completed took wrong_sn word_reports failed_side
   consecutive-all bs rx last d =
-      consecutive-either HeardAll bs rx last d (λ why. ignored-all why rx last) (λ p. reported-all receive 1 scheduler) (λ p. no-reports receive) (reported-all receive 5 scheduler)
+      consecutive-either HeardAll bs rx last d (λ why. ignored-all (reason_number why) rx last) (λ p. reported-all receive 1 scheduler) (λ p. no-reports receive) (reported-all receive 5 scheduler)
 
   abbrev ToldAll : Told → Type 0
   ToldAll t = AllOf send (word_reports k t.word)

@@ -31,8 +31,7 @@ use Rattle.rules.specs.declared.BerthSettings.{BerthSettings}
 use Rattle.rules.specs.declared.Rx.{Rx}
 use Rattle.rules.specs.declared.Tx.{Tx}
 use Rattle.rules.specs.declared.Berth.{Berth}
-use Rattle.rules.specs.declared.Word.{Word}
-use Rattle.rules.specs.declared.Word.TheVariants.{Delivered, Begun, Failed, Ignored, TooLong, Took, Going, Waiting}
+use Rattle.rules.specs.Words.{Word, Delivered, Begun, Failed, Ignored, TooLong, Took, Going, Waiting, reason_number}
 use Rattle.rules.proofs.Cases.{Tested, holds, fails, test-cases, eqb-cases, ltb-cases, eqb_is, eqb-not, ltb-is, is_true, is_false, or_cases, or_left, or_right, pick-either}
 use Rattle.rules.proofs.Ranges.{range-in-order}
 use Rattle.rules.proofs.Answered.{change-answered}
@@ -84,12 +83,12 @@ first-old set rx last d =
 
 consecutive-old : (bs : ℕ) (rx : Rx) (last : ℕ) (d : List ℕ) → NoOldHeard (consecutive_came bs rx last d)
 unfolding completed took wrong_sn
-consecutive-old bs rx last d = consecutive-either NoOldHeard bs rx last d (λ why. ignored-old why rx last) (λ p t. refl) (λ p t. refl) (λ t. refl)
+consecutive-old bs rx last d = consecutive-either NoOldHeard bs rx last d (λ why. ignored-old (reason_number why) rx last) (λ p t. refl) (λ p t. refl) (λ t. refl)
 
 frame-old : (set : Settings) (b : Berth) (d : List ℕ) → NoOld (frame_came set b d)
 unfolding heard_by told_by
 frame-old set b d =
-    frame-either NoOld set b d (λ why. ignored-old why b.rx b.last) (single-old b.rx b.last d) (first-old set b.rx b.last d)
+    frame-either NoOld set b d (λ why. ignored-old (reason_number why) b.rx b.last) (single-old b.rx b.last d) (first-old set b.rx b.last d)
     (consecutive-old b.settings.block b.rx b.last d) (λ t. refl)
 
 frame-nothing : (b : Berth) (set : Settings) (d : List ℕ) → T (is_ignored (frame_came set b d).word)

@@ -1,4 +1,4 @@
--- Paper 02, W1, the law of the cards: which moments of a berth's history each count counts, and what begun equals.
+-- The law of the cards: which moments of a berth's history each count counts, and what begun equals.
 use Rattle.std.specs.Prelude.{ℕ, ◌+◌, ◌≡◌, Bool, false, not, ◌&&◌, ◌||◌, List, replicate, eqb}
 use Rattle.rules.specs.Tests.{pick}
 use Rattle.rules.specs.Numbers.{berth_count, N_OK, N_TIMEOUT_A, N_TIMEOUT_Cr, N_WRONG_SN, N_INVALID_FS, N_UNEXP_PDU, N_BUFFER_OVFLW}

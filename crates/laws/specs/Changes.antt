@@ -1,4 +1,4 @@
--- Paper 02, W3, settings berth by berth: what a change leaves as it was, and what a berth's settings are in a run.
+-- Settings berth by berth: what a change leaves as it was, and what a berth's settings are in a run.
 use Rattle.std.specs.Prelude.{ℕ, ◌≡◌, List, [], ◌∷◌}
 use Rattle.rules.specs.Nodes.{berth_at, Held}
 use Rattle.rules.specs.Changes.{changed_settings}

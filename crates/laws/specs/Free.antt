@@ -1,4 +1,4 @@
--- Paper 02, W13, every berth comes free: what ticks alone leave and say of a berth, and of the node.
+-- Every berth comes free: what ticks alone leave and say of a berth, and of the node.
 use Rattle.std.specs.Prelude.{ℕ, zero, suc, ◌-◌, ◌≤◌, ◌<◌, ◌≡◌, false, length, get_or}
 use mathlib.Core.List.{List, [], ◌∷◌, Memᴰ}
 use Rattle.rules.specs.Numbers.{berth_count}

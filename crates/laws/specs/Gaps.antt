@@ -1,4 +1,4 @@
--- Paper 02, W2, the law of the gaps: two consecutive frames that a berth hands over, the last Going before them, and the ticks between.
+-- The law of the gaps: two consecutive frames that a berth hands over, the last Going before them, and the ticks between.
 use Rattle.std.specs.Prelude.{ℕ, ◌+◌, ◌*◌, ◌≤◌, ◌<◌, ◌≡◌, Bool, true, false, List, [], ◌∷◌, ◌++◌, length, T, eqb}
 use Rattle.rules.specs.Numbers.{consecutive_kind}
 use Rattle.rules.specs.Frames.{byte_at, kind, ticks_meant}
@@ -71,7 +71,7 @@ pub record TwoFrames (history : List Moment) : Type 0 where
   pub none_between : how_many goes between ≡ 0
   pub second-hands : T (hands_consecutive second)
 
--- the ticks that paper 01 reads in the STmin of that Going
+-- the ticks that the STmin of that Going means
 abbrev pub asked : {history : List Moment} → TwoFrames history → ℕ
 asked f = ticks_meant (stmin_in f.going.event)
 
@@ -87,7 +87,7 @@ abbrev pub Ticking : (interval start end : ℕ) → List ℕ → Type 0
 Ticking interval start end [] = start ≤ end
 Ticking interval start end (t ∷ times) = (start ≤ t) × TickingFrom interval t end times
 
--- ---- what the law says of the two: they are of one message, no other is taken between them; if paper 01 reads n > 0 ticks, at least
+-- ---- what the law says of the two: they are of one message, no other is taken between them; if its STmin means n > 0 ticks, at least
 -- n + 1 are answered between the two; hence, for any times of these ticks, with the first frame at `start` and the second at `end`, n whole
 -- intervals lie between
 pub record Spaced {history : List Moment} (f : TwoFrames history) : Type 0 where

@@ -7,7 +7,7 @@ use Rattle.rules.specs.Calls.{outcome}
 use Rattle.rules.specs.Alone.{Part, part_after, says, Says, hears, expires, accepts, hands, adopts}
 use Rattle.rules.specs.declared.Settings.{Settings}
 use Rattle.rules.specs.declared.Rx.{Rx}
-use Rattle.rules.specs.declared.Word.{Word}
+use Rattle.rules.specs.Words.{Word}
 use Rattle.laws.specs.Own.{own, says_of}
 
 -- ---- the history of a berth

@@ -16,8 +16,7 @@ use Rattle.rules.specs.Alone.{Says, hears, expires, accepts, hands, adopts}
 use Rattle.rules.specs.Clocks.{Idle, tx_clock, gap_left, tick_code}
 use Rattle.rules.specs.declared.BerthSettings.{BerthSettings}
 use Rattle.rules.specs.declared.Choice.{Choice}
-use Rattle.rules.specs.declared.Word.{Word}
-use Rattle.rules.specs.declared.Word.TheVariants.{Delivered, Begun, Failed, Ignored, TooLong, Took, Going, Waiting}
+use Rattle.rules.specs.Words.{Word, Delivered, Begun, Failed, Ignored, TooLong, Took, Going, Waiting}
 use Rattle.laws.specs.Own.{over, says_of, of_berth, Sound}
 use Rattle.laws.specs.Sides.{same_side, frame_side, of_side, frames_by}
 

@@ -1,4 +1,4 @@
--- Demand 3: which events of the node's run are berth k's own, and what the answers say of that berth.
+-- Isolation: which events of the node's run are berth k's own, and what the answers say of that berth.
 use Rattle.std.specs.Prelude.{ℕ, ◌*◌, ◌≡◌, Bool, ◌&&◌, List, [], ◌∷◌, ◌++◌, length, get_or, take, ltb, eqb}
 use Rattle.rules.specs.Tests.{pick, unless}
 use Rattle.rules.specs.Numbers.{berth_count}
@@ -16,7 +16,7 @@ use Rattle.rules.specs.Alone.{part_of, alone, says_all, Part, Says, hears, expir
 use Rattle.rules.specs.declared.Settings.{Settings}
 use Rattle.rules.specs.declared.BerthSettings.{BerthSettings}
 use Rattle.rules.specs.declared.Choice.{Choice}
-use Rattle.rules.specs.declared.Codes.{Codes}
+use Rattle.rules.specs.Words.{Codes}
 
 -- one list for each element, all in one
 unfoldable pub over : {X Y : Type 0} → (X → List Y) → List X → List Y
@@ -106,9 +106,9 @@ fresh_part h s alike k =
       card = card_at h.cards k;
     }
 
--- ---- demand 3, first half
+-- ---- isolation
 
--- what demand 3 says of berth k in a run that begins with h, if its own events, the answers and what the run leaves are these: its
+-- what isolation says of berth k in a run that begins with h, if its own events, the answers and what the run leaves are these: its
 -- state, areas and card; its words, codes and frames; its reports; and, if the node is in order and the stores have their lengths, what
 -- a show of it returns after the run, are those of its own events on that berth alone
 pub record Alone (s : Settings) (start : Part) (k : ℕ) (h : Held) (own : List Event) (said : List Answer) (end : Held) : Type 0 where

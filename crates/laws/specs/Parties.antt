@@ -1,4 +1,4 @@
--- Paper 02, W6, the service laptop: whose message a report of a send side is, and that all else is the same whichever of the two sends.
+-- The service laptop: whose message a report of a send side is, and that all else is the same whichever of the two sends.
 use Rattle.std.specs.Prelude.{ℕ, ◌≡◌, List, [], ◌∷◌, map}
 use Rattle.rules.specs.Tests.{pick}
 use Rattle.rules.specs.Numbers.{the_scheduler}
@@ -11,9 +11,7 @@ use Rattle.rules.specs.declared.Party.{Party}
 use Rattle.rules.specs.declared.Tx.{Tx}
 use Rattle.rules.specs.declared.Berth.{Berth}
 use Rattle.rules.specs.declared.Node.{Node}
-use Rattle.rules.specs.declared.Codes.{Codes}
-use Rattle.rules.specs.declared.Word.{Word}
-use Rattle.rules.specs.declared.Word.TheVariants.{Delivered, Begun, Failed, Ignored, TooLong, Took, Going, Waiting}
+use Rattle.rules.specs.Words.{Codes, Word, Delivered, Begun, Failed, Ignored, TooLong, Took, Going, Waiting}
 use Rattle.laws.specs.Own.{own, of_berth}
 use Rattle.laws.specs.Sides.{of_side}
 

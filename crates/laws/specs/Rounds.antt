@@ -1,4 +1,4 @@
--- Demand 3, second half: which berths had turns in a run, and what it is that a berth stays due. A run may start anywhere, so any
+-- Fairness: which berths had turns in a run, and what it is that a berth stays due. A run may start anywhere, so any
 -- stretch of a run is meant.
 use Rattle.std.specs.Prelude.{ℕ, ◌≤◌, ◌≡◌, Bool, false, length, get_or, T, eqb}
 use mathlib.Core.List.{List, [], ◌∷◌, Memᴰ}
@@ -54,7 +54,7 @@ unfoldable pub NoTwice : List Turn → Type 0
 NoTwice [] = Unit {0}
 NoTwice (t ∷ ts) = (Memᴰ t ts → ⊥) × NoTwice ts
 
--- what demand 3 says of the answered calls for a frame while berth k has a frame due at each: none answers None, no berth has two
+-- what fairness says of the answered calls for a frame while berth k has a frame due at each: none answers None, no berth has two
 -- turns before k's first, these are at most nine, and k's own comes by the tenth
 pub record Fair (k : ℕ) (ts : List Turn) : Type 0 where
   pub some : Memᴰ nobody ts → ⊥

@@ -27,7 +27,7 @@ abbrev pub uncounted : Part → Part
 uncounted p = with_card p zero_card
 
 -- one side of a berth with its area: the other side idle, the other area left out, and no counts. The berth's own settings go with the
--- receive side, which grants by them (paper 02, W3)
+-- receive side, which grants by them
 unfoldable pub side_of : Side → Part → Part
 side_of receive p = record { berth = with_tx p.berth Tx.Idle; incoming = p.incoming; outgoing = []; card = zero_card }
 side_of send p =
@@ -125,7 +125,7 @@ says_by s k (c ∷ cs) (a ∷ answers) = over (says_for s c) (says_of k a) ++ sa
 
 -- ---- each side alone
 
--- the same of side s of berth k as demand 3 says of a berth, but for the card: its state and area; its words and codes; its frames; its
+-- the same of side s of berth k as isolation says of a berth, but for the card: its state and area; its words and codes; its frames; its
 -- reports
 pub record SideAlone (set : Settings) (start : Part) (s : Side) (k : ℕ) (own : List Event) (cs : List Call) (said : List Answer) (end : Held) : Type 0 where
   pub part : side_of s (part_of k end) ≡ uncounted (alone set start own)

@@ -4,7 +4,7 @@ use Prim.Native.Nat.{ℕ}
 use mathlib.Core.Path.{◌≡◌, refl, sym}
 use mathlib.Core.List.{[], ◌∷◌}
 use lib.Dec.{T}
-use Rattle.rules.specs.Tests.{all, each}
+use Rattle.rules.specs.Tests.{all}
 use Rattle.rules.specs.Parties.{scheduler}
 use Rattle.rules.specs.Nodes.{fresh, with_tx}
 use Rattle.rules.specs.Ranges.{berth_in_order, in_order}
@@ -36,6 +36,6 @@ by-law n t = sym (next-is-passed n (in-order-range n t))
 
 pub three-passed : (passed_over (three_berths 9 waiting waiting waiting) ≡ 0) × (passed_over (three_berths 0 fresh waiting waiting) ≡ 3)
     × (passed_over (three_berths 4 fresh fresh waiting) ≡ 4) × (passed_over (three_berths 9 fresh fresh fresh) ≡ 10)
-unfolding due_bits bits_of due next_set passed_from is_set in_order all each berth_in_order
+unfolding due_bits bits_of due next_set passed_from is_set in_order all berth_in_order
 three-passed =
     (by-law (three_berths 9 waiting waiting waiting) tt, by-law (three_berths 0 fresh waiting waiting) tt, by-law (three_berths 4 fresh fresh waiting) tt, by-law (three_berths 9 fresh fresh fresh) tt)

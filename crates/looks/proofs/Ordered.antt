@@ -1,18 +1,17 @@
--- The test of order. The loops: what is left of the list says what all of it says, as long as each element passed by passes. A berth
--- that is idle, with a last length in range, has its sides in order, and one that has fails that test only where it is not idle. The
--- settings of all berths first and then their sides is the order of each. Then what follows of a node from its answer.
+-- The test of order. A berth that is idle, with a last length in range, has its sides in order, and one that has fails that test only
+-- where it is not idle. So the berths behind those at rest decide, and where all are in order, those at rest are the idle ones. The
+-- settings of all berths first and then their sides is the order of each. Then what follows of a node from the count.
 use Prim.Native.Nat.{ℕ, zero, suc, ◌+◌, ◌<◌, ◌≤◌}
-use native.Mathlib.Numerals.{add-one}
 use native.Mathlib.Omega.{arith}
 use mathlib.Core.Path.{◌≡◌, refl, sym, ◌∙◌, ap}
-use mathlib.Core.Bool.{Bool, true, false, not, ◌&&◌, and_assoc, true≢false}
+use mathlib.Core.Bool.{Bool, true, false, cond, not, ◌&&◌, true≢false}
 use mathlib.Core.List.{List, [], ◌∷◌}
-use lib.ListN.{length, get_or, drop, drop_of_length-le}
-use lib.Seq.{drop-cons}
+use lib.ListN.{length, get_or, drop}
 use lib.Dec.{leb, ltb, eqb}
-use borrow.Author.Tests.{eq-eqb, lt-ltb, le-ltb}
+use borrow.Author.Tests.{eq-eqb}
+use Rattle.std.specs.List.{list_all, prefix_len}
 use Rattle.rules.specs.Numbers.{berth_count}
-use Rattle.rules.specs.Tests.{pick, all, each}
+use Rattle.rules.specs.Tests.{pick, all}
 use Rattle.rules.specs.Nodes.{fresh}
 use Rattle.rules.specs.Ranges.{area_allowed, rx_in_range, tx_in_range, party_in_range, berth_in_order, in_order}
 use Rattle.rules.specs.Turns.{busy}
@@ -26,41 +25,9 @@ use Rattle.rules.proofs.Ranges.{in-order-range}
 use Rattle.berth.specs.Idle.{receiving, idle}
 use Rattle.berth.proofs.Chains.{more, stop, ends}
 use Rattle.berth.proofs.Guards.{not-busy}
-use Rattle.looks.specs.Order.{own_in_order, sides_in_order, at_rest, leading_idle, Spared, unordered, order_of}
-
--- ---- a test of every element, from a place on
-
-module _ {X : Type 0} (f : X → Bool) (l : List X) (i : ℕ) where
-  pub ends-all : length l ≤ i → true ≡ each f (drop i l)
-  unfolding each
-  ends-all h = sym (ap (each f) (drop_of_length-le l h))
-
-  pub fails-at : (d : X) → i < length l → f (get_or l i d) ≡ false → false ≡ each f (drop i l)
-  unfolding each
-  fails-at d h e = rw (drop-cons l i d h, e)
-
-  holds_at : (d : X) → i < length l → each f (drop i l) ≡ true → f (get_or l i d) ≡ true
-  unfolding each
-  holds_at d h e = is_true _ (and_left (f (get_or l i d)) (each f (drop (suc i) l)) (yes_of (ap (each f) (sym (drop-cons l i d h)) ∙ e)))
-
-  pub passes_at : (d : X) → i < length l → f (get_or l i d) ≡ true → each f (drop (i + 1) l) ≡ each f (drop i l)
-  unfolding each
-  passes_at d h e = rw (add-one, drop-cons l i d h, e)
+use Rattle.looks.specs.Order.{own_in_order, sides_in_order, at_rest, leading_idle}
 
 -- ---- the idle berths at the front
-
-module _ (l : List Berth) (i : ℕ) where
-  idle-over : length l ≤ i → leading_idle (drop i l) ≡ 0
-  unfolding leading_idle
-  idle-over h = ap leading_idle (drop_of_length-le l h)
-
-  idle-stops : i < length l → idle (get_or l i fresh) ≡ false → leading_idle (drop i l) ≡ 0
-  unfolding leading_idle
-  idle-stops h e = rw (drop-cons l i fresh h, e)
-
-  idle-on : i < length l → idle (get_or l i fresh) ≡ true → leading_idle (drop i l) ≡ suc (leading_idle (drop (i + 1) l))
-  unfolding leading_idle
-  idle-on h e = rw (add-one, drop-cons l i fresh h, e)
 
 leading-most : (l : List Berth) → leading_idle l ≤ length l
 unfolding leading_idle
@@ -111,11 +78,6 @@ idle-by-last s b e = sym (go (leb b.last s.area) refl)
     go true h = more _ (ap (rx_in_range s b.settings.block b.last) (rx-idle b e) ∙ h) (more _ tx (ends party))
     go false h = stop _ (ap (rx_in_range s b.settings.block b.last) (rx-idle b e) ∙ h)
 
--- a berth at rest, as the test of its parts has it
-pub sides-rest : (s : Settings) (b : Berth) → all (not (receiving b.rx) ∷ not (busy b.tx) ∷ leb b.last s.area ∷ []) ≡ at_rest s b
-unfolding idle all
-sides-rest s b = sym (and_assoc (not (receiving b.rx)) (not (busy b.tx)) (leb b.last s.area && true))
-
 rests-idle : (s : Settings) (b : Berth) → at_rest s b ≡ true → idle b ≡ true
 rests-idle s b e = is_true _ (all_yes (idle b ∷ leb b.last s.area ∷ []) (yes_of e)).0
 
@@ -129,46 +91,42 @@ not-idle s b r o = go (idle b) refl
     go true e = absurd (true≢false (more _ e (ends (sym (sym (idle-by-last s b e) ∙ o))) ∙ r))
     go false e = refl
 
--- ---- the loop over the idle berths, in which i of them have been passed by
+-- ---- the berths at rest at the front: the others decide, and where these are in order, those are the idle ones
 
-module _ (n : Node) where
+module _ (s : Settings) where
   abbrev ok : Berth → Bool
-  ok = sides_in_order n.settings
+  ok = sides_in_order s
 
-  -- the others decide, and the idle ones are counted
-  abbrev pub Counted : ℕ → Type 0
-  Counted i = (i ≤ berth_count) × (each ok (drop i n.berths) ≡ each ok n.berths) × (i + leading_idle (drop i n.berths) ≡ leading_idle n.berths)
+  pub rest-decides : (bs : List Berth) → list_all ok (drop (prefix_len (at_rest s) bs) bs) ≡ list_all ok bs
+  rest-decides [] = refl
+  rest-decides (b ∷ bs) = go (at_rest s b) refl (rest-decides bs)
+    where
+      go : (t : Bool) → at_rest s b ≡ t → list_all ok (drop (prefix_len (at_rest s) bs) bs) ≡ list_all ok bs
+          → list_all ok (drop (cond t (1 + prefix_len (at_rest s) bs) 0) (b ∷ bs)) ≡ (ok b && list_all ok bs)
+      go true e ih =
+          let one : 1 + prefix_len (at_rest s) bs ≡ suc (prefix_len (at_rest s) bs) = omega arith in
+          rw (rests-in-order s b e, one) ih
+      go false e ih = refl
 
-  pub none_yet : Counted 0
-  none_yet = (omega arith, refl, omega arith)
-
-  module _ (i : ℕ) (so_far : Counted i) where
-    abbrev one : Berth
-    one = get_or n.berths i fresh
-
-    pub one_more : i < berth_count → i < length n.berths → at_rest n.settings one ≡ true → Counted (i + 1)
-    one_more h l e =
-        let on = idle-on n.berths i l (rests-idle n.settings one e) in
-        (omega (arith, h), passes_at ok n.berths i fresh l (rests-in-order n.settings one e) ∙ so_far.1, omega (arith, on, so_far.2))
-
-    pub stopped : i < length n.berths → at_rest n.settings one ≡ false → Spared n i
-    stopped l e = (so_far.0, so_far.1, λ good. counted (holds_at ok n.berths i fresh l (so_far.1 ∙ good)))
-      where
-        counted : ok one ≡ true → i ≡ leading_idle n.berths
-        counted o = let none = idle-stops n.berths i l (not-idle n.settings one e o) in omega (arith, none, so_far.2)
-
-    pub through : length n.berths ≤ i → Spared n i
-    through l = (so_far.0, so_far.1, λ good. let none = idle-over n.berths i l in omega (arith, none, so_far.2))
+  pub resting-idle : (bs : List Berth) → list_all ok bs ≡ true → prefix_len (at_rest s) bs ≡ leading_idle bs
+  unfolding leading_idle
+  resting-idle [] e = refl
+  resting-idle (b ∷ bs) e = go (at_rest s b) refl (resting-idle bs (is_true _ (and_right (ok b) (list_all ok bs) (yes_of e))))
+    where
+      go : (t : Bool) → at_rest s b ≡ t → prefix_len (at_rest s) bs ≡ leading_idle bs
+          → cond t (1 + prefix_len (at_rest s) bs) 0 ≡ pick (idle b) (suc (leading_idle bs)) 0
+      go true r ih = rw (rests-idle s b r) (omega (arith, ih))
+      go false r ih = rw (not-idle s b r (is_true _ (and_left (ok b) (list_all ok bs) (yes_of e))))
 
 -- ---- the node
 
 -- the settings of all berths and then the sides of all are the order of each
-settings-and-sides : (s : Settings) (bs : List Berth) → each (berth_in_order s) bs ≡ (each own_in_order bs && each (sides_in_order s) bs)
-unfolding each berth_in_order sides_in_order all
+settings-and-sides : (s : Settings) (bs : List Berth) → list_all (berth_in_order s) bs ≡ (list_all own_in_order bs && list_all (sides_in_order s) bs)
+unfolding berth_in_order sides_in_order all
 settings-and-sides s [] = refl
 settings-and-sides s (b ∷ bs) =
     ap (λ (t : Bool). berth_in_order s b && t) (settings-and-sides s bs)
-    ∙ sorted (own_in_order b) (sides_in_order s b) (each own_in_order bs) (each (sides_in_order s) bs)
+    ∙ sorted (own_in_order b) (sides_in_order s b) (list_all own_in_order bs) (list_all (sides_in_order s) bs)
   where
     sorted : (o t p u : Bool) → ((o && t) && (p && u)) ≡ ((o && p) && (t && u))
     sorted true true true u = refl
@@ -182,15 +140,15 @@ module _ (n : Node) where
   front = all (area_allowed n.settings.area ∷ ltb n.served berth_count ∷ [])
 
   abbrev owns : Bool
-  owns = each own_in_order n.berths
+  owns = list_all own_in_order n.berths
 
   abbrev berths : Bool
-  berths = each (sides_in_order n.settings) n.berths
+  berths = list_all (sides_in_order n.settings) n.berths
 
   order_is : in_order n ≡ (front && (eqb (length n.berths) berth_count && (owns && berths)))
   unfolding in_order all
   order_is =
-      joins (area_allowed n.settings.area) (ltb n.served berth_count) (eqb (length n.berths) berth_count) (each (berth_in_order n.settings) n.berths)
+      joins (area_allowed n.settings.area) (ltb n.served berth_count) (eqb (length n.berths) berth_count) (list_all (berth_in_order n.settings) n.berths)
       ∙ ap (λ (t : Bool). front && (eqb (length n.berths) berth_count && t)) (settings-and-sides n.settings n.berths)
     where
       joins : (a b c d : Bool) → (a && (b && (c && (d && true)))) ≡ ((a && (b && true)) && (c && d))
@@ -200,48 +158,28 @@ module _ (n : Node) where
       joins true false c d = refl
       joins false b c d = refl
 
-  out_of_order : in_order n ≡ false → unordered ≡ order_of n
-  unfolding order_of
-  out_of_order e = rw e
+  order_parts : length n.berths ≡ berth_count → in_order n ≡ (front && (owns && berths))
+  order_parts ten = order_is ∙ ap (λ t. front && (t && (owns && berths))) (eq-eqb _ _ ten)
 
-  pub front-fails : front ≡ false → unordered ≡ order_of n
-  front-fails e = out_of_order (order_is ∙ ap (λ c. c && (eqb (length n.berths) berth_count && (owns && berths))) e)
+  pub front-fails : length n.berths ≡ berth_count → front ≡ false → in_order n ≡ false
+  front-fails ten e = order_parts ten ∙ ap (λ t. t && (owns && berths)) e
 
-  module _ (passed : front ≡ true) (ten : length n.berths ≡ berth_count) where
-    by-berths : in_order n ≡ (owns && berths)
-    by-berths =
-        order_is ∙ ap (λ c. c && (eqb (length n.berths) berth_count && (owns && berths))) passed
-        ∙ ap (λ c. c && (owns && berths)) (eq-eqb _ _ ten)
+  pub owns-fail : length n.berths ≡ berth_count → front ≡ true → owns ≡ false → in_order n ≡ false
+  owns-fail ten e f = order_parts ten ∙ rw (e, f)
 
-    pub owns-fail : owns ≡ false → unordered ≡ order_of n
-    owns-fail e = out_of_order (by-berths ∙ ap (λ c. c && berths) e)
+  pub sides-decide : length n.berths ≡ berth_count → front ≡ true → owns ≡ true → {i : ℕ} → i ≡ prefix_len (at_rest n.settings) n.berths
+      → in_order n ≡ list_all (sides_in_order n.settings) (drop i n.berths)
+  sides-decide ten e f i = order_parts ten ∙ rw (e, f, i) (sym (rest-decides n.settings n.berths))
 
-    module _ (allowed : owns ≡ true) where
-      by-sides : in_order n ≡ berths
-      by-sides = by-berths ∙ ap (λ c. c && berths) allowed
+  pub counts-idle : length n.berths ≡ berth_count → in_order n ≡ true → {i : ℕ} → i ≡ prefix_len (at_rest n.settings) n.berths → i ≡ leading_idle n.berths
+  counts-idle ten e i =
+      let all-hold = yes_of (sym (order_parts ten) ∙ e) in
+      i ∙ resting-idle n.settings n.berths (is_true berths (and_right owns berths (and_right front (owns && berths) all-hold)))
 
-      pub berths-fail : berths ≡ false → unordered ≡ order_of n
-      berths-fail e = out_of_order (by-sides ∙ e)
+-- ---- what follows from the count of the idle berths
 
-      pub berths-pass : (i : ℕ) → berths ≡ true → (berths ≡ true → i ≡ leading_idle n.berths) → i ≡ order_of n
-      unfolding order_of
-      berths-pass i e h = rw (by-sides, e) (h e)
+pub idle-there : (n : Node) (k : ℕ) → k < leading_idle n.berths → idle (get_or n.berths k fresh) ≡ true
+idle-there n = leading-idle n.berths
 
--- ---- what follows from the answer
-
-pub answer : (n : Node) → in_order n ≡ true → order_of n ≡ leading_idle n.berths
-unfolding order_of
-answer n e = rw e
-
-pub idle-there : (n : Node) (k : ℕ) → in_order n ≡ true → k < order_of n → idle (get_or n.berths k fresh) ≡ true
-idle-there n k e h = leading-idle n.berths k (rw (answer n e) at h)
-
-pub order-most : (n : Node) → in_order n ≡ true → order_of n ≤ berth_count
-order-most n e = let most = leading-most n.berths in rw (answer n e) (omega (arith, most, (in-order-range n (yes_of e)).ten))
-
-pub ordered : (n : Node) → ltb (order_of n) unordered ≡ in_order n
-ordered n = go (in_order n) refl
-  where
-    go : (t : Bool) → in_order n ≡ t → ltb (order_of n) unordered ≡ t
-    go true e = let most = order-most n e in lt-ltb (order_of n) unordered (omega (arith, most))
-    go false e = let out = out_of_order n e in le-ltb (order_of n) unordered (omega (arith, out))
+pub idle-most : (n : Node) → in_order n ≡ true → leading_idle n.berths ≤ berth_count
+idle-most n e = let most = leading-most n.berths in omega (arith, most, (in-order-range n (yes_of e)).ten)

@@ -1,4 +1,4 @@
--- Paper 02, W5: the due berths as ten bits, and the next set bit after that of the berth served last.
+-- The due berths as ten bits, and the next set bit after that of the berth served last.
 use Rattle.std.specs.Prelude.{ℕ, zero, suc, ◌+◌, ◌*◌, ◌/◌, ◌%◌, ◌^◌, Bool, List, [], ◌∷◌, map, eqb}
 use Rattle.rules.specs.Tests.{pick}
 use Rattle.rules.specs.Numbers.{berth_count}

@@ -1,6 +1,8 @@
 -- Facts that several proofs, here, in `sides` or in `carumpek`, cite, and what the promises determine.
 pub mod Outcomes
-pub mod Numbered
+pub mod Refusing
+pub mod Small
 pub mod Shows
+pub mod Numbered
 pub mod Determined
 pub mod PoorNodes

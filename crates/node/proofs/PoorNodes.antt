@@ -1,15 +1,16 @@
--- The five poor nodes of paper 01, "What the promises must say", and one that counts nothing, shut out by the promises at every input
+-- Five poor nodes, and one that counts nothing, shut out by the promises at every input
 -- that the paper answers. A promise says that the call left the rule's outcome, and each poor node's is another one.
 use Prim.Native.Nat.{ℕ, suc, ◌+◌, ◌-◌, ◌*◌, ◌≤◌, ◌<◌}
 use native.Mathlib.Omega.{arith}
 use native.Mathlib.Nat.{mul-le-mul_right}
+use Rattle.std.specs.Prelude.{Result, Ok, Err, ⊤, Option}
 use mathlib.Core.Path.{◌≡◌, refl, sym, ap, ◌∙◌}
 use mathlib.Core.Bool.{false}
 use mathlib.Core.List.{List, [], ◌∷◌, ◌++◌, append_assoc}
 use lib.ListN.{length, get_or, take, drop, replicate}
 use lib.Seq.{sets, sets-eq, take_at, drop_at, get_or-set_same, length-take-le}
 use lib.Dec.{T, eqb, ltb}
-use Rattle.rules.specs.Tests.{all, each, first_unmet}
+use Rattle.rules.specs.Tests.{all, first_unmet}
 use Rattle.rules.specs.Numbers.{berth_count, to_berth, timeout, consecutive_kind, frame_size, out_of_order, bad_setting}
 use Rattle.rules.specs.Nodes.{fresh, with_rx, blank_node, berth_at, with_berth, Held}
 use Rattle.rules.specs.Ranges.{settings_allowed, in_block, taking_in_range, berth_in_order, in_order}
@@ -33,14 +34,14 @@ use Rattle.rules.specs.declared.Berth.{Berth}
 use Rattle.rules.specs.declared.Party.{Party}
 use Rattle.rules.specs.declared.Node.{Node}
 use Rattle.rules.specs.declared.Card.{Card}
-use Rattle.rules.specs.declared.Word.TheVariants.{Begun}
+use Rattle.rules.specs.Refused.{number_of}
+use Rattle.rules.specs.Words.{Begun, reported_code, reported_party}
 use Rattle.rules.specs.declared.Choice.{Choice}
-use Rattle.rules.specs.declared.SetUpAnswer.{SetUpAnswer}
-use Rattle.rules.specs.declared.FrameAnswer.{FrameAnswer}
-use Rattle.rules.specs.declared.TickAnswer.{TickAnswer}
-use Rattle.rules.specs.declared.SendAnswer.{SendAnswer}
-use Rattle.rules.specs.declared.TurnAnswer.{TurnAnswer}
-use Rattle.rules.specs.declared.ChangeAnswer.{ChangeAnswer}
+use Rattle.rules.specs.declared.Codes.{Codes}
+use Rattle.rules.specs.declared.Refusal.{Refusal}
+use Rattle.rules.specs.declared.Report.{Report}
+use Rattle.rules.specs.declared.Heard.{Heard}
+use Rattle.rules.specs.declared.Turn.{Turn}
 use Rattle.rules.proofs.Cases.{Tested, holds, fails, eqb-cases, ltb-cases, pick-either}
 use Rattle.rules.proofs.Ranges.{in-order-range}
 use Rattle.rules.proofs.Areas.{area-length, area_same}
@@ -72,42 +73,48 @@ replied h (turn buffer) number = pick-either (λ (a : Answer). a ≡ refused num
 replied h (show k choice) number = λ e. clash (cc)
 replied h (change k parameter value) number = λ e. clash (cc)
 
-module _ (h : Held) (n : Node) (number : ℕ) where
-  never : (c : Call) {g : Held} {b : List ℕ} → refusal h c ≡ 0 → Agrees (left (refused number) g b) (outcome h c) → ⊥
-  never c e a = replied h c number (sym (ap (λ (o : Outcome). o.answer) (answered h c e a)))
+-- REFUSING EVERYTHING: at every call that the paper answers, every refusal number is shut out
+pub not-refusing : (h : Held) (number : ℕ) (c : Call) {g : Held} {b : List ℕ} → refusal h c ≡ 0 → Agrees (left (refused number) g b) (outcome h c) → ⊥
+not-refusing h number c e a = replied h c number (sym (ap (λ (o : Outcome). o.answer) (answered h c e a)))
 
-  -- REFUSING EVERYTHING: at every frame, tick, send, turn and change that the paper answers, every refusal number is shut out; so is it
-  -- at every set-up
+-- and every number at every set-up that the paper answers
+pub not-refusing-any-set-up : (h : Held) (number a bs stmin : ℕ) {g : Held} {b : List ℕ} → set_up_refusal a bs stmin ≡ 0
+    → Agrees (left (refused number) g b) (set_up_outcome h a bs stmin) → ⊥
+unfolding set_up_outcome
+not-refusing-any-set-up h number a bs stmin e p =
+    let z : ready ≡ refused number = sym (ap (λ (o : Outcome). o.answer) (same p) ∙ rw e) in
+    clash (cc)
+
+module _ (h : Held) (n : Node) (why : Refusal) where
+  -- so is every refusal at every frame, tick, send, turn and change that the paper answers, and at every such set-up
   pub not-refusing-frame : (id : ℕ) (d : List ℕ) (cards : List Card) (incoming : List ℕ) → refusal h (frame id d) ≡ 0
-      → FramePromise h.node h.cards h.incoming id d (FrameAnswer.Refused number) n cards incoming → ⊥
+      → FramePromise h.node h.cards h.incoming id d (Err why) n cards incoming → ⊥
   unfolding frame_says
-  not-refusing-frame id d cards incoming e p = never (frame id d) e (p h.outgoing)
+  not-refusing-frame id d cards incoming e p = not-refusing h (number_of why) (frame id d) e (p h.outgoing)
 
-  pub not-refusing-tick : (a : TickAnswer) (cards : List Card) → refusal h tick ≡ 0 → a.refused ≡ suc number → TickPromise h.node h.cards a n cards → ⊥
+  pub not-refusing-tick : (cards : List Card) → refusal h tick ≡ 0 → TickPromise h.node h.cards (Err why) n cards → ⊥
   unfolding tick_says
-  not-refusing-tick a cards e r p = replied h tick (suc number) (sym (ap (λ (o : Outcome). o.answer) (answered h tick e (p.agrees h.incoming h.outgoing))) ∙ rw r)
+  not-refusing-tick cards e p = not-refusing h (number_of why) tick e (p h.incoming h.outgoing)
 
   pub not-refusing-send : (k party : ℕ) (m outgoing : List ℕ) → refusal h (send k party m) ≡ 0
-      → SendPromise h.node h.outgoing k party m (SendAnswer.Refused number) n outgoing → ⊥
+      → SendPromise h.node h.outgoing k party m (Err why) n outgoing → ⊥
   unfolding send_says
-  not-refusing-send k party m outgoing e p = never (send k party m) e (p h.cards h.incoming)
+  not-refusing-send k party m outgoing e p = not-refusing h (number_of why) (send k party m) e (p h.cards h.incoming)
 
   pub not-refusing-turn : (buffer buffer' : List ℕ) (cards : List Card) → refusal h (turn buffer) ≡ 0
-      → TurnPromise h.node h.cards h.outgoing buffer (TurnAnswer.Refused number) n cards buffer' → ⊥
+      → TurnPromise h.node h.cards h.outgoing buffer (Err why) n cards buffer' → ⊥
   unfolding turn_says
-  not-refusing-turn buffer buffer' cards e p = never (turn buffer) e (p h.incoming)
+  not-refusing-turn buffer buffer' cards e p = not-refusing h (number_of why) (turn buffer) e (p h.incoming)
 
   pub not-refusing-change : (k parameter value : ℕ) → refusal h (change k parameter value) ≡ 0
-      → ChangePromise h.node k parameter value (ChangeAnswer.Refused number) n → ⊥
+      → ChangePromise h.node k parameter value (Err why) n → ⊥
   unfolding change_says
-  not-refusing-change k parameter value e p = never (change k parameter value) e (p h.cards h.incoming h.outgoing)
+  not-refusing-change k parameter value e p = not-refusing h (number_of why) (change k parameter value) e (p h.cards h.incoming h.outgoing)
 
   pub not-refusing-set-up : (a bs stmin : ℕ) → set_up_refusal a bs stmin ≡ 0
-      → SetUpPromise h.node a bs stmin (SetUpAnswer.Refused number) n → ⊥
-  unfolding set_up_says set_up_outcome
-  not-refusing-set-up a bs stmin e p =
-      let z : ready ≡ refused number = sym (ap (λ (o : Outcome). o.answer) (same (p h.cards h.incoming h.outgoing)) ∙ rw e) in
-      clash (cc)
+      → SetUpPromise h.node a bs stmin (Err why) n → ⊥
+  unfolding set_up_says
+  not-refusing-set-up a bs stmin e p = not-refusing-any-set-up (lent h.node h.cards h.incoming h.outgoing) (number_of why) a bs stmin e (p h.cards h.incoming h.outgoing)
 
 -- ---- one with a fixed answer: of two calls that the rules answer otherwise, one shuts it out
 
@@ -136,7 +143,7 @@ names h c e a = ap (λ (o : Outcome). named o.answer) (answered h c e a)
 
 -- A FIXED ANSWER TO A FRAME: at every node and store, of a single frame of one byte and one of two one shuts it out
 pub not-fixed-frame : (h : Held) (id : ℕ) → refusal h (frame id (0x01 ∷ 7 ∷ [])) ≡ 0 → refusal h (frame id (0x02 ∷ 7 ∷ 8 ∷ [])) ≡ 0
-    → (a : FrameAnswer)
+    → (a : Result Heard Refusal)
     → (d : List ℕ) × ((n : Node) × (cards : List Card) × (incoming : List ℕ) × FramePromise h.node h.cards h.incoming id d a n cards incoming → ⊥)
 unfolding reply came_at frame_came by_kind kind low heard_by single_came single_fits word_paper
 not-fixed-frame h id e f a =
@@ -149,7 +156,7 @@ not-fixed-frame h id e f a =
 in-store : (a k size : ℕ) → 1 ≤ a → k < berth_count → size ≡ berth_count * a → k * a + 0 < size
 in-store a k size some l e = let m : suc k * a ≤ berth_count * a = mul-le-mul_right a l in omega arith
 
-first_byte : (h : Held) (id x : ℕ) (a : FrameAnswer) (n : Node) (cards : List Card) (incoming : List ℕ) → refusal h (frame id (0x01 ∷ x ∷ [])) ≡ 0
+first_byte : (h : Held) (id x : ℕ) (a : Result Heard Refusal) (n : Node) (cards : List Card) (incoming : List ℕ) → refusal h (frame id (0x01 ∷ x ∷ [])) ≡ 0
     → FramePromise h.node h.cards h.incoming id (0x01 ∷ x ∷ []) a n cards incoming → get_or incoming (sender_of id * h.node.settings.area + 0) 0 ≡ x
 unfolding done after_frame stored came_at frame_came by_kind kind low heard_by single_came single_fits
 first_byte h id x a n cards incoming e p =
@@ -161,16 +168,16 @@ first_byte h id x a n cards incoming e p =
 -- FIXED BYTES: at every node and store, of two single frames of one byte one shuts out every store
 pub not-fixed-bytes : (h : Held) (id x y : ℕ) → (x ≡ y → ⊥) → refusal h (frame id (0x01 ∷ x ∷ [])) ≡ 0 → refusal h (frame id (0x01 ∷ y ∷ [])) ≡ 0
     → (incoming : List ℕ)
-    → (d : List ℕ) × ((n : Node) × (cards : List Card) × (a : FrameAnswer) × FramePromise h.node h.cards h.incoming id d a n cards incoming → ⊥)
+    → (d : List ℕ) × ((n : Node) × (cards : List Card) × (a : Result Heard Refusal) × FramePromise h.node h.cards h.incoming id d a n cards incoming → ⊥)
 not-fixed-bytes h id x y ne e f incoming =
-    not-both (λ d. (n : Node) × (cards : List Card) × (a : FrameAnswer) × FramePromise h.node h.cards h.incoming id d a n cards incoming)
+    not-both (λ d. (n : Node) × (cards : List Card) × (a : Result Heard Refusal) × FramePromise h.node h.cards h.incoming id d a n cards incoming)
     (0x01 ∷ x ∷ []) (0x01 ∷ y ∷ []) (get_or incoming (sender_of id * h.node.settings.area + 0) 0) x y ne
     (λ p. first_byte h id x p.2 p.0 p.1 incoming e p.3)
     (λ p. first_byte h id y p.2 p.0 p.1 incoming f p.3)
 
 -- A FIXED ANSWER TO A SEND, A CHANGE, A TURN, A TICK, A SET-UP; A FIXED PART: of two calls with another berth, another number passed over, one
 -- in order and one not, allowed settings and others, and a part of another length, one shuts it out
-pub not-fixed-send : (h : Held) (j k party : ℕ) (m : List ℕ) → (j ≡ k → ⊥) → refusal h (send j party m) ≡ 0 → refusal h (send k party m) ≡ 0 → (a : SendAnswer)
+pub not-fixed-send : (h : Held) (j k party : ℕ) (m : List ℕ) → (j ≡ k → ⊥) → refusal h (send j party m) ≡ 0 → refusal h (send k party m) ≡ 0 → (a : Result ℕ Refusal)
     → (i : ℕ) × ((n : Node) × (outgoing : List ℕ) × SendPromise h.node h.outgoing i party m a n outgoing → ⊥)
 unfolding reply
 not-fixed-send h j k party m ne e f a =
@@ -178,7 +185,7 @@ not-fixed-send h j k party m ne e f a =
     (λ p. names h (send j party m) e (p.2 h.cards h.incoming)) (λ p. names h (send k party m) f (p.2 h.cards h.incoming))
 
 pub not-fixed-change : (h : Held) (j k parameter value : ℕ) → (j ≡ k → ⊥) → refusal h (change j parameter value) ≡ 0
-    → refusal h (change k parameter value) ≡ 0 → (a : ChangeAnswer) → (i : ℕ) × ((n : Node) × ChangePromise h.node i parameter value a n → ⊥)
+    → refusal h (change k parameter value) ≡ 0 → (a : Result ℕ Refusal) → (i : ℕ) × ((n : Node) × ChangePromise h.node i parameter value a n → ⊥)
 unfolding reply
 not-fixed-change h j k parameter value ne e f a =
     not-both (λ i. (n : Node) × ChangePromise h.node i parameter value a n) j k (named (change_says a)) j k ne
@@ -196,14 +203,14 @@ passes h buffer = go (ltb-cases (passed_over h.node) berth_count)
     go (fails t l) = rw t (omega (arith, passed-ten h.node))
 
 -- a turn's number stands in its answer, whatever the buffer
-any-buffer : (a : TurnAnswer) (b : List ℕ) → named (turn_says a []) ≡ named (turn_says a b)
+any-buffer : (a : Result Turn Refusal) (b : List ℕ) → named (turn_says a []) ≡ named (turn_says a b)
 unfolding turn_says
-any-buffer (TurnAnswer.Refused n) b = refl
-any-buffer (TurnAnswer.None passed) b = refl
-any-buffer (TurnAnswer.HandedOver id code passed party) b = refl
+any-buffer (Err why) b = refl
+any-buffer (Ok (Turn.None passed)) b = refl
+any-buffer (Ok (Turn.HandedOver id report passed)) b = refl
 
 pub not-fixed-turn : (g h : Held) (buffer : List ℕ) → (passed_over g.node ≡ passed_over h.node → ⊥)
-    → refusal g (turn buffer) ≡ 0 → refusal h (turn buffer) ≡ 0 → (a : TurnAnswer)
+    → refusal g (turn buffer) ≡ 0 → refusal h (turn buffer) ≡ 0 → (a : Result Turn Refusal)
     → (f : Held) × ((n : Node) × (cards : List Card) × (buffer' : List ℕ) × TurnPromise f.node f.cards f.outgoing buffer a n cards buffer' → ⊥)
 not-fixed-turn g h buffer ne e f a =
     not-both (λ (f : Held). (n : Node) × (cards : List Card) × (buffer' : List ℕ) × TurnPromise f.node f.cards f.outgoing buffer a n cards buffer') g h
@@ -211,16 +218,16 @@ not-fixed-turn g h buffer ne e f a =
     (λ p. any-buffer a p.2 ∙ names g (turn buffer) e (p.3 g.incoming) ∙ passes g buffer)
     (λ p. any-buffer a p.2 ∙ names h (turn buffer) f (p.3 h.incoming) ∙ passes h buffer)
 
-pub not-fixed-tick : (g h : Held) → refusal g tick ≡ 0 → refusal h tick ≡ out_of_order → (a : TickAnswer)
+pub not-fixed-tick : (g h : Held) → refusal g tick ≡ 0 → refusal h tick ≡ out_of_order → (a : Result (List Codes) Refusal)
     → (f : Held) × ((n : Node) × (cards : List Card) × TickPromise f.node f.cards a n cards → ⊥)
 unfolding reply outcome refused_outcome
 not-fixed-tick g h e f a =
     not-both (λ (f : Held). (n : Node) × (cards : List Card) × TickPromise f.node f.cards a n cards) g h (named (tick_says a)) 0 out_of_order (λ z. omega arith)
-    (λ p. names g tick e (p.2.agrees g.incoming g.outgoing))
-    (λ p. ap (λ (o : Outcome). named o.answer) (same (p.2.agrees h.incoming h.outgoing)) ∙ rw f)
+    (λ p. names g tick e (p.2 g.incoming g.outgoing))
+    (λ p. ap (λ (o : Outcome). named o.answer) (same (p.2 h.incoming h.outgoing)) ∙ rw f)
 
 pub not-fixed-set-up : (n : Node) (s t : ℕ × ℕ × ℕ) → set_up_refusal s.0 s.1 s.2 ≡ 0 → set_up_refusal t.0 t.1 t.2 ≡ bad_setting
-    → (a : SetUpAnswer) → (r : ℕ × ℕ × ℕ) × ((n' : Node) × SetUpPromise n r.0 r.1 r.2 a n' → ⊥)
+    → (a : Result ⊤ Refusal) → (r : ℕ × ℕ × ℕ) × ((n' : Node) × SetUpPromise n r.0 r.1 r.2 a n' → ⊥)
 unfolding set_up_outcome refused_outcome
 not-fixed-set-up n s t e f a =
     not-both (λ (r : ℕ × ℕ × ℕ). (n' : Node) × SetUpPromise n r.0 r.1 r.2 a n') s t (named (set_up_says a)) 0 bad_setting (λ z. omega arith)
@@ -271,15 +278,15 @@ unfolding ticked
 still-idle b e = (rx-still b.rx (ap (λ (x : Berth). x.rx) e), tx-still b.tx (ap (λ (x : Berth). x.tx) e))
 
 -- DOING NOTHING, TIMERS: at every tick that the paper answers, of a node with a side that is not idle, a node left as it was is shut out
-pub not-idle-timers : (h : Held) (k : ℕ) (a : TickAnswer) (cards : List Card) → refusal h tick ≡ 0
+pub not-idle-timers : (h : Held) (k : ℕ) (a : Result (List Codes) Refusal) (cards : List Card) → refusal h tick ≡ 0
     → (((berth_at h.node k).rx ≡ Rx.Idle) × ((berth_at h.node k).tx ≡ Tx.Idle) → ⊥) → TickPromise h.node h.cards a h.node cards → ⊥
 unfolding done
 not-idle-timers h k a cards e busy p =
-    let q = ap (λ (o : Outcome). berth_at o.held.node k) (answered h tick e (p.agrees h.incoming h.outgoing)) in
+    let q = ap (λ (o : Outcome). berth_at o.held.node k) (answered h tick e (p h.incoming h.outgoing)) in
     busy (still-idle (berth_at h.node k) (sym (q ∙ berth-ticked h.node k)))
 
 -- DOING NOTHING, SETTINGS: at every change that the paper answers, to another value than the berth had, a node left as it was is shut out
-pub not-idle-settings : (h : Held) (k parameter value : ℕ) (a : ChangeAnswer) → refusal h (change k parameter value) ≡ 0
+pub not-idle-settings : (h : Held) (k parameter value : ℕ) (a : Result ℕ Refusal) → refusal h (change k parameter value) ≡ 0
     → (changed_settings (berth_at h.node k).settings parameter value ≡ (berth_at h.node k).settings → ⊥)
     → ChangePromise h.node k parameter value a h.node → ⊥
 unfolding done with_berth berth_at changed_berth
@@ -300,7 +307,7 @@ bytes-there l at v h =
 pub stood-before : (area : List ℕ) (at : ℕ) (v : List ℕ) → at + length v ≤ length area → sets area at v ≡ area → take (length v) (drop at area) ≡ v
 stood-before area at v h e = ap (λ (x : List ℕ). take (length v) (drop at x)) (sym e) ∙ bytes-there area at v h
 
-module _ (h : Held) (id : ℕ) (d : List ℕ) (a : FrameAnswer) (n : Node) (cards : List Card) (incoming : List ℕ) (e : refusal h (frame id d) ≡ 0) where
+module _ (h : Held) (id : ℕ) (d : List ℕ) (a : Result Heard Refusal) (n : Node) (cards : List Card) (incoming : List ℕ) (e : refusal h (frame id d) ≡ 0) where
   area-after : FramePromise h.node h.cards h.incoming id d a n cards incoming
       → area_of h.node.settings.area (sender_of id) incoming
       ≡ sets (area_of h.node.settings.area (sender_of id) h.incoming) (came_at h (sender_of id) d).place (came_at h (sender_of id) d).bytes
@@ -321,7 +328,7 @@ module _ (h : Held) (id : ℕ) (d : List ℕ) (a : FrameAnswer) (n : Node) (card
       differ (stood-before (area_of h.node.settings.area (sender_of id) h.incoming) _ _ (omega (arith, answered-inside h id d e)) (sym (area-after p) ∙ kept))
 
 -- so is it at every send that the paper answers, whose message differs from the bytes at the front of the area
-pub not-idle-message : (h : Held) (k party : ℕ) (m : List ℕ) (a : SendAnswer) (n : Node) (outgoing : List ℕ) → refusal h (send k party m) ≡ 0
+pub not-idle-message : (h : Held) (k party : ℕ) (m : List ℕ) (a : Result ℕ Refusal) (n : Node) (outgoing : List ℕ) → refusal h (send k party m) ≡ 0
     → (take (length m) (area_of h.node.settings.area k h.outgoing) ≡ m → ⊥)
     → area_of h.node.settings.area k outgoing ≡ area_of h.node.settings.area k h.outgoing
     → SendPromise h.node h.outgoing k party m a n outgoing → ⊥
@@ -337,7 +344,7 @@ not-idle-message h k party m a n outgoing e differ kept p =
 -- ---- one that stores the first frame and only counts the rest
 
 -- COUNTING ONLY: at every right awaited consecutive frame whose bytes differ from those at their place, an area left as it was is shut out
-pub not-counting : (h : Held) (id : ℕ) (d : List ℕ) (p : Taking) (t : ℕ) (a : FrameAnswer) (n : Node) (cards : List Card) (incoming : List ℕ) → refusal h (frame id d) ≡ 0
+pub not-counting : (h : Held) (id : ℕ) (d : List ℕ) (p : Taking) (t : ℕ) (a : Result Heard Refusal) (n : Node) (cards : List Card) (incoming : List ℕ) → refusal h (frame id d) ≡ 0
     → (berth_at h.node (sender_of id)).rx ≡ Rx.Awaits p t → kind d ≡ consecutive_kind → T (consecutive_fits (missing p) d) → low d ≡ p.sn.0
     → (take (length (piece p d)) (drop p.got (area_of h.node.settings.area (sender_of id) h.incoming)) ≡ piece p d → ⊥)
     → area_of h.node.settings.area (sender_of id) incoming ≡ area_of h.node.settings.area (sender_of id) h.incoming
@@ -351,34 +358,41 @@ not-counting h id d p t a n cards incoming e r c f l differ =
 
 -- MADE UP: at every turn that the paper answers, every number other than the distance from the berth served last to the one that is
 -- handed a frame is shut out, and every one but ten where none is
-pub not-made-up : (h : Held) (buffer buffer' : List ℕ) (n : Node) (cards : List Card) (k code passed : ℕ) (party : Party) → refusal h (turn buffer) ≡ 0
+pub not-any-made-up : (h : Held) (buffer bytes : List ℕ) (k code passed : ℕ) (party : Party) {g : Held} {b : List ℕ} → refusal h (turn buffer) ≡ 0
     → (passed ≡ distance h.node.served k → ⊥)
-    → TurnPromise h.node h.cards h.outgoing buffer (TurnAnswer.HandedOver (to_berth + k) code passed party) n cards buffer' → ⊥
-unfolding reply turn_says
-not-made-up h buffer buffer' n cards k code passed party e other p = go (ltb-cases (passed_over h.node) berth_count) (ap (λ (o : Outcome). o.answer) (answered h (turn buffer) e (p h.incoming)))
+    → Agrees (left (handed (to_berth + k) bytes code passed party) g b) (outcome h (turn buffer)) → ⊥
+unfolding reply
+not-any-made-up h buffer bytes k code passed party e other p = go (ltb-cases (passed_over h.node) berth_count) (ap (λ (o : Outcome). o.answer) (answered h (turn buffer) e p))
   where
     go : Tested (ltb (passed_over h.node) berth_count) (passed_over h.node < berth_count) (berth_count ≤ passed_over h.node)
-        → handed (to_berth + k) (take frame_size buffer') code passed party ≡ reply h (turn buffer) → ⊥
+        → handed (to_berth + k) bytes code passed party ≡ reply h (turn buffer) → ⊥
     go (holds t l) q =
-        let z : handed (to_berth + k) (take frame_size buffer') code passed party
+        let z : handed (to_berth + k) bytes code passed party
         ≡ handed (to_berth + reached h.node) (handed_at h (reached h.node)).frame (handed_at h (reached h.node)).code (passed_over h.node) (handed_at h (reached h.node)).party = rw t at q in
         let same_id : to_berth + k ≡ to_berth + reached h.node = cc in
         let same_number : passed ≡ passed_over h.node = cc in
         let (is-due, least) = reached-due h.node (in-order-range h.node (turn-answered h buffer e).order) l in
         other (same_number ∙ least ∙ ap (distance h.node.served) (omega arith))
-    go (fails t l) q = let z : handed (to_berth + k) (take frame_size buffer') code passed party ≡ none berth_count = rw t at q in clash (cc)
+    go (fails t l) q = let z : handed (to_berth + k) bytes code passed party ≡ none berth_count = rw t at q in clash (cc)
+
+pub not-made-up : (h : Held) (buffer buffer' : List ℕ) (n : Node) (cards : List Card) (k passed : ℕ) (report : Option Report) → refusal h (turn buffer) ≡ 0
+    → (passed ≡ distance h.node.served k → ⊥)
+    → TurnPromise h.node h.cards h.outgoing buffer (Ok (Turn.HandedOver (to_berth + k) report passed)) n cards buffer' → ⊥
+unfolding turn_says
+not-made-up h buffer buffer' n cards k passed report e other p =
+    not-any-made-up h buffer (take frame_size buffer') k (reported_code report) passed (reported_party report) e other (p h.incoming)
 
 pub not-made-up-none : (h : Held) (buffer buffer' : List ℕ) (n : Node) (cards : List Card) (passed : ℕ) → refusal h (turn buffer) ≡ 0
-    → (passed ≡ berth_count → ⊥) → TurnPromise h.node h.cards h.outgoing buffer (TurnAnswer.None passed) n cards buffer' → ⊥
+    → (passed ≡ berth_count → ⊥) → TurnPromise h.node h.cards h.outgoing buffer (Ok (Turn.None passed)) n cards buffer' → ⊥
 unfolding reply turn_says
 not-made-up-none h buffer buffer' n cards passed e other p =
     pick-either (λ (a : Answer). none passed ≡ a → ⊥) (ltb (passed_over h.node) berth_count) _ _ (λ t q. clash (cc)) (λ t q. other (cc))
     (ap (λ (o : Outcome). o.answer) (answered h (turn buffer) e (p h.incoming)))
 
--- ---- one that counts nothing on a card (paper 02, W1)
+-- ---- one that counts nothing on a card
 
 -- UNCOUNTED: at every frame that the paper answers with Begun, of a berth whose card is not frozen, cards left as they were are shut out
-pub not-uncounted : (h : Held) (id : ℕ) (d : List ℕ) (l : ℕ) (a : FrameAnswer) (n : Node) (incoming : List ℕ) → refusal h (frame id d) ≡ 0
+pub not-uncounted : (h : Held) (id : ℕ) (d : List ℕ) (l : ℕ) (a : Result Heard Refusal) (n : Node) (incoming : List ℕ) → refusal h (frame id d) ≡ 0
     → (came_at h (sender_of id) d).word ≡ Begun l → frozen (card_at h.cards (sender_of id)) ≡ false
     → FramePromise h.node h.cards h.incoming id d a n h.cards incoming → ⊥
 unfolding done after_frame added_at card_at added frame_adds
@@ -428,20 +442,20 @@ pub answered-here : (refusal (hearing Rx.Idle 0) (frame 0x640 (0x01 ∷ 7 ∷ []
     × (refusal (hearing Rx.Idle 0) (frame 0x640 eight_begun) ≡ 0)
     × (refusal (hearing Rx.Idle 0) (change 0 1 5) ≡ 0) × (refusal (hearing Rx.Idle 0) (change 1 1 5) ≡ 0)
 unfolding
-    all each first_unmet settings_allowed value_allowed in_block taking_in_range berth_in_order berth_at in_order right_store right_cards needs refusal set_up_refusal
+    all first_unmet settings_allowed value_allowed in_block taking_in_range berth_in_order berth_at in_order right_store right_cards needs refusal set_up_refusal
 answered-here = (refl, refl, refl, refl, refl, refl, refl, refl, refl, refl, refl, refl, refl, refl, refl)
 
 -- so for every fixed answer, and for every part, there is a call that shuts it out
 pub not-fixed-here :
-    ((a : FrameAnswer) → (d : List ℕ) × ((n : Node) × (cards : List Card) × (incoming : List ℕ) × FramePromise (hearing Rx.Idle 0).node blank_cards (replicate 80 0) 0x640 d a n cards incoming → ⊥))
-    × ((a : SendAnswer) → (k : ℕ) × ((n : Node) × (outgoing : List ℕ) × SendPromise (hearing Rx.Idle 0).node (replicate 80 0) k 0 (1 ∷ []) a n outgoing → ⊥))
-    × ((a : TurnAnswer) → (h : Held) × ((n : Node) × (cards : List Card) × (buffer : List ℕ) × TurnPromise h.node h.cards h.outgoing (replicate 8 0) a n cards buffer → ⊥))
-    × ((a : TickAnswer) → (h : Held) × ((n : Node) × (cards : List Card) × TickPromise h.node h.cards a n cards → ⊥))
-    × ((a : SetUpAnswer) → (s : ℕ × ℕ × ℕ) × ((n : Node) × SetUpPromise blank_node s.0 s.1 s.2 a n → ⊥))
+    ((a : Result Heard Refusal) → (d : List ℕ) × ((n : Node) × (cards : List Card) × (incoming : List ℕ) × FramePromise (hearing Rx.Idle 0).node blank_cards (replicate 80 0) 0x640 d a n cards incoming → ⊥))
+    × ((a : Result ℕ Refusal) → (k : ℕ) × ((n : Node) × (outgoing : List ℕ) × SendPromise (hearing Rx.Idle 0).node (replicate 80 0) k 0 (1 ∷ []) a n outgoing → ⊥))
+    × ((a : Result Turn Refusal) → (h : Held) × ((n : Node) × (cards : List Card) × (buffer : List ℕ) × TurnPromise h.node h.cards h.outgoing (replicate 8 0) a n cards buffer → ⊥))
+    × ((a : Result (List Codes) Refusal) → (h : Held) × ((n : Node) × (cards : List Card) × TickPromise h.node h.cards a n cards → ⊥))
+    × ((a : Result ⊤ Refusal) → (s : ℕ × ℕ × ℕ) × ((n : Node) × SetUpPromise blank_node s.0 s.1 s.2 a n → ⊥))
     × ((part : List ℕ) → (k : ℕ) × ((at in_at out_at : ℕ × ℕ) × ShowPromise (hearing Rx.Idle 1).node (replicate 80 0) (replicate 80 0) k Choice.Arrived part in_at out_at at → ⊥))
-    × ((a : ChangeAnswer) → (k : ℕ) × ((n : Node) × ChangePromise (hearing Rx.Idle 0).node k 1 5 a n → ⊥))
+    × ((a : Result ℕ Refusal) → (k : ℕ) × ((n : Node) × ChangePromise (hearing Rx.Idle 0).node k 1 5 a n → ⊥))
 unfolding
-    passed_over least_distance due distance showing shown_length showable in_order all each berth_in_order right_store berth_at area_of
+    passed_over least_distance due distance showing shown_length showable in_order all berth_in_order right_store berth_at area_of
 not-fixed-here = (
   not-fixed-frame (hearing Rx.Idle 0) 0x640 answered-here.0 answered-here.1,
   not-fixed-send (hearing Rx.Idle 0) 0 1 0 (1 ∷ []) (λ z. omega arith) answered-here.2 answered-here.3,
@@ -454,38 +468,38 @@ not-fixed-here = (
 
 -- for every incoming store there is a frame that shuts it out
 pub not-fixed-bytes-here : (incoming : List ℕ)
-    → (d : List ℕ) × ((n : Node) × (cards : List Card) × (a : FrameAnswer) × FramePromise (hearing Rx.Idle 0).node blank_cards (replicate 80 0) 0x640 d a n cards incoming → ⊥)
+    → (d : List ℕ) × ((n : Node) × (cards : List Card) × (a : Result Heard Refusal) × FramePromise (hearing Rx.Idle 0).node blank_cards (replicate 80 0) 0x640 d a n cards incoming → ⊥)
 not-fixed-bytes-here = not-fixed-bytes (hearing Rx.Idle 0) 0x640 7 8 (λ z. omega arith) answered-here.0 answered-here.11
 
-pub not-idle-here : (a : TickAnswer) (cards : List Card) → TickPromise (hearing (Rx.OwesOverflow 0) 0).node blank_cards a (hearing (Rx.OwesOverflow 0) 0).node cards → ⊥
+pub not-idle-here : (a : Result (List Codes) Refusal) (cards : List Card) → TickPromise (hearing (Rx.OwesOverflow 0) 0).node blank_cards a (hearing (Rx.OwesOverflow 0) 0).node cards → ⊥
 unfolding berth_at
 not-idle-here a cards =
     not-idle-timers (hearing (Rx.OwesOverflow 0) 0) 0 a cards answered-here.6 (λ q. let e : Rx.OwesOverflow 0 ≡ Rx.Idle = q.0 in clash (cc))
 
-pub not-idle-settings-here : (a : ChangeAnswer) → ChangePromise (hearing Rx.Idle 0).node 0 1 5 a (hearing Rx.Idle 0).node → ⊥
+pub not-idle-settings-here : (a : Result ℕ Refusal) → ChangePromise (hearing Rx.Idle 0).node 0 1 5 a (hearing Rx.Idle 0).node → ⊥
 unfolding berth_at changed_settings
 not-idle-settings-here a =
     not-idle-settings (hearing Rx.Idle 0) 0 1 5 a answered-here.13 (λ q. let z : ◌≡◌ {A = ℕ} 5 0 = ap (λ (s : BerthSettings). s.block) q in omega arith)
 
-pub not-idle-message-here : (a : SendAnswer) (n : Node) → SendPromise (hearing Rx.Idle 0).node (replicate 80 0) 0 0 (1 ∷ []) a n (replicate 80 0) → ⊥
+pub not-idle-message-here : (a : Result ℕ Refusal) (n : Node) → SendPromise (hearing Rx.Idle 0).node (replicate 80 0) 0 0 (1 ∷ []) a n (replicate 80 0) → ⊥
 unfolding area_of
 not-idle-message-here a n =
     not-idle-message (hearing Rx.Idle 0) 0 0 (1 ∷ []) a n (replicate 80 0) answered-here.2
     (λ q. let z : ◌≡◌ {A = ℕ} 0 1 = ap (λ (l : List ℕ). get_or l 0 0) q in omega arith) refl
 
-pub not-counting-here : (a : FrameAnswer) (n : Node) (cards : List Card)
+pub not-counting-here : (a : Result Heard Refusal) (n : Node) (cards : List Card)
     → FramePromise (hearing (Rx.Awaits six_of_eight 0) 0).node blank_cards (replicate 80 0) 0x640 (0x21 ∷ 7 ∷ 8 ∷ []) a n cards (replicate 80 0) → ⊥
 unfolding berth_at kind low consecutive_fits piece share area_of
 not-counting-here a n cards =
     not-counting (hearing (Rx.Awaits six_of_eight 0) 0) 0x640 (0x21 ∷ 7 ∷ 8 ∷ []) six_of_eight 0 a n cards (replicate 80 0) answered-here.10 refl refl tt refl
     (λ q. let z : ◌≡◌ {A = ℕ} 0 7 = ap (λ (l : List ℕ). get_or l 0 0) q in omega arith) refl
 
-pub not-uncounted-here : (a : FrameAnswer) (n : Node) (incoming : List ℕ)
+pub not-uncounted-here : (a : Result Heard Refusal) (n : Node) (incoming : List ℕ)
     → FramePromise (hearing Rx.Idle 0).node blank_cards (replicate 80 0) 0x640 eight_begun a n blank_cards incoming → ⊥
 unfolding came_at berth_at frame_came by_kind kind low heard_by short_length announced first_fits begun first_came card_at frozen
 not-uncounted-here a n incoming = not-uncounted (hearing Rx.Idle 0) 0x640 eight_begun 8 a n incoming answered-here.12 refl refl
 
-pub not-made-up-here : (n : Node) (cards : List Card) (code : ℕ) (party : Party) (buffer : List ℕ)
-    → TurnPromise (hearing (Rx.OwesOverflow 0) 0).node blank_cards (replicate 80 0) (replicate 8 0) (TurnAnswer.HandedOver 0x660 code 5 party) n cards buffer → ⊥
+pub not-made-up-here : (n : Node) (cards : List Card) (report : Option Report) (buffer : List ℕ)
+    → TurnPromise (hearing (Rx.OwesOverflow 0) 0).node blank_cards (replicate 80 0) (replicate 8 0) (Ok (Turn.HandedOver 0x660 report 5)) n cards buffer → ⊥
 unfolding distance
-not-made-up-here n cards code party buffer = not-made-up (hearing (Rx.OwesOverflow 0) 0) (replicate 8 0) buffer n cards 0 code 5 party answered-here.4 (λ z. omega arith)
+not-made-up-here n cards report buffer = not-made-up (hearing (Rx.OwesOverflow 0) 0) (replicate 8 0) buffer n cards 0 5 report answered-here.4 (λ z. omega arith)

@@ -1,3 +1,4 @@
--- What the calls promise, and what a call tests of its numbers.
+-- What the calls promise, and what their tests find.
 pub mod Promises
+pub mod Found
 pub mod Numbered

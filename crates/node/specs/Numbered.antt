@@ -1,7 +1,7 @@
--- What a call tests, over plain numbers: whether the node is in order, the area, lengths and numbers given. At a node these are the
--- refusals of the papers (proofs/Numbered), so that a call need not hand the node on.
-use Rattle.std.specs.Prelude.{ℕ, ◌+◌, ◌-◌, ◌*◌, Bool, not, ◌&&◌, List, [], ◌∷◌, ◌++◌, ltb, leb, eqb}
-use Rattle.rules.specs.Tests.{pick, Need, need, first_unmet}
+-- A refusal hangs on plain numbers alone: whether the node is in order, the area, lengths and numbers given, of a send the send side, of a
+-- change the receive side. At a node these are the refusals of the papers (proofs/Numbered).
+use Rattle.std.specs.Prelude.{ℕ, ◌+◌, ◌*◌, Bool, not, ◌&&◌, List, [], ◌∷◌, ◌++◌, ltb, leb, eqb}
+use Rattle.rules.specs.Tests.{Need, need, first_unmet}
 use Rattle.rules.specs.Numbers.{berth_count, from_berth, most_data, least_buffer, out_of_order, wrong_store, wrong_identifier, too_many_bytes, no_such_berth, empty_message, message_too_long, already_sending, short_buffer, wrong_cards, unknown_parameter, value_outside, already_receiving, no_such_party}
 use Rattle.rules.specs.Parties.{party_allowed}
 use Rattle.rules.specs.Turns.{busy}
@@ -63,11 +63,3 @@ change_refusal ordered rx k parameter value =
 
 unfoldable pub can_show : Bool → (area incoming outgoing k : ℕ) → Bool
 can_show ordered area incoming outgoing k = ordered && (is_store area incoming && (is_store area outgoing && ltb k berth_count))
-
--- ---- places: berth k stands at place k; one above 9 is refused, so any place will do for it
-
-unfoldable pub place_of : ℕ → ℕ
-place_of k = pick (ltb k berth_count) k 0
-
-unfoldable pub place_of_sender : ℕ → ℕ
-place_of_sender id = pick (ltb id from_berth) 0 (place_of (id - from_berth))

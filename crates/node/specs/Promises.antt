@@ -1,11 +1,9 @@
 -- The promise of each call, one predicate each over what the call is given, its answer, and the node, cards, stores and buffer after it:
--- what the code leaves is the outcome of the rules at that call. Answers are compared as paper 01 numbers them.
-use Rattle.std.specs.Prelude.{ℕ, ◌+◌, ◌*◌, ◌≡◌, List, [], replicate, take, drop}
-use Rattle.rules.specs.Numbers.{berth_count}
-use Rattle.rules.specs.Tests.{pick, unless}
+-- what the code leaves is the outcome of the rules at that call. Answers are compared as the paper numbers them.
+use Rattle.std.specs.Prelude.{ℕ, ◌+◌, ◌*◌, ◌≡◌, Result, ⊤, List, []}
+use Rattle.rules.specs.Tests.{pick}
 use Rattle.rules.specs.Frames.{frames_needed}
 use Rattle.rules.specs.Nodes.{Held}
-use Rattle.rules.specs.Parties.{scheduler}
 use Rattle.rules.specs.Answers.{Answer, shown, set_up_says, frame_says, tick_says, send_says, turn_says, change_says, paper_of}
 use Rattle.rules.specs.Events.{frame, tick, send, turn, show, change}
 use Rattle.rules.specs.Calls.{Outcome, outcome, set_up_outcome, showable, chosen}
@@ -13,12 +11,9 @@ use Rattle.rules.specs.declared.Node.{Node}
 use Rattle.rules.specs.declared.Card.{Card}
 use Rattle.rules.specs.declared.Choice.{Choice}
 use Rattle.rules.specs.declared.Codes.{Codes}
-use Rattle.rules.specs.declared.SetUpAnswer.{SetUpAnswer}
-use Rattle.rules.specs.declared.FrameAnswer.{FrameAnswer}
-use Rattle.rules.specs.declared.TickAnswer.{TickAnswer}
-use Rattle.rules.specs.declared.SendAnswer.{SendAnswer}
-use Rattle.rules.specs.declared.TurnAnswer.{TurnAnswer}
-use Rattle.rules.specs.declared.ChangeAnswer.{ChangeAnswer}
+use Rattle.rules.specs.declared.Refusal.{Refusal}
+use Rattle.rules.specs.declared.Heard.{Heard}
+use Rattle.rules.specs.declared.Turn.{Turn}
 
 -- ---- what a call is lent, what it leaves, and when two outcomes are the same
 
@@ -35,40 +30,30 @@ pub record Agrees (o p : Outcome) : Type 0 where
 
 -- ---- the promises. What a call is not given of stores and cards may be any, and it stays; a call without a buffer has the empty one
 
-abbrev pub SetUpPromise : Node → ℕ → ℕ → ℕ → SetUpAnswer → Node → Type 0
+abbrev pub SetUpPromise : Node → ℕ → ℕ → ℕ → Result ⊤ Refusal → Node → Type 0
 SetUpPromise n area block stmin a n' =
     (cards : List Card) (incoming outgoing : List ℕ) →
     Agrees (left (set_up_says a) (lent n' cards incoming outgoing) []) (set_up_outcome (lent n cards incoming outgoing) area block stmin)
 
-abbrev pub FramePromise : Node → List Card → List ℕ → ℕ → List ℕ → FrameAnswer → Node → List Card → List ℕ → Type 0
+abbrev pub FramePromise : Node → List Card → List ℕ → ℕ → List ℕ → Result Heard Refusal → Node → List Card → List ℕ → Type 0
 FramePromise n cards incoming id d a n' cards' incoming' =
     (outgoing : List ℕ) →
     Agrees (left (frame_says a) (lent n' cards' incoming' outgoing) []) (outcome (lent n cards incoming outgoing) (frame id d))
 
--- beside a refused tick stand ten times zeros
-abbrev pub ten_zeros : List Codes
-ten_zeros = replicate berth_count (record { receive = 0; send = 0; party = scheduler })
+abbrev pub TickPromise : Node → List Card → Result (List Codes) Refusal → Node → List Card → Type 0
+TickPromise n cards a n' cards' =
+    (incoming outgoing : List ℕ) →
+    Agrees (left (tick_says a) (lent n' cards' incoming outgoing) []) (outcome (lent n cards incoming outgoing) tick)
 
-pub record TickPromise (n : Node) (cards : List Card) (a : TickAnswer) (n' : Node) (cards' : List Card) : Type 0 where
-  pub agrees :
-      (incoming outgoing : List ℕ) →
-      Agrees (left (tick_says a) (lent n' cards' incoming outgoing) []) (outcome (lent n cards incoming outgoing) tick)
-  pub beside : unless a.refused (λ number. a.codes ≡ ten_zeros) (Unit {0})
-
-abbrev pub SendPromise : Node → List ℕ → (berth party : ℕ) → List ℕ → SendAnswer → Node → List ℕ → Type 0
+abbrev pub SendPromise : Node → List ℕ → (berth party : ℕ) → List ℕ → Result ℕ Refusal → Node → List ℕ → Type 0
 SendPromise n outgoing k party m a n' outgoing' =
     (cards : List Card) (incoming : List ℕ) →
     Agrees (left (send_says a) (lent n' cards incoming outgoing') []) (outcome (lent n cards incoming outgoing) (send k party m))
 
-abbrev pub TurnPromise : Node → List Card → List ℕ → List ℕ → TurnAnswer → Node → List Card → List ℕ → Type 0
+abbrev pub TurnPromise : Node → List Card → List ℕ → List ℕ → Result Turn Refusal → Node → List Card → List ℕ → Type 0
 TurnPromise n cards outgoing buffer a n' cards' buffer' =
     (incoming : List ℕ) →
     Agrees (left (turn_says a buffer') (lent n' cards' incoming outgoing) buffer') (outcome (lent n cards incoming outgoing) (turn buffer))
-
--- of a longer list the first so many cards are lent: a call's promise is of these, and the others stay
-pub record OfFirst (promise : List Card → List Card → Type 0) (count : ℕ) (cards cards' : List Card) : Type 0 where
-  pub promised : promise (take count cards) (take count cards')
-  pub others : drop count cards' ≡ drop count cards
 
 -- where a part starts: a block of memory, and the place in it. Berth k's area in the chosen store, or the front of the incoming
 -- store where nothing can be shown
@@ -85,8 +70,8 @@ pub record ShowPromise (n : Node) (incoming outgoing : List ℕ) (k : ℕ) (choi
       Agrees (left (shown part) (lent n cards incoming outgoing) []) (outcome (lent n cards incoming outgoing) (show k choice))
   pub starts : (cards : List Card) → part_at ≡ starts_at (lent n cards incoming outgoing) k choice in_at out_at
 
--- a change takes no store and no card (paper 02, W3)
-abbrev pub ChangePromise : Node → (k parameter value : ℕ) → ChangeAnswer → Node → Type 0
+-- a change takes no store and no card
+abbrev pub ChangePromise : Node → (k parameter value : ℕ) → Result ℕ Refusal → Node → Type 0
 ChangePromise n k parameter value a n' =
     (cards : List Card) (incoming outgoing : List ℕ) →
     Agrees (left (change_says a) (lent n' cards incoming outgoing) [])

@@ -1,38 +1,45 @@
--- The lines of a list's rows, one after the other.
-use mathlib.Core.Path.{◌≡◌, refl, ap, ◌∙◌}
-use Prim.Native.Nat.{ℕ, suc, ◌+◌, ◌-◌, ◌*◌, ◌≤◌, ◌<◌}
+-- The line of a row, as it is written, and the lines of a list's rows, one after the other.
+use mathlib.Core.Path.{◌≡◌, refl, sym, ap, ◌∙◌}
+use Prim.Native.Nat.{ℕ, zero, suc, ◌+◌, ◌^◌, ◌<◌}
 use native.Mathlib.Omega.{arith}
-use mathlib.Core.List.{List, [], ◌∷◌, ◌++◌, append-nil}
-use lib.ListN.{length, take, drop, replicate, length-drop}
-use lib.Seq.{take-take, drop-drop, length-take-le}
+use mathlib.Core.List.{List, [], ◌∷◌, ◌++◌, append_assoc, append-nil}
+use lib.ListN.{length, get_or, take, drop, length-drop}
+use Rattle.std.specs.Fmt.{decimal as printed}
+use Rattle.std.specs.List.{concat}
+use Rattle.std.specs.Simd.{first_chunks}
+use Rattle.std.proofs.lemmas.List.{take_all, take_more, length-take-le}
+use Rattle.rules.specs.Frames.{byte_at}
+use Rattle.text.specs.Building.{hex_text}
+use Rattle.text.proofs.Numbers.{number}
 use Rattle.plain.specs.Engine.{row_size}
-use Rattle.plain_ladder.specs.Line.{line_of}
-use Rattle.plain_ladder.specs.Ladder.{row_lines, Said, line_said, said_all}
+use Rattle.plain_ladder.specs.Line.{direction_word, frame_words, line_of}
+use Rattle.plain_ladder.specs.Ladder.{row_lines}
 
--- ---- a row, copied over a blank one
+pub line_is : (n : ℕ) (row : List ℕ) → n < 2 ^ 64 → length row ≡ row_size
+    → printed n ++ (direction_word (byte_at row 0) ++ (hex_text (take 8 (drop 1 row)) ++ (frame_words (byte_at row 1) (byte_at row 2) (byte_at row 3) ++ (10 ∷ [])))) ≡ line_of n row
+unfolding line_of
+line_is n row small size = rw (number n small, take_all 8 (drop 1 row) (omega (arith, length-drop 1 row, size)))
 
-pub row_is : (number : ℕ) (list copied : List ℕ) → number * row_size + row_size ≤ length list
-    → (let some = take (number * row_size + row_size - number * row_size) (drop (number * row_size) list) in copied ≡ take (length some) some ++ drop (length some) (replicate row_size 0))
-    → copied ≡ take row_size (drop (number * row_size) list)
-row_is number list copied h e =
-    let n : number * row_size + row_size - number * row_size ≡ row_size = omega arith in
-    let l : length (take row_size (drop (number * row_size) list)) ≡ row_size = length-take-le row_size (drop (number * row_size) list) (omega (arith, length-drop (number * row_size) list)) in
-    rw (n, l, take-take row_size row_size (drop (number * row_size) list) (omega arith), append-nil) at e
+-- the lines of rows, numbered from this number on
+abbrev pub numbered : ℕ → List (List ℕ) → List ℕ
+numbered n [] = []
+numbered n (r ∷ rs) = line_of n r ++ numbered (n + 1) rs
 
--- ---- a row more
+numbered-more : (n : ℕ) (rs : List (List ℕ)) (r : List ℕ) → numbered n (rs ++ r ∷ []) ≡ numbered n rs ++ line_of (n + length rs) r
+numbered-more n [] r = let e : n + 0 ≡ n = omega arith in rw e (append-nil (line_of n r))
+numbered-more n (x ∷ rs) r =
+    let e : n + 1 + length rs ≡ n + suc (length rs) = omega arith in
+    rw (numbered-more (n + 1) rs r, e) (sym (append_assoc (line_of n x) (numbered (n + 1) rs) (line_of (n + suc (length rs)) r)))
 
-pub lines_step : (number rows : ℕ) (list : List ℕ) (s : Said) → number < rows
-    → said_all (row_lines (number + 1) (rows - number) (drop (number * row_size) list)) s
-    ≡ said_all (row_lines (number + 1 + 1) (rows - (number + 1)) (drop ((number + 1) * row_size) list)) (line_said (line_of (number + 1) (take row_size (drop (number * row_size) list))) s)
-unfolding row_lines said_all
-lines_step number rows list s h =
-    let e : rows - number ≡ suc (rows - (number + 1)) = omega arith in
-    let n : number * row_size + row_size ≡ (number + 1) * row_size = omega arith in
-    let d : drop row_size (drop (number * row_size) list) ≡ drop ((number + 1) * row_size) list = drop-drop row_size (number * row_size) list ∙ ap (λ (k : ℕ). drop k list) n in
-    rw (e, d)
+pub numbered-rows : (n k : ℕ) (list : List ℕ) → numbered n (first_chunks row_size k list) ≡ concat (row_lines n k list)
+unfolding row_lines
+numbered-rows n zero list = refl
+numbered-rows n (suc k) list = ap (λ (l : List ℕ). line_of n (take row_size list) ++ l) (numbered-rows (n + 1) k (drop row_size list))
 
--- some lines behind others
-pub said-append : (a b : List (List ℕ)) (s : Said) → said_all (a ++ b) s ≡ said_all b (said_all a s)
-unfolding said_all
-said-append [] b s = refl
-said-append (l ∷ a) b s = said-append a b (line_said l s)
+-- one row more
+pub one-more : (rows : List (List ℕ)) (before : ℕ) (d : List ℕ) → before < length rows
+    → numbered 1 (take (before + 1) rows) ≡ numbered 1 (take before rows) ++ line_of (before + 1) (get_or rows before d)
+one-more rows before d h =
+    let size : length (take before rows) ≡ before = length-take-le before rows (omega arith) in
+    let next : 1 + before ≡ before + 1 = omega arith in
+    ap (numbered 1) (take_more rows before d h) ∙ numbered-more 1 (take before rows) (get_or rows before d) ∙ rw (size, next)

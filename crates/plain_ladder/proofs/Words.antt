@@ -1,45 +1,37 @@
--- What is asked for is in its ranges, where no word is refused.
-use mathlib.Core.Path.{◌≡◌, refl}
+-- A number that is taken for a word is in that word's range, so what is exchanged is in its ranges.
+use mathlib.Core.Path.{◌≡◌, refl, sym}
 use Prim.Native.Nat.{ℕ}
 use mathlib.Core.Bool.{Bool, true, false}
 use mathlib.Core.List.{List}
 use lib.Dec.{leb}
 use mir.Facts.{leb_yes}
+use Rattle.std.specs.Prelude.{Ok, Err, IfOk}
+use Rattle.std.proofs.lemmas.Result.{IfOk-at_ok}
 use Rattle.rules.specs.Tests.{pick, all}
 use Rattle.rules.specs.Numbers.{short_most}
 use Rattle.rules.proofs.Cases.{yes_of, and_left, and_right}
 use Rattle.plain_ladder.specs.declared.asked.Name.{Name}
 use Rattle.plain_ladder.specs.declared.asked.Refusal.{Refusal}
-use Rattle.plain_ladder.specs.declared.asked.Tested.{Tested}
-use Rattle.plain_ladder.specs.declared.asked.Asked.{Asked}
-use Rattle.plain_ladder.specs.Asked.{is_number, value_of, in_range, tested_as, where_good, asked_for, InRanges, Allowed}
+use Rattle.plain_ladder.specs.Ranges.{InRanges}
+use Rattle.plain_ladder.specs.Asked.{is_number, value_of, in_range, tested_as}
 
--- what a word that is told leaves, or what a number in its range does
-by_word : (P : Asked → Type 0) (name : Name) (word : List ℕ) (next : ℕ → Asked)
-    → ((n : ℕ) → in_range name n ≡ true → P (next n)) → ((r : Refusal) → P (Asked.Refused r)) → P (where_good (tested_as name word) next)
+tested-good : (name : Name) (word : List ℕ) (n : ℕ) → Ok n ≡ tested_as name word → in_range name n ≡ true
 unfolding tested_as
-by_word P name word next good wrong = go (is_number word) (in_range name (value_of word)) refl
+tested-good name word n e = IfOk-at_ok (λ k. in_range name k ≡ true) (sym e) (go (is_number word) (in_range name (value_of word)) refl)
   where
-    go : (a b : Bool) → in_range name (value_of word) ≡ b → P (where_good (pick a (pick b (Tested.Good (value_of word)) (Tested.Wrong (Refusal.Outside name))) (Tested.Wrong (Refusal.NoNumber name))) next)
-    go false b e = wrong _
-    go true false e = wrong _
-    go true true e = good (value_of word) e
+    go : (a b : Bool) → in_range name (value_of word) ≡ b
+        → IfOk (pick a (pick b (Ok (value_of word)) (Err (Refusal.Outside name))) (Err (Refusal.NoNumber name))) (λ k. in_range name k ≡ true)
+    go false b e = tt
+    go true false e = tt
+    go true true e = e
 
-module _ (length bs stmin : ℕ) where
-  in-ranges : in_range Name.Length length ≡ true → in_range Name.Bs bs ≡ true → in_range Name.Stmin stmin ≡ true → InRanges length bs stmin
-  unfolding in_range all
-  in-ranges a b c =
-      let t = yes_of a in
-      record {
-        length-least = leb_yes (and_left (leb 1 length) (leb length short_most) t);
-        length_most = leb_yes (and_right (leb 1 length) (leb length short_most) t);
-        own = rw (b, c);
-      }
-
-pub asked-allowed : (length bs stmin : List ℕ) → Allowed (asked_for length bs stmin)
-unfolding asked_for
-asked-allowed length bs stmin =
-    by_word Allowed Name.Length length _
-    (λ n a.
-    by_word Allowed Name.Bs bs _ (λ k b. by_word Allowed Name.Stmin stmin _ (λ t c. in-ranges n k t a b c) (λ r. tt)) (λ r. tt))
-    (λ r. tt)
+pub in_ranges : (l b s : List ℕ) (length bs stmin : ℕ) → Ok length ≡ tested_as Name.Length l → Ok bs ≡ tested_as Name.Bs b → Ok stmin ≡ tested_as Name.Stmin s
+    → InRanges length bs stmin
+unfolding in_range all
+in_ranges l b s length bs stmin e f g =
+    let t = yes_of (tested-good Name.Length l length e) in
+    record {
+      length-least = leb_yes (and_left (leb 1 length) (leb length short_most) t);
+      length_most = leb_yes (and_right (leb 1 length) (leb length short_most) t);
+      own = rw (tested-good Name.Bs b bs f, tested-good Name.Stmin s stmin g);
+    }

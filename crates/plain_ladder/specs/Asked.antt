@@ -1,29 +1,29 @@
 -- The program's three words: which are numbers, which numbers are in their ranges, and which word is told where one is wrong.
-use Rattle.std.specs.Prelude.{ℕ, ◌≤◌, ◌≡◌, Bool, true, ◌&&◌, List, length, leb}
-use Rattle.rules.specs.Tests.{pick, each}
+use Rattle.std.specs.Prelude.{ℕ, Bool, ◌&&◌, List, length, leb, Option, Some, None, Result, Ok, Err}
+use Rattle.std.specs.Char.{is_ascii_digit}
+use Rattle.std.specs.List.{list_all}
+use Rattle.rules.specs.Tests.{pick}
 use Rattle.rules.specs.Numbers.{short_most, largest_block}
-use Rattle.rules.specs.Ranges.{stmin_allowed, own_allowed}
+use Rattle.rules.specs.Ranges.{stmin_allowed}
 use Rattle.text.specs.Building.{value_after}
 use Rattle.plain_ladder.specs.declared.asked.Name.{Name}
 use Rattle.plain_ladder.specs.declared.asked.Refusal.{Refusal}
-use Rattle.plain_ladder.specs.declared.asked.Tested.{Tested}
-use Rattle.plain_ladder.specs.declared.asked.Asked.{Asked}
+use Rattle.plain_ladder.specs.declared.exchange.Exchange.{Exchange}
 
 -- ---- numbers
 
 abbrev pub most_digits : ℕ
 most_digits = 9
 
--- 0 to 9
-unfoldable pub is_digit : ℕ → Bool
-is_digit b = leb 48 b && leb b 57
-
 -- one to nine digits and nothing else
 unfoldable pub is_number : List ℕ → Bool
-is_number word = (leb 1 (length word) && leb (length word) most_digits) && each is_digit word
+is_number word = (leb 1 (length word) && leb (length word) most_digits) && list_all is_ascii_digit word
 
 abbrev pub value_of : List ℕ → ℕ
 value_of word = value_after 0 word
+
+abbrev pub number_in : List ℕ → Option ℕ
+number_in word = pick (is_number word) (Some (value_of word)) None
 
 -- ---- ranges
 
@@ -35,28 +35,22 @@ in_range Name.Stmin n = stmin_allowed n
 
 -- ---- the first word that is wrong: no number, or outside its range
 
-unfoldable pub tested_as : Name → List ℕ → Tested
+unfoldable pub tested_as : Name → List ℕ → Result ℕ Refusal
 tested_as name word =
     pick (is_number word)
-    (pick (in_range name (value_of word)) (Tested.Good (value_of word)) (Tested.Wrong (Refusal.Outside name)))
-    (Tested.Wrong (Refusal.NoNumber name))
+    (pick (in_range name (value_of word)) (Ok (value_of word)) (Err (Refusal.Outside name)))
+    (Err (Refusal.NoNumber name))
 
-abbrev pub where_good : Tested → (ℕ → Asked) → Asked
-where_good (Tested.Good n) next = next n
-where_good (Tested.Wrong refusal) next = Asked.Refused refusal
+abbrev pub where_good : {T : Type 0} → Result ℕ Refusal → (ℕ → Result T Refusal) → Result T Refusal
+where_good (Ok n) next = next n
+where_good (Err refusal) next = Err refusal
 
-unfoldable pub asked_for : (length bs stmin : List ℕ) → Asked
+-- the three numbers, where no word is wrong
+unfoldable pub asked_for : (length bs stmin : List ℕ) → Result (ℕ × ℕ × ℕ) Refusal
 asked_for length bs stmin =
     where_good (tested_as Name.Length length)
-    (λ n. where_good (tested_as Name.Bs bs) (λ k. where_good (tested_as Name.Stmin stmin) (λ t. Asked.Exchange n k t)))
+    (λ n. where_good (tested_as Name.Bs bs) (λ k. where_good (tested_as Name.Stmin stmin) (λ t. Ok (n, k, t))))
 
--- ---- what is exchanged is in its ranges
-
-pub record InRanges (length bs stmin : ℕ) : Type 0 where
-  pub length-least : 1 ≤ length
-  pub length_most : length ≤ short_most
-  pub own : own_allowed bs stmin ≡ true
-
-abbrev pub Allowed : Asked → Type 0
-Allowed (Asked.Exchange length bs stmin) = InRanges length bs stmin
-Allowed (Asked.Refused refusal) = Unit {0}
+abbrev pub numbers_of : Result Exchange Refusal → Result (ℕ × ℕ × ℕ) Refusal
+numbers_of (Ok e) = Ok (e.length, e.bs, e.stmin)
+numbers_of (Err refusal) = Err refusal

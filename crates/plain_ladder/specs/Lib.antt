@@ -1,4 +1,5 @@
 -- What the program prints.
+pub mod Ranges
 pub mod Asked
 pub mod Line
 pub mod Refusals

@@ -1,4 +1,4 @@
--- Paper 02, W12: a row of the plain engine's list as a line of text, in bytes.
+-- A row of the plain engine's list as a line of text, in bytes.
 use Rattle.std.specs.Prelude.{ℕ, ◌+◌, ◌*◌, ◌/◌, ◌%◌, List, [], ◌∷◌, ◌++◌, drop, eqb}
 use Rattle.rules.specs.Tests.{pick}
 use Rattle.rules.specs.Numbers.{single_kind, first_kind, consecutive_kind}

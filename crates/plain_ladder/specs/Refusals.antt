@@ -1,7 +1,6 @@
 -- The one line that is printed where a word is wrong, in bytes.
 use Rattle.std.specs.Prelude.{ℕ, List, [], ◌∷◌, ◌++◌}
 use Rattle.text.specs.Answers.{LF}
-use Rattle.text.specs.Building.{decimal, small_places}
 use Rattle.plain_ladder.specs.declared.asked.Name.{Name}
 use Rattle.plain_ladder.specs.declared.asked.Refusal.{Refusal}
 
@@ -33,12 +32,11 @@ range_word Name.Length = 49 ∷ 32 ∷ 116 ∷ 111 ∷ 32 ∷ 52 ∷ 48 ∷ 57 �
 range_word Name.Bs = 48 ∷ 32 ∷ 116 ∷ 111 ∷ 32 ∷ 50 ∷ 53 ∷ 53 ∷ []
 range_word Name.Stmin = 48 ∷ 32 ∷ 116 ∷ 111 ∷ 32 ∷ 49 ∷ 50 ∷ 55 ∷ 32 ∷ 111 ∷ 114 ∷ 32 ∷ 50 ∷ 52 ∷ 49 ∷ 32 ∷ 116 ∷ 111 ∷ 32 ∷ 50 ∷ 52 ∷ 57 ∷ []
 
+unfoldable pub refusal_words : Refusal → List ℕ
+refusal_words Refusal.Count = count_word
+refusal_words (Refusal.NoNumber name) = name_word name ++ no_number_word
+refusal_words (Refusal.Outside name) = name_word name ++ (outside_word ++ range_word name)
+
 -- `refused: LENGTH, BS and STMIN are wanted`, `refused: BS is no number of one to nine digits`, `refused: BS is not 0 to 255`
 unfoldable pub refusal_text : Refusal → List ℕ
-refusal_text Refusal.Count = refused_word ++ (count_word ++ (LF ∷ []))
-refusal_text (Refusal.NoNumber name) = refused_word ++ (name_word name ++ (no_number_word ++ (LF ∷ [])))
-refusal_text (Refusal.Outside name) = refused_word ++ (name_word name ++ (outside_word ++ (range_word name ++ (LF ∷ []))))
-
--- `refused: 6`
-unfoldable pub number_text : ℕ → List ℕ
-number_text n = refused_word ++ (decimal small_places n ++ (LF ∷ []))
+refusal_text refusal = refused_word ++ (refusal_words refusal ++ (LF ∷ []))

@@ -1,19 +1,20 @@
 -- What a record that was read tells of its bytes: a frame's data lie within them, and a message is no longer than the longest.
-use Rattle.std.proofs.Common.{◌≡◌, ℕ, ◌+◌, ◌≤◌, Bool, true, false, ◌&&◌, eqb, ltb, List, length, get_or, refl, ltb-false, eqb-true}
+use Rattle.std.proofs.Common.{◌≡◌, ℕ, ◌+◌, ◌≤◌, Bool, true, false, ◌&&◌, eqb, ltb, List, Result, Ok, Err, length, get_or, refl, ltb-false, eqb-true}
 use Rattle.rules.specs.Tests.{pick}
 use Rattle.records.specs.Records.{unused_in, number_at, frame_in, send_in, record_of}
 use Rattle.records.specs.declared.record.Record.{Record}
-use Rattle.records.specs.declared.record.Record.TheVariants.{Bad, Frame, Tick, Send, Turn}
+use Rattle.records.specs.declared.record.Record.TheVariants.{Frame, Tick, Send, Turn}
+use Rattle.records.specs.declared.record.BadRecord.{BadRecord}
 
-abbrev pub Told : List ℕ → Record → Type 0
-Told d Bad = Unit {0}
-Told d (Frame identifier long) = (length d ≡ 16) × (long ≤ 8)
-Told d Tick = Unit {0}
-Told d (Send berth long first) = long ≤ 1001
-Told d Turn = Unit {0}
+abbrev pub Told : List ℕ → Result Record BadRecord → Type 0
+Told d (Err bad) = Unit {0}
+Told d (Ok (Frame identifier long)) = (length d ≡ 16) × (long ≤ 8)
+Told d (Ok Tick) = Unit {0}
+Told d (Ok (Send berth long first)) = long ≤ 1001
+Told d (Ok Turn) = Unit {0}
 
 module _ (d : List ℕ) where
-  picked : (t : Bool) (x y : Record) → (t ≡ true → Told d x) → (t ≡ false → Told d y) → Told d (pick t x y)
+  picked : (t : Bool) (x y : Result Record BadRecord) → (t ≡ true → Told d x) → (t ≡ false → Told d y) → Told d (pick t x y)
   picked true x y f g = f refl
   picked false x y f g = g refl
 

@@ -1,15 +1,15 @@
 -- The paper's number and values are one-to-one: from them each answer can be read back.
 use mathlib.Core.Path.{◌≡◌, refl, sym, ap, ◌∙◌}
-use Prim.Native.Nat.{ℕ, zero, suc}
+use Prim.Native.Nat.{ℕ}
 use mathlib.Core.List.{List, [], ◌∷◌}
 use lib.ListN.{get_or, drop}
 use lib.Dec.{eqb}
-use Rattle.rules.specs.Tests.{pick, unless}
+use Rattle.rules.specs.Tests.{pick}
+use Rattle.std.specs.Prelude.{Err}
+use Rattle.rules.specs.Refused.{number_of}
+use Rattle.rules.specs.declared.Refusal.{Refusal}
 use Rattle.rules.specs.Answers.{Answer, refused, ready, heard, codes, sent, handed, none, shown, changed, Paper, tick_says, word_paper, codes_paper, paper_of}
-use Rattle.rules.specs.declared.Word.{Word}
-use Rattle.rules.specs.declared.Word.TheVariants.{Delivered, Begun, Failed, Ignored, TooLong, Took, Going, Waiting}
-use Rattle.rules.specs.declared.Codes.{Codes}
-use Rattle.rules.specs.declared.TickAnswer.{TickAnswer}
+use Rattle.rules.specs.Words.{Word, Delivered, Begun, Failed, Ignored, TooLong, Took, Going, Waiting, Codes}
 
 word_read : List ℕ → Word
 word_read l =
@@ -69,11 +69,7 @@ paper-back (changed k) = refl
 pub paper-one : (a b : Answer) → paper_of a ≡ paper_of b → a ≡ b
 paper-one a b e = sym (paper-back a) ∙ ap paper_read e ∙ paper-back b
 
--- a tick's answer whose refusal is not 0 says just that
-pub tick-refused : (a : TickAnswer) → (a.refused ≡ 0 → ⊥) → tick_says a ≡ refused a.refused
+-- a tick that is refused says just that
+pub tick-refused : (refusal : Refusal) → tick_says (Err refusal) ≡ refused (number_of refusal)
 unfolding tick_says
-tick-refused a f = go a.refused f
-  where
-    go : (n : ℕ) → (n ≡ 0 → ⊥) → unless n (λ m. refused m) (codes a.codes) ≡ refused n
-    go zero f = absurd (f refl)
-    go (suc n) f = refl
+tick-refused refusal = refl

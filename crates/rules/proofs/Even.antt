@@ -22,7 +22,7 @@ use Rattle.rules.specs.declared.Taking.{Taking}
 use Rattle.rules.specs.declared.Rx.{Rx}
 use Rattle.rules.specs.declared.Tx.{Tx}
 use Rattle.rules.specs.declared.Berth.{Berth}
-use Rattle.rules.specs.declared.Word.{Word}
+use Rattle.rules.specs.Words.{Word}
 use Rattle.rules.proofs.Cases.{is_true, is_false, pick-either}
 
 abbrev pub one : Bool → ℕ

@@ -27,7 +27,10 @@ use Rattle.rules.specs.declared.Party.{Party}
 use Rattle.rules.specs.declared.Rx.{Rx}
 use Rattle.rules.specs.declared.Tx.{Tx}
 use Rattle.rules.specs.declared.Berth.{Berth}
-use Rattle.rules.specs.declared.Word.TheVariants.{Begun, Failed, Going, Ignored, Waiting}
+use Rattle.rules.specs.Words.{Begun, Failed, Going, Ignored, Waiting, code_number, reason_number}
+use Rattle.rules.specs.declared.Code.{Code}
+use Rattle.rules.specs.declared.Reason.{Reason}
+use Rattle.rules.specs.declared.Reason.TheVariants.{NoData, OtherKind, WrongLength, NotAwaited}
 use Rattle.rules.proofs.Areas.{area_same}
 use Rattle.rules.proofs.Inside.{answered-inside}
 use Rattle.rules.proofs.Cases.{is_true, eqb_is, eqb-not, ltb-is, or_cases, and_left, and_right, tests, pick-either}
@@ -35,7 +38,7 @@ use Rattle.rules.proofs.Cases.{is_true, eqb_is, eqb-not, ltb-is, or_cases, and_l
 -- ---- every branch of a frame at a berth: what holds of each kind's rule holds of the frame
 
 pub frame-either : (P : Came → Type 0) (s : Settings) (b : Berth) (d : List ℕ)
-    → ((why : ℕ) → P (heard_by b (ignored why b.rx b.last)))
+    → ((why : Reason) → P (heard_by b (ignored (reason_number why) b.rx b.last)))
     → P (heard_by b (single_came b.rx b.last d))
     → P (heard_by b (first_came s b.rx b.last d))
     → P (heard_by b (consecutive_came b.settings.block b.rx b.last d))
@@ -43,30 +46,30 @@ pub frame-either : (P : Came → Type 0) (s : Settings) (b : Berth) (d : List �
     → P (frame_came s b d)
 unfolding frame_came by_kind
 frame-either P s b d ignores single first consecutive flow =
-    pick-either P (eqb (length d) 0) _ _ (λ t. ignores 1)
+    pick-either P (eqb (length d) 0) _ _ (λ t. ignores NoData)
     (λ t. pick-either P (eqb (kind d) single_kind) _ _ (λ u. single)
     (λ u. pick-either P (eqb (kind d) first_kind) _ _ (λ v. first)
     (λ v. pick-either P (eqb (kind d) consecutive_kind) _ _ (λ w. consecutive)
-    (λ w. pick-either P (eqb (kind d) flow_kind) _ _ (λ x. flow) (λ x. ignores 2)))))
+    (λ w. pick-either P (eqb (kind d) flow_kind) _ _ (λ x. flow) (λ x. ignores OtherKind)))))
 
 -- every branch of flow control at a send side: ignored, go, WAIT, and what ends the sending
 pub told-either : (P : Told → Type 0) (tx : Tx) (d : List ℕ)
-    → ((why : ℕ) → P (flow_ignored why tx))
+    → ((why : Reason) → P (flow_ignored (reason_number why) tx))
     → ((o : Sending) (party : Party) → P (record { tx = Tx.Consecutive party (granted o d) 0; word = Going }))
     → ((o : Sending) (party : Party) → P (record { tx = Tx.AwaitsFlow party o 0; word = Waiting }))
-    → ((code : ℕ) (party : Party) → P (record { tx = Tx.Idle; word = Failed code party }))
+    → ((code : Code) (party : Party) → P (record { tx = Tx.Idle; word = Failed (code_number code) party }))
     → P (flow_came tx d)
 unfolding by_status
-told-either P Tx.Idle d ignores goes waits fails = ignores 4
-told-either P (Tx.SingleDue party n t) d ignores goes waits fails = ignores 4
-told-either P (Tx.FirstDue party n t) d ignores goes waits fails = ignores 4
+told-either P Tx.Idle d ignores goes waits fails = ignores NotAwaited
+told-either P (Tx.SingleDue party n t) d ignores goes waits fails = ignores NotAwaited
+told-either P (Tx.FirstDue party n t) d ignores goes waits fails = ignores NotAwaited
 told-either P (Tx.AwaitsFlow party o t) d ignores goes waits fails =
     pick-either P (flow_fits d) _ _
     (λ u. pick-either P (eqb (low d) go_status) _ _ (λ v. goes o party)
     (λ v. pick-either P (eqb (low d) wait_status) _ _ (λ w. waits o party)
-    (λ w. pick-either P (eqb (low d) overflow_status) _ _ (λ x. fails 9 party) (λ x. fails 6 party))))
-    (λ u. ignores 3)
-told-either P (Tx.Consecutive party o t) d ignores goes waits fails = ignores 4
+    (λ w. pick-either P (eqb (low d) overflow_status) _ _ (λ x. fails Code.BufferOvflw party) (λ x. fails Code.InvalidFs party))))
+    (λ u. ignores WrongLength)
+told-either P (Tx.Consecutive party o t) d ignores goes waits fails = ignores NotAwaited
 
 -- two words that are not the same
 clash : {X : Type 0} → ◌≡◌ {A = ℕ} 0 1 → X
@@ -121,7 +124,7 @@ module _ (why : ℕ) where
   unfolding heard_by told_by
   ignored-leaves s b d =
       frame-either (λ (c : Came). c.word ≡ Ignored why → (c.berth ≡ b) × (c.bytes ≡ [])) s b d
-      (λ i e. kept (ignored i b.rx b.last) (ignored-kept i b.rx b.last e))
+      (λ i e. kept (ignored (reason_number i) b.rx b.last) (ignored-kept (reason_number i) b.rx b.last e))
       (λ e. kept (single_came b.rx b.last d) (single-kept b.rx b.last d e))
       (λ e. kept (first_came s b.rx b.last d) (first-kept s b.rx b.last d e))
       (λ e. kept (consecutive_came b.settings.block b.rx b.last d) (consecutive-kept b.settings.block b.rx b.last d e))
@@ -133,20 +136,20 @@ module _ (why : ℕ) where
 -- ---- every branch of a consecutive frame at a receive side: ignored, the last, one of several, and a wrong SN
 
 pub consecutive-either : (P : Heard → Type 0) (bs : ℕ) (rx : Rx) (last : ℕ) (d : List ℕ)
-    → ((why : ℕ) → P (ignored why rx last))
+    → ((why : Reason) → P (ignored (reason_number why) rx last))
     → ((p : Taking) → P (completed p d))
     → ((p : Taking) → P (took bs p last d))
     → P (wrong_sn last)
     → P (consecutive_came bs rx last d)
 unfolding awaited_came
-consecutive-either P bs Rx.Idle last d ignores completes takes misses = ignores 4
-consecutive-either P bs (Rx.OwesOverflow t) last d ignores completes takes misses = ignores 4
-consecutive-either P bs (Rx.OwesGo p t) last d ignores completes takes misses = ignores 4
+consecutive-either P bs Rx.Idle last d ignores completes takes misses = ignores NotAwaited
+consecutive-either P bs (Rx.OwesOverflow t) last d ignores completes takes misses = ignores NotAwaited
+consecutive-either P bs (Rx.OwesGo p t) last d ignores completes takes misses = ignores NotAwaited
 consecutive-either P bs (Rx.Awaits p t) last d ignores completes takes misses =
     pick-either P (consecutive_fits (missing p) d) _ _
     (λ u. pick-either P (eqb (low d) p.sn.0) _ _
     (λ v. pick-either P (leb (missing p) consecutive_most) _ _ (λ w. completes p) (λ w. takes p)) (λ v. misses))
-    (λ u. ignores 3)
+    (λ u. ignores WrongLength)
 
 -- ---- trusting the announced length
 

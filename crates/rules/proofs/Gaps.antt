@@ -1,4 +1,4 @@
--- What gap each STmin gives (paper 02, W2): from the branches of `ticks_meant`, and one more where it is above 0.
+-- What gap each STmin gives: from the branches of `ticks_meant`, and one more where it is above 0.
 use mathlib.Core.Path.{◌≡◌, refl}
 use mathlib.Core.Logic.{inl, inr}
 use Prim.Native.Nat.{ℕ, ◌+◌, ◌≤◌, ◌<◌}

@@ -1,4 +1,4 @@
--- No stored byte lands outside its berth's area (paper 02, W11): from the ranges of a node in order, and so for the stores. Paper 01's
+-- No stored byte lands outside its berth's area: from the ranges of a node in order, and so for the stores. The paper's
 -- refusal 11 tested for it; no answer hangs on that test.
 use mathlib.Core.Path.{◌≡◌, refl, ◌∙◌}
 use mathlib.Core.Logic.{◌⊎◌, inl, inr, ⊎_elim}
@@ -9,7 +9,7 @@ use mathlib.Core.List.{List, [], ◌∷◌, ◌++◌}
 use lib.ListN.{length, get_or, set, replicate}
 use lib.Seq.{sets, length-sets, get_or-set_other}
 use lib.Dec.{leb}
-use Rattle.rules.specs.Tests.{all, each, need, first_unmet, unless}
+use Rattle.rules.specs.Tests.{all, need, first_unmet, unless}
 use Rattle.rules.specs.Numbers.{berth_count, unused}
 use Rattle.rules.specs.Frames.{byte_at, kind, low, consecutive_fits, share}
 use Rattle.rules.specs.Nodes.{fresh, berth_at, with_rx, Held}
@@ -85,7 +85,7 @@ outside-stays h id d = go (refusal h (frame id d)) refl
 
 -- ---- refusal 11
 
--- NO ANSWER HANGS ON IT: with paper 01's row, tested last, every frame has the refusal that it has without
+-- NO ANSWER HANGS ON IT: with the struck row of refusal 11, tested last, every frame has the refusal that it has without
 pub row-struck : (h : Held) (id : ℕ) (d : List ℕ)
     → first_unmet
     (needs h (frame id d)
@@ -115,7 +115,7 @@ pub filled-here : (in_order edge_node ≡ true)
     × ((came_at edge_held 3 edge_frame).place + length (came_at edge_held 3 edge_frame).bytes ≡ 8)
     × ((outcome edge_held (frame 0x643 edge_frame)).held.incoming ≡ replicate 30 0xEE ++ (7 ∷ 8 ∷ replicate 48 0xEE))
 unfolding
-    in_order all each berth_in_order taking_in_range in_block berth_at came_at frame_came by_kind kind low heard_by awaited_came consecutive_fits
+    in_order all berth_in_order taking_in_range in_block berth_at came_at frame_came by_kind kind low heard_by awaited_came consecutive_fits
     completed piece share outcome done after_frame stored refusal needs first_unmet right_store right_cards
 filled-here = (refl, refl, refl)
 

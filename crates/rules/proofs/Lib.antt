@@ -8,7 +8,10 @@ pub mod Parties
 pub mod Order
 pub mod Inside
 pub mod Exact
+pub mod Refused
+pub mod Words
 pub mod Facts
+pub mod Said
 pub mod Round
 pub mod Handed
 pub mod Pace

@@ -13,6 +13,7 @@ use Rattle.rules.specs.Frames.{byte_at, kind, single_fits, announced, first_fits
 use Rattle.rules.specs.Arrivals.{Heard, ignored, single_came, above_area, turned_away, begun, first_came, completed, took, wrong_sn, consecutive_came, Told, granted, flow_ignored, Came, heard_by, told_by, frame_came, is_going}
 use Rattle.rules.specs.Ticks.{ran, tx_ticked}
 use Rattle.rules.specs.Turns.{flow_due, message_due, due, to_go, moved, after_consecutive, message_frame, after_message, HandedOver, hand_over, begins_with}
+use Rattle.rules.specs.Words.{reason_number}
 use Rattle.rules.specs.declared.Party.{Party}
 use Rattle.rules.specs.declared.Settings.{Settings}
 use Rattle.rules.specs.declared.Rx.{Rx}
@@ -51,7 +52,7 @@ first-not s rx last d =
 
 consecutive-not : (bs : ℕ) (rx : Rx) (last : ℕ) (d : List ℕ) → NotGoing (consecutive_came bs rx last d)
 unfolding completed took wrong_sn
-consecutive-not bs rx last d = consecutive-either NotGoing bs rx last d (λ why. ignored-not why rx last) (λ p t. t) (λ p t. t) (λ t. t)
+consecutive-not bs rx last d = consecutive-either NotGoing bs rx last d (λ why. ignored-not (reason_number why) rx last) (λ p t. t) (λ p t. t) (λ t. t)
 
 -- ---- a frame
 
@@ -61,7 +62,7 @@ pub going-paced : (s : Settings) (b : Berth) (d : List ℕ) → T (is_going (fra
 unfolding heard_by told_by flow_ignored granted
 going-paced s b d =
     frame-either (λ (c : Came). T (is_going c.word) → Paced (gap_of (byte_at d 2)) 0 0 c.berth.tx) s b d
-    (λ why t. absurd (ignored-not why b.rx b.last t)) (λ t. absurd (single-not b.rx b.last d t))
+    (λ why t. absurd (ignored-not (reason_number why) b.rx b.last t)) (λ t. absurd (single-not b.rx b.last d t))
     (λ t. absurd (first-not s b.rx b.last d t)) (λ t. absurd (consecutive-not b.settings.block b.rx b.last d t))
     (told-either (λ (told : Told). T (is_going told.word) → Paced (gap_of (byte_at d 2)) 0 0 told.tx) b.tx d
     (λ why t. absurd t) (λ o party t. (refl, omega arith)) (λ o party t. absurd t) (λ code party t. absurd t))

@@ -52,7 +52,7 @@ pub settings-allowed : (a bs stmin : ℕ) → SettingsRange a bs stmin → T (se
 unfolding settings_allowed
 settings-allowed a bs stmin r = yes-all _ (area-allowed a r.area, (own-allowed bs stmin r.own, tt))
 
--- ---- a parameter's value (paper 02, W3)
+-- ---- a parameter's value
 
 pub value-range : (parameter value : ℕ) → T (value_allowed parameter value) → ValueRange parameter value
 unfolding value_allowed

@@ -1,4 +1,4 @@
--- Demand 3, one berth alone: its part of the node, of the two stores and of the cards, its own events, and what a run of them leaves and says.
+-- One berth alone: its part of the node, of the two stores and of the cards, its own events, and what a run of them leaves and says.
 use Rattle.std.specs.Prelude.{ℕ, List, [], ◌∷◌, length}
 use Rattle.std.proofs.lemmas.List.Edits.{sets}
 use Rattle.rules.specs.Nodes.{berth_at, Held}
@@ -13,7 +13,7 @@ use Rattle.rules.specs.declared.Settings.{Settings}
 use Rattle.rules.specs.declared.Party.{Party}
 use Rattle.rules.specs.declared.Berth.{Berth}
 use Rattle.rules.specs.declared.Card.{Card}
-use Rattle.rules.specs.declared.Word.{Word}
+use Rattle.rules.specs.Words.{Word}
 
 -- berth k's state, its two areas and its card
 pub record Part : Type 0 where

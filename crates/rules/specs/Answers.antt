@@ -1,22 +1,19 @@
 -- What the calls answer: the answers in the paper's words, the reports in them, and the paper's number and values for each case.
-use Rattle.std.specs.Prelude.{ℕ, zero, suc, ◌-◌, List, [], ◌∷◌, ◌++◌, take, leb, eqb}
-use Rattle.rules.specs.Tests.{pick, unless}
+use Rattle.std.specs.Prelude.{ℕ, zero, suc, ◌-◌, Result, Ok, Err, ⊤, List, [], ◌∷◌, ◌++◌, take, map, leb, eqb}
+use Rattle.rules.specs.Tests.{pick}
+use Rattle.rules.specs.Refused.{number_of}
+use Rattle.rules.specs.Words.{Word, Delivered, Begun, Failed, Ignored, TooLong, Took, Going, Waiting, Codes, code_said, reported_code, reported_party, word_said, codes_said}
 use Rattle.rules.specs.Parties.{scheduler}
 use Rattle.rules.specs.Numbers.{frame_size, to_berth, N_OK, N_WRONG_SN}
 use Rattle.rules.specs.declared.Party.{Party}
-use Rattle.rules.specs.declared.Word.{Word}
-use Rattle.rules.specs.declared.Word.TheVariants.{Delivered, Begun, Failed, Ignored, TooLong, Took, Going, Waiting}
-use Rattle.rules.specs.declared.Codes.{Codes}
-use Rattle.rules.specs.declared.SetUpAnswer.{SetUpAnswer}
-use Rattle.rules.specs.declared.FrameAnswer.{FrameAnswer}
-use Rattle.rules.specs.declared.TickAnswer.{TickAnswer}
-use Rattle.rules.specs.declared.SendAnswer.{SendAnswer}
-use Rattle.rules.specs.declared.TurnAnswer.{TurnAnswer}
-use Rattle.rules.specs.declared.ChangeAnswer.{ChangeAnswer}
+use Rattle.rules.specs.declared.Refusal.{Refusal}
+use Rattle.rules.specs.declared.Heard.{Heard}
+use Rattle.rules.specs.declared.Codes.{Codes as CodeCodes}
+use Rattle.rules.specs.declared.Turn.{Turn}
 
 -- refused with a number; set up; heard at a berth with old code and word; for each of ten berths the codes of both sides and the party; sent
 -- to a berth; handed over with identifier, frame, code, passed over and party; none with passed over; a part shown; a berth's setting
--- changed (paper 02, W3)
+-- changed
 pub data Answer : Type 0 where
   refused : ℕ → Answer
   ready : Answer
@@ -28,7 +25,7 @@ pub data Answer : Type 0 where
   shown : List ℕ → Answer
   changed : ℕ → Answer
 
--- ---- reports: berth, side, code, and the party that sends, 0 for the receive side (paper 02, W6). Delivered reports 1, Failed its code, an
+-- ---- reports: berth, side, code, and the party that sends, 0 for the receive side. Delivered reports 1, Failed its code, an
 -- old reception 7; TooLong reports nothing
 
 pub data Side : Type 0 where
@@ -81,29 +78,31 @@ reports (changed k) = []
 
 -- ---- the answers of the code, in the paper's words; a frame handed over is the buffer's first eight bytes
 
-unfoldable pub set_up_says : SetUpAnswer → Answer
-set_up_says (SetUpAnswer.Refused n) = refused n
-set_up_says SetUpAnswer.Ready = ready
+unfoldable pub set_up_says : Result ⊤ Refusal → Answer
+set_up_says (Err refusal) = refused (number_of refusal)
+set_up_says (Ok done) = ready
 
-unfoldable pub frame_says : FrameAnswer → Answer
-frame_says (FrameAnswer.Refused n) = refused n
-frame_says (FrameAnswer.Heard k old w) = heard k old w
+unfoldable pub frame_says : Result Heard Refusal → Answer
+frame_says (Err refusal) = refused (number_of refusal)
+frame_says (Ok answer) = heard answer.berth (code_said answer.old) (word_said answer.word)
 
-unfoldable pub tick_says : TickAnswer → Answer
-tick_says a = unless a.refused (λ n. refused n) (codes a.codes)
+unfoldable pub tick_says : Result (List CodeCodes) Refusal → Answer
+tick_says (Err refusal) = refused (number_of refusal)
+tick_says (Ok ended) = codes (map codes_said ended)
 
-unfoldable pub send_says : SendAnswer → Answer
-send_says (SendAnswer.Refused n) = refused n
-send_says (SendAnswer.Sent k) = sent k
+unfoldable pub send_says : Result ℕ Refusal → Answer
+send_says (Err refusal) = refused (number_of refusal)
+send_says (Ok k) = sent k
 
-unfoldable pub turn_says : TurnAnswer → List ℕ → Answer
-turn_says (TurnAnswer.Refused n) buffer = refused n
-turn_says (TurnAnswer.None passed) buffer = none passed
-turn_says (TurnAnswer.HandedOver id code passed party) buffer = handed id (take frame_size buffer) code passed party
+unfoldable pub turn_says : Result Turn Refusal → List ℕ → Answer
+turn_says (Err refusal) buffer = refused (number_of refusal)
+turn_says (Ok (Turn.None passed)) buffer = none passed
+turn_says (Ok (Turn.HandedOver id report passed)) buffer =
+    handed id (take frame_size buffer) (reported_code report) passed (reported_party report)
 
-unfoldable pub change_says : ChangeAnswer → Answer
-change_says (ChangeAnswer.Refused n) = refused n
-change_says (ChangeAnswer.Changed k) = changed k
+unfoldable pub change_says : Result ℕ Refusal → Answer
+change_says (Err refusal) = refused (number_of refusal)
+change_says (Ok k) = changed k
 
 -- ---- the paper's number and values for each case, as plain numbers: the words in the order in which the paper lists them
 

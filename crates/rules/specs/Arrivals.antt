@@ -1,4 +1,4 @@
--- Paper 01, "A frame arrives", at one berth. A rule says the berth's next state, the old code, the word, and which bytes are
+-- "A frame arrives", at one berth. A rule says the berth's next state, the old code, the word, and which bytes are
 -- stored at which place of the berth's area; it does not carry the area.
 use Rattle.std.specs.Prelude.{ℕ, ◌+◌, ◌-◌, Bool, true, false, List, [], length, take, drop, ltb, leb, eqb}
 use Rattle.rules.specs.Tests.{pick}
@@ -13,8 +13,7 @@ use Rattle.rules.specs.declared.Party.{Party}
 use Rattle.rules.specs.declared.Rx.{Rx}
 use Rattle.rules.specs.declared.Tx.{Tx}
 use Rattle.rules.specs.declared.Berth.{Berth}
-use Rattle.rules.specs.declared.Word.{Word}
-use Rattle.rules.specs.declared.Word.TheVariants.{Delivered, Begun, Failed, Ignored, TooLong, Took, Going, Waiting}
+use Rattle.rules.specs.Words.{Word, Delivered, Begun, Failed, Ignored, TooLong, Took, Going, Waiting}
 
 -- what a frame makes of a receive side: state, last length, old code, word, and the bytes stored with their place
 pub record Heard : Type 0 where

@@ -1,4 +1,4 @@
--- Paper 01, the calls: what each leaves and answers where it is not refused, the outcome of a call, and a run.
+-- The calls: what each leaves and answers where it is not refused, the outcome of a call, and a run.
 use Rattle.std.specs.Prelude.{ℕ, ◌+◌, Bool, ◌&&◌, List, [], ◌∷◌, ◌++◌, map, length, take, drop, ltb}
 use Rattle.rules.specs.Tests.{pick, unless}
 use Rattle.rules.specs.Numbers.{berth_count, to_berth, frame_size}

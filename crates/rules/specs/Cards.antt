@@ -1,4 +1,4 @@
--- Paper 02, W1, a card per berth: the lent list of ten cards, when a card is frozen, and what one event of a berth adds to its card.
+-- A card per berth: the lent list of ten cards, when a card is frozen, and what one event of a berth adds to its card.
 use Rattle.std.specs.Prelude.{ℕ, ◌+◌, Bool, true, false, not, ◌&&◌, ◌||◌, List, [], ◌∷◌, length, get_or, set, eqb}
 use Rattle.rules.specs.Tests.{pick}
 use Rattle.rules.specs.Numbers.{berth_count, most_count, single_kind, N_OK, N_TIMEOUT_A, N_TIMEOUT_Cr, N_WRONG_SN, N_INVALID_FS, N_UNEXP_PDU, N_BUFFER_OVFLW}
@@ -12,8 +12,7 @@ use Rattle.rules.specs.declared.Rx.{Rx}
 use Rattle.rules.specs.declared.Berth.{Berth}
 use Rattle.rules.specs.declared.Card.{Card}
 use Rattle.rules.specs.declared.Adds.{Adds}
-use Rattle.rules.specs.declared.Word.{Word}
-use Rattle.rules.specs.declared.Word.TheVariants.{Delivered, Begun, Failed, Ignored, TooLong, Took, Going, Waiting}
+use Rattle.rules.specs.Words.{Word, Delivered, Begun, Failed, Ignored, TooLong, Took, Going, Waiting}
 
 -- ---- the list
 

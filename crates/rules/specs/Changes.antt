@@ -1,4 +1,4 @@
--- Paper 02, W3, settings berth by berth: the range of a parameter's value, and a berth after a change. A parameter is 0 for STmin or 1
+-- Settings berth by berth: the range of a parameter's value, and a berth after a change. A parameter is 0 for STmin or 1
 -- for BS.
 use Rattle.std.specs.Prelude.{ℕ, ◌≤◌, Bool, not, ◌||◌, T, leb, eqb}
 use Rattle.rules.specs.Tests.{pick}

@@ -1,4 +1,4 @@
--- Paper 02, W13: how many ticks a side that is left alone still takes, and the code with which it ends.
+-- How many ticks a side that is left alone still takes, and the code with which it ends.
 use Rattle.std.specs.Prelude.{ℕ, ◌+◌, ◌-◌, ◌≡◌, eqb, leb}
 use Rattle.rules.specs.Tests.{pick}
 use Rattle.rules.specs.Numbers.{timeout, longest_gap, N_TIMEOUT_A, N_TIMEOUT_Bs, N_TIMEOUT_Cr}
@@ -66,7 +66,7 @@ abbrev pub tick_code : Side → Berth → ℕ
 tick_code receive b = rx_code b.rx
 tick_code send b = tx_code b.tx
 
--- the party that it reports for: the receive side has none, and 0 stands for it (paper 02, W6)
+-- the party that it reports for: the receive side has none, and 0 stands for it
 abbrev pub side_party : Side → Berth → Party
 side_party receive b = scheduler
 side_party send b = party_of b.tx

@@ -4,8 +4,8 @@ use Rattle.rules.specs.Numbers.{from_berth}
 use Rattle.rules.specs.declared.Party.{Party}
 use Rattle.rules.specs.declared.Choice.{Choice}
 
--- the six calls: a frame came in on an identifier; a tick; send a party's message to a berth (paper 02, W6); call for a frame with a buffer; show a
--- berth's message, the last arrived or the one now being sent; change a berth's parameter to a value (paper 02, W3)
+-- the six calls: a frame came in on an identifier; a tick; send a party's message to a berth; call for a frame with a buffer; show a
+-- berth's message, the last arrived or the one now being sent; change a berth's parameter to a value
 pub data Call : Type 0 where
   frame : ℕ → List ℕ → Call
   tick : Call

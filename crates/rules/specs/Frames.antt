@@ -1,4 +1,4 @@
--- Paper 01, "Frames, by first byte": how a frame is read, how the node's own are laid out, sequence numbers, gaps (paper 02, W2), and
+-- "Frames, by first byte": how a frame is read, how the node's own are laid out, sequence numbers, gaps, and
 -- how a message is cut.
 use Rattle.std.specs.Prelude.{ℕ, zero, suc, ◌+◌, ◌-◌, ◌*◌, ◌/◌, ◌%◌, min, Bool, not, ◌&&◌, ◌||◌, List, [], ◌∷◌, ◌++◌, length, get_or, take, drop, replicate, ltb, leb, eqb}
 use Rattle.rules.specs.Tests.{pick}
@@ -64,7 +64,7 @@ first_frame n front = headed first_kind (n / 256) (n % 256 ∷ front)
 unfoldable pub consecutive_frame : Sn → List ℕ → List ℕ
 consecutive_frame sn piece = headed consecutive_kind sn.0 piece
 
--- go is 30, BS, STmin, the berth's own (paper 02, W3); overflow is 32 00 00
+-- go is 30, BS, STmin, the berth's own; overflow is 32 00 00
 unfoldable pub go_frame : BerthSettings → List ℕ
 go_frame s = headed flow_kind go_status (s.block ∷ s.stmin ∷ [])
 
@@ -95,7 +95,7 @@ fills_block block n = not (eqb block 0) && eqb (n + 1) block
 unfoldable pub ticks_meant : ℕ → ℕ
 ticks_meant stmin = pick (leb stmin most_millis) stmin (pick (leb least_fraction stmin && leb stmin most_fraction) 1 most_millis)
 
--- a gap of n ticks above 0 becomes n + 1, and 0 stays 0 (paper 02, W2): the first tick can fall right behind the hand-over
+-- a gap of n ticks above 0 becomes n + 1, and 0 stays 0: the first tick can fall right behind the hand-over
 unfoldable pub gap_of : ℕ → ℕ
 gap_of stmin = pick (eqb (ticks_meant stmin) 0) 0 (ticks_meant stmin + 1)
 

@@ -1,7 +1,10 @@
--- Papers 01 and 02 as definitions, in their order.
+-- The rules as definitions, in the papers' order.
 pub mod Tests
 pub mod Numbers
 pub mod Parties
+pub mod Refused
+pub mod Words
+pub mod Places
 pub mod Nodes
 pub mod Ranges
 pub mod Frames

@@ -1,4 +1,4 @@
--- Paper 01, the node and what is lent with it: a berth's own settings, a fresh berth, berth k's part of the node, and each record with one
+-- The node and what is lent with it: a berth's own settings, a fresh berth, berth k's part of the node, and each record with one
 -- part anew. The rules build a berth, a node and what is lent here and at set-up and nowhere else, so that a new field is one line; the
 -- tables and examples write their own starts out.
 use Rattle.std.specs.Prelude.{ℕ, List, get_or, set, replicate}
@@ -10,7 +10,7 @@ use Rattle.rules.specs.declared.Berth.{Berth}
 use Rattle.rules.specs.declared.Node.{Node}
 use Rattle.rules.specs.declared.Card.{Card}
 
--- ---- a berth's own settings (paper 02, W3)
+-- ---- a berth's own settings
 
 -- settings 0, and settings with one of the two anew
 abbrev pub zero_settings : BerthSettings

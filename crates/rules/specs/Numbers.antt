@@ -1,4 +1,4 @@
--- Every number of papers 01 and 02, under one name.
+-- Every number of the rules, under one name.
 use Rattle.std.specs.Prelude.{ℕ, ◌+◌}
 
 -- ---- the node and its neighbours
@@ -44,7 +44,7 @@ timeout = 1000
 abbrev pub sn_count : ℕ
 sn_count = 16
 
--- the longest gap, in ticks (paper 02, W2)
+-- the longest gap, in ticks
 abbrev pub longest_gap : ℕ
 longest_gap = 128
 
@@ -179,14 +179,13 @@ short_buffer = 9
 abbrev pub bad_setting : ℕ
 bad_setting = 10
 
--- paper 02, W11: no refusal has this number; in paper 01 it was that a byte would land outside the berth's area
+-- no refusal has this number: that a byte would land outside its berth's area never comes
 abbrev pub unused : ℕ
 unused = 11
 
 abbrev pub wrong_cards : ℕ
 wrong_cards = 12
 
--- paper 02, W3
 abbrev pub unknown_parameter : ℕ
 unknown_parameter = 13
 
@@ -196,11 +195,10 @@ value_outside = 14
 abbrev pub already_receiving : ℕ
 already_receiving = 15
 
--- paper 02, W6
 abbrev pub no_such_party : ℕ
 no_such_party = 18
 
--- ---- the parameters that a change names (paper 02, W3), in the order of the standard's 8.3.5
+-- ---- the parameters that a change names, in the order of the standard's 8.3.5
 
 abbrev pub stmin_parameter : ℕ
 stmin_parameter = 0
@@ -208,7 +206,7 @@ stmin_parameter = 0
 abbrev pub block_parameter : ℕ
 block_parameter = 1
 
--- ---- the parties that send (paper 02, W6): 0 scheduler, 1 laptop
+-- ---- the parties that send: 0 scheduler, 1 laptop
 
 abbrev pub the_scheduler : ℕ
 the_scheduler = 0

@@ -1,4 +1,4 @@
--- Paper 02, W6, the service laptop: whose message a send side sends, and whom a report of it names.
+-- The service laptop: whose message a send side sends, and whom a report of it names.
 use Rattle.std.specs.Prelude.{ℕ, ◌≡◌, Bool, leb, eqb}
 use Rattle.rules.specs.Tests.{pick}
 use Rattle.rules.specs.Numbers.{the_scheduler, the_laptop}

@@ -1,4 +1,4 @@
--- Paper 01, "What each side of a berth remembers": the ranges, as a test, and as a record of plain facts. That the two say the
+-- "What each side of a berth remembers": the ranges, as a test, and as a record of plain facts. That the two say the
 -- same is proved (proofs/Exact). A node that breaks a range is out of order.
 use Rattle.std.specs.Prelude.{ℕ, ◌≤◌, ◌<◌, ◌≡◌, ◌⊎◌, Bool, true, ◌&&◌, ◌||◌, [], ◌∷◌, length, ltb, leb, eqb}
 use Rattle.rules.specs.Tests.{pick, all, each}
@@ -92,7 +92,7 @@ RxRange s bs last (Rx.Awaits p t) = (last ≡ 0) × TakingRange s bs p × (t < t
 -- ---- the send side
 
 -- length, position and the next SN are those of a message under way, the frames sent are a count in a block of the peer's size,
--- the peer's gap and the gap left are 0 to 128 (paper 02, W2)
+-- the peer's gap and the gap left are 0 to 128
 unfoldable pub sending_in_range : Settings → Sending → Bool
 sending_in_range s o =
     all
@@ -125,7 +125,7 @@ TxRange s (Tx.FirstDue party n t) = (least_long ≤ n) × (n ≤ s.area) × (t <
 TxRange s (Tx.AwaitsFlow party o t) = SendingRange s o × (o.sent ≡ 0) × (o.left ≡ 0) × (t < timeout)
 TxRange s (Tx.Consecutive party o t) = SendingRange s o × ((o.left ≡ 0) ⊎ (t ≡ 0)) × (t < timeout)
 
--- the party that it keeps is 0 or 1 (paper 02, W6)
+-- the party that it keeps is 0 or 1
 abbrev pub party_in_range : Tx → Bool
 party_in_range tx = party_allowed (party_of tx).0
 

@@ -1,4 +1,4 @@
--- Paper 01, "Refusal numbers", as paper 02 changes it (12 to 15 and 18 are new, 11 is struck): for each call its needs in the order in which they are
+-- "Refusal numbers": for each call its needs in the order in which they are
 -- tested, as tests and as plain conditions. That a refusal is n if and only if condition n is the first of the call's list that holds is
 -- proved (proofs/Exact).
 use Rattle.std.specs.Prelude.{ℕ, ◌+◌, ◌*◌, ◌≤◌, ◌<◌, ◌≡◌, ◌⊎◌, true, not, ◌&&◌, List, [], ◌∷◌, ◌++◌, length, ltb, leb}

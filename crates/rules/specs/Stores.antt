@@ -1,4 +1,4 @@
--- Paper 01, ten berths: the two stores and the berths' areas, the node after a tick and a turn, set-up, and the round.
+-- Ten berths: the two stores and the berths' areas, the node after a tick and a turn, set-up, and the round.
 use Rattle.std.specs.Prelude.{ℕ, suc, ◌+◌, ◌-◌, ◌*◌, ◌%◌, ◌≤◌, ◌<◌, min, ◌⊎◌, Bool, List, [], ◌∷◌, map, length, take, drop, set, replicate, eqb}
 use Rattle.std.proofs.lemmas.List.Edits.{sets}
 use Rattle.rules.specs.Tests.{pick}

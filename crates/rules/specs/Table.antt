@@ -1,4 +1,4 @@
--- The starred cases of paper 01 (A 40, BS 2, STmin 05) as one table, and the claim that a row makes.
+-- The paper's starred cases (A 40, BS 2, STmin 05) as one table, and the claim that a row makes.
 use Rattle.std.specs.Prelude.{◌≡◌, ℕ, zero, suc, ◌+◌, ◌%◌, List, [], ◌∷◌, replicate}
 use Rattle.rules.specs.Numbers.{the_scheduler}
 use Rattle.rules.specs.Parties.{scheduler}
@@ -17,8 +17,7 @@ use Rattle.rules.specs.declared.Sending.{Sending}
 use Rattle.rules.specs.declared.Rx.{Rx}
 use Rattle.rules.specs.declared.Tx.{Tx}
 use Rattle.rules.specs.declared.Berth.{Berth}
-use Rattle.rules.specs.declared.Codes.{Codes}
-use Rattle.rules.specs.declared.Word.TheVariants.{Begun, Failed, Ignored, TooLong, Took, Going}
+use Rattle.rules.specs.Words.{Codes, Begun, Failed, Ignored, TooLong, Took, Going}
 use Rattle.rules.specs.Handing.{data_total}
 
 -- ---- rows

@@ -1,5 +1,6 @@
 -- How the rules choose: by a test that is true or false, by several tests at once, and by a list of needs in order.
 use Rattle.std.specs.Prelude.{ℕ, zero, suc, Bool, true, false, ◌&&◌, List, [], ◌∷◌}
+use Rattle.std.specs.List.{list_all}
 
 -- the first where the test holds, else the second
 abbrev pub pick {ℓ} : {X : Type ℓ} → Bool → X → X → X
@@ -12,9 +13,8 @@ all [] = true
 all (b ∷ bs) = b && all bs
 
 -- a test holds of every element
-unfoldable pub each : {X : Type 0} → (X → Bool) → List X → Bool
-each f [] = true
-each f (x ∷ xs) = f x && each f xs
+abbrev pub each : {X : Type 0} → (X → Bool) → List X → Bool
+each f xs = list_all f xs
 
 -- one need of a call, and the number of the refusal where it is not met
 pub record Need : Type 0 where

@@ -1,4 +1,4 @@
--- Paper 01, "Ticks and turns", a tick at one berth: its two sides after it, and the code of each, 0 for none.
+-- "Ticks and turns", a tick at one berth: its two sides after it, and the code of each, 0 for none.
 use Rattle.std.specs.Prelude.{ℕ, ◌+◌, ◌-◌, ltb, eqb}
 use Rattle.rules.specs.Tests.{pick}
 use Rattle.rules.specs.Numbers.{timeout, N_TIMEOUT_A, N_TIMEOUT_Bs, N_TIMEOUT_Cr}
@@ -9,7 +9,7 @@ use Rattle.rules.specs.declared.Party.{Party}
 use Rattle.rules.specs.declared.Rx.{Rx}
 use Rattle.rules.specs.declared.Tx.{Tx}
 use Rattle.rules.specs.declared.Berth.{Berth}
-use Rattle.rules.specs.declared.Codes.{Codes}
+use Rattle.rules.specs.Words.{Codes}
 
 -- a tick adds one to a running timer; the one that makes it 1,000 ends the side
 unfoldable pub ran {ℓ} : {X : Type ℓ} → ℕ → (ℕ → X) → X → X
@@ -59,7 +59,7 @@ tx_code (Tx.FirstDue party n t) = ran t (λ u. 0) N_TIMEOUT_A
 tx_code (Tx.AwaitsFlow party o t) = ran t (λ u. 0) N_TIMEOUT_Bs
 tx_code (Tx.Consecutive party o t) = pick (eqb o.left 0) (ran t (λ u. 0) N_TIMEOUT_A) 0
 
--- the party in the answer to a tick (paper 02, W6)
+-- the party in the answer to a tick
 abbrev pub tx_party : Tx → Party
 tx_party tx = reporting (tx_code tx) (party_of tx)
 

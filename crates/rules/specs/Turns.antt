@@ -1,4 +1,4 @@
--- Paper 01, "Ticks and turns", at one berth: whether a frame is due, what is handed over, how a message begins to be sent, and
+-- "Ticks and turns", at one berth: whether a frame is due, what is handed over, how a message begins to be sent, and
 -- which lengths are shown.
 use Rattle.std.specs.Prelude.{ℕ, ◌+◌, ◌-◌, Bool, true, false, ◌||◌, List, [], take, drop, leb, eqb}
 use Rattle.rules.specs.Tests.{pick}
@@ -69,7 +69,7 @@ message_code (Tx.FirstDue party n t) = 0
 message_code (Tx.AwaitsFlow party o t) = 0
 message_code (Tx.Consecutive party o t) = pick (leb (to_go o) consecutive_most) N_OK 0
 
--- the party in the answer to a turn (paper 02, W6)
+-- the party in the answer to a turn
 abbrev pub message_party : Tx → Party
 message_party tx = reporting (message_code tx) (party_of tx)
 

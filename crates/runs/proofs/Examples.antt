@@ -5,7 +5,7 @@ use mathlib.Core.Path.{◌≡◌, refl, sym, ap, ◌∙◌, subst}
 use mathlib.Core.List.{List, [], ◌∷◌, ◌++◌, map}
 use lib.ListN.{get_or, replicate}
 use lib.Dec.{lit<, lit≤}
-use Rattle.rules.specs.Tests.{all, each, first_unmet}
+use Rattle.rules.specs.Tests.{all, first_unmet}
 use Rattle.rules.specs.Numbers.{berth_count}
 use Rattle.rules.specs.Parties.{scheduler}
 use Rattle.rules.specs.Nodes.{zero_settings, berth_at, with_berth, Held, blank_node, with_node}
@@ -22,7 +22,7 @@ use Rattle.rules.specs.Refusals.{needs, refusal, set_up_refusal}
 use Rattle.rules.specs.Calls.{Outcome, after_frame, after_turn, done, outcome, set_up_outcome, answers, final}
 use Rattle.rules.specs.Alone.{part_of, state_after, part_after, says, hears}
 use Rattle.rules.specs.Clocks.{Idle, most_time}
-use Rattle.rules.specs.declared.Word.TheVariants.{Delivered}
+use Rattle.rules.specs.Words.{Delivered}
 use Rattle.rules.specs.declared.Settings.{Settings}
 use Rattle.rules.specs.declared.BerthSettings.{BerthSettings}
 use Rattle.rules.specs.declared.Party.{Party}
@@ -53,7 +53,7 @@ unfolding made_of
 calls-made h [] = refl
 calls-made h (c ∷ cs) = ap (λ (ds : List Call). c ∷ ds) (calls-made (outcome h c).held cs)
 
--- ---- demand 3: the run of ten calls after a set-up, and ten calls for a frame while all ten berths are due
+-- ---- isolation and fairness: the run of ten calls after a set-up, and ten calls for a frame while all ten berths are due
 
 pub alone-here : EachAlone two two.node.settings two_own (set_up_node two.node.settings two_own) (made_of (with_node two (set_up_node two.node.settings two_own)) two_run)
 alone-here =
@@ -182,14 +182,14 @@ made c o = record { call = c; out = o }
 
 -- refusing: a tick that is answered with a refusal is no run
 pub refusing-here : (o : Outcome) (number : ℕ) → AfterSetUp unset eight zero_settings (set_up_node eight zero_settings) (made tick o ∷ []) → o.answer ≡ refused number → ⊥
-unfolding own own_done left_by refusal needs first_unmet right_cards in_order all each berth_in_order set_up_node
+unfolding own own_done left_by refusal needs first_unmet right_cards in_order all berth_in_order set_up_node
 refusing-here o number r = refusing-again (one_more [] (made tick o) 0 ticks r (lit< tt) refl) number
 
 -- a fixed answer, and fixed bytes: two single frames of other lengths, and of other bytes
 pub fixed-here : (o q : Outcome) → AfterSetUp unset eight zero_settings (set_up_node eight zero_settings) (made (frame 0x640 (0x01 ∷ 7 ∷ [])) o ∷ [])
     → AfterSetUp unset eight zero_settings (set_up_node eight zero_settings) (made (frame 0x640 (0x02 ∷ 7 ∷ 8 ∷ [])) q ∷ []) → o.answer ≡ q.answer → ⊥
 unfolding
-    own own_done left_by refusal needs first_unmet right_store right_cards in_order all each berth_in_order set_up_node berth_at
+    own own_done left_by refusal needs first_unmet right_store right_cards in_order all berth_in_order set_up_node berth_at
     came_at frame_came by_kind kind low heard_by single_came single_fits part_of says
 fixed-here o q r x =
     fixed-again (one_more [] (made (frame 0x640 (0x01 ∷ 7 ∷ [])) o) 0 (arrives (0x01 ∷ 7 ∷ [])) r (lit< tt) refl)
@@ -199,7 +199,7 @@ fixed-here o q r x =
 pub fixed-bytes-here : (o q : Outcome) → AfterSetUp unset eight zero_settings (set_up_node eight zero_settings) (made (frame 0x640 (0x01 ∷ 7 ∷ [])) o ∷ [])
     → AfterSetUp unset eight zero_settings (set_up_node eight zero_settings) (made (frame 0x640 (0x01 ∷ 8 ∷ [])) q ∷ []) → (part_of 0 o.held).incoming ≡ (part_of 0 q.held).incoming → ⊥
 unfolding
-    own own_done left_by refusal needs first_unmet right_store right_cards in_order all each berth_in_order set_up_node berth_at
+    own own_done left_by refusal needs first_unmet right_store right_cards in_order all berth_in_order set_up_node berth_at
     came_at frame_came by_kind kind low heard_by single_came single_fits part_of state_after part_after area_of
 fixed-bytes-here o q r x =
     fixed-again-bytes (one_more [] (made (frame 0x640 (0x01 ∷ 7 ∷ [])) o) 0 (arrives (0x01 ∷ 7 ∷ [])) r (lit< tt) refl)
@@ -213,14 +213,14 @@ after_send = made_of (with_node unset (set_up_node eight zero_settings)) (send 0
 pub idle-here : (o : Outcome) → AfterSetUp unset eight zero_settings (set_up_node eight zero_settings) (after_send ++ made tick o ∷ [])
     → (part_of 0 o.held).berth ≡ (part_of 0 (left_by (with_node unset (set_up_node eight zero_settings)) after_send)).berth → ⊥
 unfolding
-    made_of own own_done left_by refusal needs first_unmet right_store right_cards in_order all each berth_in_order set_up_node berth_at
+    made_of own own_done left_by refusal needs first_unmet right_store right_cards in_order all berth_in_order set_up_node berth_at
     outcome done with_berth sent_berth begins_with part_of
 idle-here o r = idle-again-timers (one_more after_send (made tick o) 0 ticks r (lit< tt) refl) (λ e. let f : Tx.SingleDue scheduler 1 0 ≡ Tx.Idle = e.1 in let z : ◌≡◌ {A = ℕ} 0 1 = cc in omega arith)
 
 -- and a send leaves the outgoing area as it was
 pub idle-message-here : (o : Outcome) → AfterSetUp unset eight zero_settings (set_up_node eight zero_settings) (made (send 0 0 (1 ∷ [])) o ∷ [])
     → (part_of 0 o.held).outgoing ≡ (part_of 0 (with_node unset (set_up_node eight zero_settings))).outgoing → ⊥
-unfolding own own_done left_by refusal needs first_unmet right_store right_cards in_order all each berth_in_order set_up_node berth_at part_of area_of
+unfolding own own_done left_by refusal needs first_unmet right_store right_cards in_order all berth_in_order set_up_node berth_at part_of area_of
 idle-message-here o r =
     idle-again-message scheduler (1 ∷ []) (one_more [] (made (send 0 0 (1 ∷ [])) o) 0 (sends scheduler (1 ∷ [])) r (lit< tt) refl)
     (λ e. let z : ◌≡◌ {A = ℕ} 0 1 = ap (λ (l : List ℕ). get_or l 0 0) e in omega arith)
@@ -228,7 +228,7 @@ idle-message-here o r =
 -- and a change of the block size leaves the settings as they were
 pub idle-settings-here : (o : Outcome) → AfterSetUp unset eight zero_settings (set_up_node eight zero_settings) (made (change 0 1 5) o ∷ [])
     → (part_of 0 o.held).berth.settings ≡ (part_of 0 (with_node unset (set_up_node eight zero_settings))).berth.settings → ⊥
-unfolding own own_done left_by refusal needs first_unmet in_order all each berth_in_order value_allowed set_up_node berth_at part_of changed_settings
+unfolding own own_done left_by refusal needs first_unmet in_order all berth_in_order value_allowed set_up_node berth_at part_of changed_settings
 idle-settings-here o r =
     idle-again-settings 1 5 (one_more [] (made (change 0 1 5) o) 0 (changes 1 5) r (lit< tt) refl)
     (λ e. let z : ◌≡◌ {A = ℕ} 5 0 = ap (λ (x : BerthSettings). x.block) e in omega arith)
@@ -240,7 +240,7 @@ after_go = made_of (with_node unset (set_up_node eight zero_settings)) (frame 0x
 pub counting-here : (o : Outcome) → AfterSetUp unset eight zero_settings (set_up_node eight zero_settings) (after_go ++ made (frame 0x640 (0x21 ∷ 7 ∷ 8 ∷ [])) o ∷ [])
     → (part_of 0 o.held).incoming ≡ (part_of 0 (left_by (with_node unset (set_up_node eight zero_settings)) after_go)).incoming → ⊥
 unfolding
-    made_of own own_done left_by refusal needs first_unmet right_store right_cards in_order all each berth_in_order taking_in_range in_block set_up_node berth_at
+    made_of own own_done left_by refusal needs first_unmet right_store right_cards in_order all berth_in_order taking_in_range in_block set_up_node berth_at
     outcome done after_frame after_turn added_at stored with_berth came_at frame_came by_kind kind low heard_by first_came first_fits announced short_length escape_length begun
     awaited_came completed consecutive_fits piece share passed_over least_distance distance due reached served_node handed_at hand_over part_of area_of
 counting-here o r =

@@ -1,4 +1,4 @@
--- The theorem of paper 02, W12, of the code: the plain engine, and the code's runs on two nodes under the line's law, do the same.
+-- The theorem, of the code: the plain engine, and the code's runs on two nodes under the line's law, do the same.
 use mathlib.Core.Path.{◌≡◌, ap, ◌∙◌}
 use mathlib.Core.Bool.{true}
 use Prim.Native.Nat.{ℕ, ◌≤◌}

@@ -1,4 +1,4 @@
--- Demand 3 shuts out the first four poor nodes again. Demand 3 of a run, and of the run with one call more, says of that call that its
+-- Isolation shuts out the first four poor nodes again. Isolation of a run, and of the run with one call more, says of that call that its
 -- answer and what it leaves of berth k are what k's own event says and leaves on that berth alone; each poor node's are another's.
 use Prim.Native.Nat.{ℕ, zero, suc, ◌+◌, ◌≤◌, ◌<◌}
 use native.Mathlib.Omega.{arith}

@@ -1,6 +1,7 @@
 -- A chain of the code's calls is a run of the rules: each call's promise says that it left the rule's outcome, so by induction the chain
 -- says `answers` and leaves `final`, and what the laws say of these holds of the chain.
 use Prim.Native.Nat.{ℕ, zero, suc, ◌≤◌, ◌<◌}
+use Rattle.std.specs.Prelude.{Ok}
 use mathlib.Core.Path.{◌≡◌, refl, sym, ap, ap₂, ◌∙◌, subst}
 use mathlib.Core.Bool.{true, false}
 use mathlib.Core.List.{List, [], ◌∷◌, ◌++◌, map}
@@ -22,7 +23,6 @@ use Rattle.rules.specs.declared.Settings.{Settings}
 use Rattle.rules.specs.declared.BerthSettings.{BerthSettings}
 use Rattle.rules.specs.declared.Party.{Party}
 use Rattle.rules.specs.declared.Node.{Node}
-use Rattle.rules.specs.declared.SetUpAnswer.{SetUpAnswer}
 use Rattle.rules.proofs.Order.{run-in-order, set-up-in-order}
 use Rattle.node.specs.Promises.{left, SetUpPromise}
 use Rattle.node.proofs.Determined.{same}
@@ -52,7 +52,7 @@ use Rattle.runs.specs.Chains.{Step, frame_step, tick_step, send_step, turn_step,
 -- EACH CALL'S PROMISE says that it answered and left the rule's outcome.
 pub step_is : {h : Held} {c : Call} {o : Outcome} → Step h c o → o ≡ outcome h c
 step_is {h} (frame_step id d a n cards incoming p) = same (p h.outgoing)
-step_is {h} (tick_step a n cards p) = same (p.agrees h.incoming h.outgoing)
+step_is {h} (tick_step a n cards p) = same (p h.incoming h.outgoing)
 step_is {h} (send_step k party m a n outgoing p) = same (p h.cards h.incoming)
 step_is {h} (turn_step buffer a n cards buffer' p) = same (p h.incoming)
 step_is {h} (show_step k choice part in_at out_at part_at p) = same (p.agrees h.cards)
@@ -113,7 +113,7 @@ chain-due k h [] c t = tt
 chain-due k h (m ∷ ms) c t =
     (t.0, rw (held_same h m (step_is c.0)) at (chain-due k m.out.held ms c.1 t.1))
 
--- ---- demand 3
+-- ---- isolation and fairness
 
 -- what a chain says and leaves is as alone, if that holds of the run of the same calls
 as-run : (s : Settings) (p : Part) (k : ℕ) (h : Held) (ms : List Made) → Chain h ms
@@ -145,7 +145,7 @@ pub chain-fair : (k : ℕ) → k < berth_count → (h : Held) (ms : List Made) �
 chain-fair k l h ms c t = rw (chain-says h ms c) (fair k l h (calls_of ms) (chain-due k h ms c t))
 
 -- a set-up that is answered Ready was not refused, and left what the rules leave
-module _ (h : Held) (s : Settings) (alike : BerthSettings) (n : Node) (p : SetUpPromise h.node s.area alike.block alike.stmin SetUpAnswer.Ready n) where
+module _ (h : Held) (s : Settings) (alike : BerthSettings) (n : Node) (p : SetUpPromise h.node s.area alike.block alike.stmin (Ok tt) n) where
   set-up-left : left ready (with_node h n) [] ≡ set_up_outcome h s.area alike.block alike.stmin
   unfolding set_up_says
   set-up-left = same (p h.cards h.incoming h.outgoing)
@@ -205,7 +205,7 @@ chain-tallies-after-set-up h s alike n ms m r z k l f =
 -- ---- the gaps
 
 -- THE LAW OF THE GAPS, OF THE CODE. Take any chain of calls, and two consecutive frames that a berth hands over in it with no frame answered
--- Going between them, as the code's own answers tell it. They are of one message; if the last Going carried an STmin that paper 01 reads as
+-- Going between them, as the code's own answers tell it. They are of one message; if the last Going carried an STmin that means
 -- n > 0 ticks, at least n + 1 ticks are answered between the two, and hence n whole tick intervals pass.
 pub chain-spaced : (k : ℕ) (h : Held) (ms : List Made) → Chain h ms → (f : TwoFrames (history_in k h ms)) → Spaced f
 chain-spaced k h ms c =

@@ -1,6 +1,6 @@
 -- A run of the code: a chain of calls, the same node, the same two stores and the same list of cards throughout. Of a call only its
 -- promise is known.
-use Rattle.std.specs.Prelude.{ℕ, ◌<◌, ◌≡◌, List, [], ◌∷◌, ◌++◌, map}
+use Rattle.std.specs.Prelude.{ℕ, ◌<◌, ◌≡◌, Result, Ok, List, [], ◌∷◌, ◌++◌, map}
 use Rattle.rules.specs.Numbers.{berth_count}
 use Rattle.rules.specs.Nodes.{berth_at, Held, with_node, with_incoming, with_outgoing, with_cards}
 use Rattle.rules.specs.Events.{Call, frame, tick, send, turn, show, change, Event}
@@ -13,12 +13,10 @@ use Rattle.rules.specs.declared.Settings.{Settings}
 use Rattle.rules.specs.declared.BerthSettings.{BerthSettings}
 use Rattle.rules.specs.declared.Node.{Node}
 use Rattle.rules.specs.declared.Card.{Card}
-use Rattle.rules.specs.declared.SetUpAnswer.{SetUpAnswer}
-use Rattle.rules.specs.declared.FrameAnswer.{FrameAnswer}
-use Rattle.rules.specs.declared.TickAnswer.{TickAnswer}
-use Rattle.rules.specs.declared.SendAnswer.{SendAnswer}
-use Rattle.rules.specs.declared.TurnAnswer.{TurnAnswer}
-use Rattle.rules.specs.declared.ChangeAnswer.{ChangeAnswer}
+use Rattle.rules.specs.declared.Codes.{Codes}
+use Rattle.rules.specs.declared.Refusal.{Refusal}
+use Rattle.rules.specs.declared.Heard.{Heard}
+use Rattle.rules.specs.declared.Turn.{Turn}
 use Rattle.node.specs.Promises.{left, SetUpPromise, FramePromise, TickPromise, SendPromise, TurnPromise, ShowPromise, ChangePromise}
 use Rattle.laws.specs.Own.{own, says_of, of_berth, fresh_part, Alone}
 use Rattle.laws.specs.Histories.{Moment, moments}
@@ -29,20 +27,20 @@ use Rattle.laws.specs.Parties.{last_sender, AllName}
 -- one call of the code: it was given h, and answered and left this, of which its promise alone is known. A store that it is not given, and
 -- cards that it is not given, are as they were
 pub data Step (h : Held) : Call → Outcome → Type 0 where
-  frame_step : (id : ℕ) (d : List ℕ) (a : FrameAnswer) (n : Node) (cards : List Card) (incoming : List ℕ)
+  frame_step : (id : ℕ) (d : List ℕ) (a : Result Heard Refusal) (n : Node) (cards : List Card) (incoming : List ℕ)
       → FramePromise h.node h.cards h.incoming id d a n cards incoming
       → Step h (frame id d) (left (frame_says a) (with_cards (with_incoming (with_node h n) incoming) cards) [])
-  tick_step : (a : TickAnswer) (n : Node) (cards : List Card) → TickPromise h.node h.cards a n cards
+  tick_step : (a : Result (List Codes) Refusal) (n : Node) (cards : List Card) → TickPromise h.node h.cards a n cards
       → Step h tick (left (tick_says a) (with_cards (with_node h n) cards) [])
-  send_step : (k party : ℕ) (m : List ℕ) (a : SendAnswer) (n : Node) (outgoing : List ℕ) → SendPromise h.node h.outgoing k party m a n outgoing
+  send_step : (k party : ℕ) (m : List ℕ) (a : Result ℕ Refusal) (n : Node) (outgoing : List ℕ) → SendPromise h.node h.outgoing k party m a n outgoing
       → Step h (send k party m) (left (send_says a) (with_outgoing (with_node h n) outgoing) [])
-  turn_step : (buffer : List ℕ) (a : TurnAnswer) (n : Node) (cards : List Card) (buffer' : List ℕ)
+  turn_step : (buffer : List ℕ) (a : Result Turn Refusal) (n : Node) (cards : List Card) (buffer' : List ℕ)
       → TurnPromise h.node h.cards h.outgoing buffer a n cards buffer'
       → Step h (turn buffer) (left (turn_says a buffer') (with_cards (with_node h n) cards) buffer')
   show_step : (k : ℕ) (choice : Choice) (part : List ℕ) (in_at out_at part_at : ℕ × ℕ)
       → ShowPromise h.node h.incoming h.outgoing k choice part in_at out_at part_at
       → Step h (show k choice) (left (shown part) h [])
-  change_step : (k parameter value : ℕ) (a : ChangeAnswer) (n : Node) → ChangePromise h.node k parameter value a n
+  change_step : (k parameter value : ℕ) (a : Result ℕ Refusal) (n : Node) → ChangePromise h.node k parameter value a n
       → Step h (change k parameter value) (left (change_says a) (with_node h n) [])
 
 -- a call that was made, and what it answered and left
@@ -57,7 +55,7 @@ Chain h (m ∷ ms) = Step h m.call m.out × Chain m.out.held ms
 
 -- a set-up that the code answered with Ready, and a chain on the node that it left, the stores and the cards, which it does not touch
 pub record AfterSetUp (h : Held) (s : Settings) (alike : BerthSettings) (n : Node) (ms : List Made) : Type 0 where
-  pub ready : SetUpPromise h.node s.area alike.block alike.stmin SetUpAnswer.Ready n
+  pub ready : SetUpPromise h.node s.area alike.block alike.stmin (Ok tt) n
   pub chain : Chain (with_node h n) ms
 
 -- a run of the rules as a chain: the calls of a list, each with the rule's outcome
@@ -103,12 +101,12 @@ NamesIn k last h [] = Unit {0}
 NamesIn k last h (m ∷ ms) =
     AllName last (of_side send_side (of_berth k (reports m.out.answer))) × NamesIn k (last_sender last (own k h m.call)) m.out.held ms
 
--- what demand 3 says of the answers and of what is left after a set-up, of every berth
+-- what isolation says of the answers and of what is left after a set-up, of every berth
 abbrev pub EachAlone : Held → Settings → BerthSettings → Node → List Made → Type 0
 EachAlone h s alike n ms =
     (k : ℕ) → k < berth_count → Alone s (fresh_part h s alike k) k (with_node h n) (own_in k (with_node h n) ms) (said_by ms) (left_by (with_node h n) ms)
 
--- a run after a set-up and one call more, which is given berth k's part p and is k's own event e: demand 3 holds with it and without it
+-- a run after a set-up and one call more, which is given berth k's part p and is k's own event e: isolation holds with it and without it
 pub record OneMore (h : Held) (s : Settings) (alike : BerthSettings) (n : Node) (ms : List Made) (k : ℕ) (p : Part) (e : Event) (m : Made) : Type 0 where
   pub small : k < berth_count
   pub given : part_of k (left_by (with_node h n) ms) ≡ p

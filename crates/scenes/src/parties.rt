@@ -1,78 +1,69 @@
-// Whose message each report of a send side is (paper 02, W6): behind an answer's text, before its LF. A text without such a report stays as it is.
-use crate::output;
-use rules::{Codes, FrameAnswer, Party, TickAnswer, TurnAnswer, Word};
-use text::building::Text;
+//! Whose message each report of a send side is: behind an answer's words.
+use rules::{Code, Codes, Heard, Party, Refusal, Report, Turn, Word};
+use std::fmt;
 
-fn one(text: Text, berth: u8, party: Party) -> Text {
-    text.put(b' ').small(berth).put(b':').small(party.0)
-}
+/// The party by the berth, where there is one.
+#[derive(Clone, Copy)]
+pub(crate) struct Parties([Option<Party>; 10]);
 
-// The word stands before the first only.
-fn headed(text: Text, named: bool) -> Text {
-    if named {
-        return text;
+impl Parties {
+    fn none() -> Parties {
+        Parties([None; 10])
     }
-    text.put_all(b" party")
+
+    fn of_one(berth: usize, party: Party) -> Parties {
+        let mut parties = Parties::none();
+        if let Some(place) = parties.0.get_mut(berth) {
+            *place = Some(party);
+        }
+        parties
+    }
+
+    pub(crate) fn of_frame(answer: Result<Heard, Refusal>) -> Parties {
+        match answer {
+            Ok(
+                Heard {
+                    berth,
+                    word: Word::Failed(code, party),
+                    ..
+                },
+            ) if code != Code::WrongSn => Parties::of_one(usize::from(berth), party),
+            _ => Parties::none(),
+        }
+    }
+
+    pub(crate) fn of_tick(answer: Result<[Codes; 10], Refusal>) -> Parties {
+        match answer {
+            Ok(codes) => Parties(codes.map(|here| here.send.map(|report| report.party))),
+            Err(_) => Parties::none(),
+        }
+    }
+
+    /// The identifier's last digit is the berth.
+    // Casts widen, or are proved to fit: `try_from` would add an error that cannot come.
+    pub(crate) fn of_turn(answer: Result<Turn, Refusal>) -> Parties {
+        match answer {
+            Ok(
+                Turn::HandedOver {
+                    identifier,
+                    report: Some(Report { party, .. }),
+                    ..
+                },
+            ) => Parties::of_one((identifier % 16) as usize, party),
+            _ => Parties::none(),
+        }
+    }
 }
 
-fn alone(text: Text, berth: u8, party: Party) -> Text {
-    one(headed(output::open(text), false), berth, party).put(b'\n')
-}
-
-fn of_word(text: Text, berth: u8, word: Word) -> Text {
-    match word {
-        Word::Failed(code, party) => {
-            if code == rules::N_WRONG_SN {
-                return text;
+impl fmt::Display for Parties {
+    fn fmt<W: fmt::Write>(&self, f: &mut fmt::Formatter<W>) -> fmt::Result {
+        let mut head = " party";
+        for (berth, party) in self.0.iter().enumerate() {
+            if let Some(party) = party {
+                write!(f, "{head} {berth}:{}", party.0)?;
+                head = "";
             }
-            alone(text, berth, party)
         }
-        _ => text,
-    }
-}
-
-pub(crate) fn of_frame(text: Text, answer: FrameAnswer) -> Text {
-    match answer {
-        FrameAnswer::Refused(_) => text,
-        FrameAnswer::Heard { berth, old, word } => of_word(text, berth, word),
-    }
-}
-
-fn of_codes(text: Text, codes: [Codes; 10]) -> Text {
-    let mut all = text;
-    let mut named = false;
-    let mut k = 0;
-    while k < 10 {
-        let here = codes[k];
-        if here.send != 0 {
-            all = one(headed(all, named), k as u8, here.party);
-            named = true;
-        }
-        k += 1;
-    }
-    all
-}
-
-pub(crate) fn of_tick(text: Text, answer: TickAnswer) -> Text {
-    let codes = answer.codes;
-    of_codes(output::open(text), codes).put(b'\n')
-}
-
-// The identifier's last digit is the berth.
-pub(crate) fn of_turn(text: Text, answer: TurnAnswer) -> Text {
-    match answer {
-        TurnAnswer::Refused(_) => text,
-        TurnAnswer::None(_) => text,
-        TurnAnswer::HandedOver {
-            identifier,
-            code,
-            passed,
-            party,
-        } => {
-            if code == 0 {
-                return text;
-            }
-            alone(text, (identifier % 16) as u8, party)
-        }
+        Ok(())
     }
 }

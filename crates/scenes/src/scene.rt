@@ -1,58 +1,80 @@
-// A scene: the node and the cards, and how much of the stores and how many of the cards are lent.
+//! A scene: the node with all that can be lent to its calls, and how much of it is.
+ghost use Rattle.std.specs.Prelude.{◌≤◌};
+
 use rules::{Card, Node};
-use text::building::Text;
 
-// So many bytes of each store, and so many cards from the first on.
+/// Room for ten areas of the largest size, and the most that a record lends beyond them.
+const STORE: usize = 41077;
+
+const CARDS: usize = 12;
+
+/// So many bytes of each store, and so many cards from the first on.
 #[derive(Clone, Copy)]
-pub struct Lent {
-    pub incoming: usize,
-    pub outgoing: usize,
-    pub cards: usize,
+pub(crate) struct Lent {
+    pub(crate) incoming: usize,
+    pub(crate) outgoing: usize,
+    pub(crate) cards: usize,
 }
 
-// The header's area size is 0 where the header was refused or bad.
-#[derive(Clone, Copy)]
-pub struct Scene {
-    pub node: Node,
-    pub cards: [Card; 12],
-    pub area: u32,
-    pub lent: Lent,
-}
+impl Lent {
+    pub(crate) fn incoming(&self) -> usize
+        ensures { result ≤ 41077 }
+    {
+        self.incoming.min(STORE)
+    }
 
-// What a record leaves beside the stores: its text and the scene.
-#[derive(Clone, Copy)]
-pub struct Shown {
-    pub text: Text,
-    pub scene: Scene,
-}
+    pub(crate) fn outgoing(&self) -> usize
+        ensures { result ≤ 41077 }
+    {
+        self.outgoing.min(STORE)
+    }
 
-// Ten areas of each store.
-pub(crate) fn lent_whole(area: u32, cards: usize) -> Lent {
-    let n = 10 * area as usize;
-    Lent {
-        incoming: n,
-        outgoing: n,
-        cards: cards,
+    pub(crate) fn cards(&self) -> usize
+        ensures { result ≤ 12 }
+    {
+        self.cards.min(CARDS)
     }
 }
 
-pub(crate) fn first() -> Scene {
-    Scene {
-        node: Node::blank(),
-        cards: [Card::zero(); 12],
-        area: 0,
-        lent: lent_whole(0, 10),
-    }
+// A node with its stores: nothing compares or prints it, so it derives no equality.
+#[derive(Clone, Copy)]
+pub(crate) struct Scene {
+    pub(crate) node: Node,
+    pub(crate) cards: [Card; CARDS],
+    pub(crate) incoming: [u8; STORE],
+    pub(crate) outgoing: [u8; STORE],
+    /// The header's, 0 where it was refused or bad.
+    pub(crate) area: u32,
+    pub(crate) lent: Lent,
 }
 
-pub(crate) fn left(text: Text, node: Node, cards: [Card; 12], area: u32, lent: Lent) -> Shown {
-    Shown {
-        text: text,
-        scene: Scene {
-            node: node,
-            cards: cards,
-            area: area,
-            lent: lent,
-        },
+fn empty_store() -> [u8; STORE] {
+    [0; STORE]
+}
+
+impl Scene {
+    /// Nothing of the stores is lent.
+    pub(crate) fn new() -> Scene {
+        let (incoming, outgoing) = (empty_store(), empty_store());
+        Scene {
+            node: Node::blank(),
+            cards: [Card::zero(); CARDS],
+            incoming,
+            outgoing,
+            area: 0,
+            lent: Lent {
+                incoming: 0,
+                outgoing: 0,
+                cards: 10,
+            },
+        }
+    }
+
+    /// Lends ten of the node's areas of each store, and goes by their size from now on.
+    // Casts widen, or are proved to fit: `try_from` would add an error that cannot come.
+    pub(crate) fn lend_areas(&mut self) {
+        self.area = self.node.settings.area;
+        self.lent.incoming = 10 * self.area as usize;
+        self.lent.outgoing = 10 * self.area as usize;
     }
 }

@@ -1,91 +1,120 @@
-// The scenes' own texts: a berth's state, the node's own, and the frames needed.
-use rules::{Berth, Party, Rx, Sending, Settings, Taking, Tx};
-use text::building::Text;
+//! The scenes' own words: bytes, a berth's state, and the node's own.
+// Types that are made to be written at once: nothing compares them, so they derive no equality.
+use rules::{Berth, Rx, Sending, Settings, Taking, Tx};
+use std::fmt;
+use text::hex::Hex;
 
-// Each with a space before it.
-fn numbers(text: Text, list: &[u64]) -> Text {
-    let mut all = text;
-    let mut i = 0;
-    while i < list.len() {
-        all = all.put(b' ').decimal(list[i], 20);
-        i += 1;
-    }
-    all
-}
+/// Bytes behind a space, and nothing where there are none.
+#[derive(Clone, Copy)]
+pub(crate) struct Part<'a>(pub(crate) &'a [u8]);
 
-fn taking_numbers(text: Text, p: Taking, timer: u16) -> Text {
-    let sn = p.sn.0;
-    let list = [
-        p.total as u64,
-        p.got as u64,
-        sn as u64,
-        p.taken as u64,
-        timer as u64,
-    ];
-    numbers(text, &list)
-}
-
-fn due_numbers(text: Text, length: u32, timer: u16, party: Party) -> Text {
-    let list = [length as u64, timer as u64, party.0 as u64];
-    numbers(text, &list)
-}
-
-fn sending_numbers(text: Text, o: Sending, timer: u16, party: Party) -> Text {
-    let sn = o.sn.0;
-    let list = [
-        o.length as u64,
-        o.position as u64,
-        sn as u64,
-        o.block as u64,
-        o.sent as u64,
-        o.gap as u64,
-        o.left as u64,
-        timer as u64,
-        party.0 as u64,
-    ];
-    numbers(text, &list)
-}
-
-fn receive_side(text: Text, rx: Rx) -> Text {
-    match rx {
-        Rx::Idle => text.put_all(b" rx 0"),
-        Rx::OwesOverflow(timer) => numbers(text.put_all(b" rx 1"), &[timer as u64]),
-        Rx::OwesGo(p, timer) => taking_numbers(text.put_all(b" rx 2"), p, timer),
-        Rx::Awaits(p, timer) => taking_numbers(text.put_all(b" rx 3"), p, timer),
+impl fmt::Display for Part<'_> {
+    fn fmt<W: fmt::Write>(&self, f: &mut fmt::Formatter<W>) -> fmt::Result {
+        if self.0.is_empty() {
+            return Ok(());
+        }
+        write!(f, " {}", Hex(self.0))
     }
 }
 
-fn send_side(text: Text, tx: Tx) -> Text {
-    match tx {
-        Tx::Idle => text.put_all(b" tx 0"),
-        Tx::SingleDue(party, n, timer) => due_numbers(text.put_all(b" tx 1"), n, timer, party),
-        Tx::FirstDue(party, n, timer) => due_numbers(text.put_all(b" tx 2"), n, timer, party),
-        Tx::AwaitsFlow(party, o, timer) => sending_numbers(text.put_all(b" tx 3"), o, timer, party),
-        Tx::Consecutive(party, o, timer) => sending_numbers(
-            text.put_all(b" tx 4"),
-            o,
-            timer,
-            party,
-        ),
+#[derive(Clone, Copy)]
+struct Received(Taking);
+
+impl fmt::Display for Received {
+    fn fmt<W: fmt::Write>(&self, f: &mut fmt::Formatter<W>) -> fmt::Result {
+        let Taking {
+            total,
+            got,
+            sn,
+            taken,
+        } = self.0;
+        write!(f, "{total} {got} {} {taken}", sn.0)
     }
 }
 
-// BS and STmin, then the number of each side's state and the fields that it carries, and between them the length of the last message
-// arrived.
-pub(crate) fn state(number: u64, berth: Berth) -> Text {
-    let own = berth.settings;
-    let rx = berth.rx;
-    let tx = berth.tx;
-    let named = text::answers::numbered(number).put_all(b"state set");
-    let text = receive_side(numbers(named, &[own.block as u64, own.stmin as u64]), rx);
-    send_side(numbers(text.put_all(b" last"), &[berth.last as u64]), tx).put(b'\n')
+#[derive(Clone, Copy)]
+struct Sent(Sending);
+
+impl fmt::Display for Sent {
+    fn fmt<W: fmt::Write>(&self, f: &mut fmt::Formatter<W>) -> fmt::Result {
+        let Sending {
+            length,
+            position,
+            sn,
+            block,
+            sent,
+            gap,
+            left,
+        } = self.0;
+        write!(
+            f,
+            "{length} {position} {} {block} {sent} {gap} {left}",
+            sn.0
+        )
+    }
 }
 
-pub(crate) fn node(number: u64, settings: Settings, served: u8) -> Text {
-    let list = [settings.area as u64, served as u64];
-    numbers(text::answers::numbered(number).put_all(b"node"), &list).put(b'\n')
+/// The number of the state, and the fields that it carries.
+#[derive(Clone, Copy)]
+struct ReceiveSide(Rx);
+
+impl fmt::Display for ReceiveSide {
+    fn fmt<W: fmt::Write>(&self, f: &mut fmt::Formatter<W>) -> fmt::Result {
+        match self.0 {
+            Rx::Idle => f.write_str("0"),
+            Rx::OwesOverflow(timer) => write!(f, "1 {timer}"),
+            Rx::OwesGo(taking, timer) => write!(f, "2 {} {timer}", Received(taking)),
+            Rx::Awaits(taking, timer) => write!(f, "3 {} {timer}", Received(taking)),
+        }
+    }
 }
 
-pub(crate) fn needed(number: u64, n: u64) -> Text {
-    numbers(text::answers::numbered(number).put_all(b"needs"), &[n]).put(b'\n')
+/// The number of the state, and the fields that it carries.
+#[derive(Clone, Copy)]
+struct SendSide(Tx);
+
+impl fmt::Display for SendSide {
+    fn fmt<W: fmt::Write>(&self, f: &mut fmt::Formatter<W>) -> fmt::Result {
+        match self.0 {
+            Tx::Idle => f.write_str("0"),
+            Tx::SingleDue(party, length, timer) => write!(f, "1 {length} {timer} {}", party.0),
+            Tx::FirstDue(party, length, timer) => write!(f, "2 {length} {timer} {}", party.0),
+            Tx::AwaitsFlow(party, sending, timer) => {
+                write!(f, "3 {} {timer} {}", Sent(sending), party.0)
+            }
+            Tx::Consecutive(party, sending, timer) => {
+                write!(f, "4 {} {timer} {}", Sent(sending), party.0)
+            }
+        }
+    }
+}
+
+/// A berth's block size and STmin, its two sides, and between them the length of the last message arrived.
+#[derive(Clone, Copy)]
+pub(crate) struct State(pub(crate) Berth);
+
+impl fmt::Display for State {
+    fn fmt<W: fmt::Write>(&self, f: &mut fmt::Formatter<W>) -> fmt::Result {
+        let Berth {
+            rx,
+            last,
+            tx,
+            settings,
+        } = self.0;
+        write!(f, "state set {} {}", settings.block, settings.stmin)?;
+        write!(f, " rx {} last {last} tx {}", ReceiveSide(rx), SendSide(tx))
+    }
+}
+
+/// The area size and the berth served last.
+#[derive(Clone, Copy)]
+pub(crate) struct NodeState {
+    pub(crate) settings: Settings,
+    pub(crate) served: u8,
+}
+
+impl fmt::Display for NodeState {
+    fn fmt<W: fmt::Write>(&self, f: &mut fmt::Formatter<W>) -> fmt::Result {
+        write!(f, "node {} {}", self.settings.area, self.served)
+    }
 }

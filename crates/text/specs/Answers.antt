@@ -1,10 +1,8 @@
--- Paper 01, "The exerciser": an answer as its text, in bytes.
+-- "The exerciser": an answer as its text, in bytes.
 use Rattle.std.specs.Prelude.{ℕ, suc, ◌/◌, ◌%◌, ◌&&◌, List, [], ◌∷◌, ◌++◌, length, eqb}
 use Rattle.rules.specs.Tests.{pick}
 use Rattle.rules.specs.Answers.{Answer, refused, ready, heard, codes, sent, handed, none, shown, changed}
-use Rattle.rules.specs.declared.Word.{Word}
-use Rattle.rules.specs.declared.Word.TheVariants.{Delivered, Begun, Failed, Ignored, TooLong, Took, Going, Waiting}
-use Rattle.rules.specs.declared.Codes.{Codes}
+use Rattle.rules.specs.Words.{Word, Delivered, Begun, Failed, Ignored, TooLong, Took, Going, Waiting, Codes}
 use Rattle.text.specs.Building.{decimal, small_places, size_places, number_places, hex_text}
 
 -- ---- the paper's words
@@ -104,7 +102,7 @@ colon = 58
 abbrev pub LF : ℕ
 LF = 10
 
--- ---- the texts; the party of a report is not told (paper 02, W6)
+-- ---- the texts; the party of a report is not told
 
 -- an identifier has four digits
 unfoldable pub id_text : ℕ → List ℕ

@@ -1,4 +1,4 @@
--- Paper 02, W1, a card per berth: a card as its text, in bytes.
+-- A card per berth: a card as its text, in bytes.
 use Rattle.std.specs.Prelude.{ℕ, List, [], ◌∷◌, ◌++◌}
 use Rattle.rules.specs.Tests.{pick}
 use Rattle.rules.specs.Cards.{frozen}

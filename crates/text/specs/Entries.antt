@@ -1,4 +1,4 @@
--- Paper 02, W4, a journal, written and read: an entry as the line of the journal's reader, in bytes.
+-- A journal, written and read: an entry as the line of the journal's reader, in bytes.
 use Rattle.std.specs.Prelude.{ℕ, List, [], ◌∷◌, ◌++◌, eqb}
 use Rattle.rules.specs.Tests.{pick}
 use Rattle.rules.specs.Numbers.{N_OK, N_TIMEOUT_A, N_TIMEOUT_Bs, N_TIMEOUT_Cr, N_WRONG_SN, N_INVALID_FS, N_UNEXP_PDU, N_BUFFER_OVFLW}
@@ -37,7 +37,7 @@ length_name = 32 ∷ 108 ∷ 101 ∷ 110 ∷ 103 ∷ 116 ∷ 104 ∷ 32 ∷ []
 abbrev pub other_code_name : List ℕ
 other_code_name = 99 ∷ 111 ∷ 100 ∷ 101 ∷ 32 ∷ []
 
--- ---- the names of the report codes, as paper 01 has them
+-- ---- the names of the report codes, as the standard has them
 
 -- "N_OK"
 abbrev pub ok_name : List ℕ
@@ -97,17 +97,20 @@ name_text code =
 unfoldable pub length_text : Entry → List ℕ
 length_text e = pick (delivered e) (length_name ++ decimal size_places e.length) []
 
--- the line of the record with this number: tick count, berth, side, code, length
-unfoldable pub entry_line : ℕ → Entry → List ℕ
-entry_line n e =
-    numbered_text n
-    (tick_name
+-- the words of a record's line: tick count, berth, side, code, length
+abbrev pub entry_words : Entry → List ℕ
+entry_words e =
+    tick_name
     ++ (decimal number_places e.tick
     ++ (berth_name
     ++ (decimal size_places e.berth
     ++ (side_text e.kind
     ++ (name_text e.code
-    ++ length_text e))))))
+    ++ length_text e)))))
+
+-- the line of the record with this number
+unfoldable pub entry_line : ℕ → Entry → List ℕ
+entry_line n e = numbered_text n (entry_words e)
 
 -- the line of the first bad record
 unfoldable pub bad_line : ℕ → List ℕ

@@ -1,2 +1,0 @@
--- Of which node the numbers are that a part is handed.
-pub mod Parts
