@@ -2,6 +2,7 @@
 use mathlib.Core.Path.{◌≡◌, refl}
 use Prim.Native.Nat.{ℕ, zero, suc, ◌+◌, ◌-◌, ◌*◌, ◌/◌, ◌%◌, ◌^◌, ◌≤◌, ◌<◌}
 use native.Mathlib.Omega.{arith}
+use native.Mathlib.Numerals.{sub-one}
 use native.Mathlib.Nat.{pow-zero, pow-suc}
 use mathlib.Core.Bool.{Bool, true, false}
 use mathlib.Core.List.{List, [], ◌∷◌, ◌++◌}
@@ -26,6 +27,15 @@ module _ (places n : ℕ) where
       by : (t : Bool) → ltb n 10 ≡ t → P (decimal (suc places) n)
       by true e = rw (decimal-one (ltb-true n 10 e)) (one (ltb-true n 10 e))
       by false e = rw (decimal-more (ltb-false n 10 e)) (more (ltb-false n 10 e))
+
+-- where there is a place at all
+pub decimal-last : (places n : ℕ) → (places ≡ 0 → ⊥) → n < 10 → decimal places n ≡ (48 + n) ∷ []
+decimal-last zero n f h = absurd (f refl)
+decimal-last (suc places) n f h = decimal-one places n h
+
+pub decimal-next : (places n : ℕ) → (places ≡ 0 → ⊥) → 10 ≤ n → decimal places n ≡ decimal (places - 1) (n / 10) ++ ((48 + n % 10) ∷ [])
+decimal-next zero n f h = absurd (f refl)
+decimal-next (suc places) n f h = rw (sub-one) (decimal-more places n h)
 
 -- ---- the law
 

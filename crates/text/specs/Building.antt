@@ -1,14 +1,23 @@
--- Texts in bytes: how long they are at most, numbers in decimal, bytes in hex.
-use Rattle.std.specs.Prelude.{ℕ, zero, suc, ◌+◌, ◌-◌, ◌*◌, ◌/◌, ◌%◌, List, [], ◌∷◌, ◌++◌, take, ltb}
+-- Texts in bytes: what a text under construction says, numbers in decimal, bytes in hex.
+use Rattle.std.specs.Prelude.{ℕ, zero, suc, ◌+◌, ◌-◌, ◌*◌, ◌/◌, ◌%◌, ◌≤◌, ◌≡◌, List, [], ◌∷◌, ◌++◌, length, take, ltb}
 use Rattle.rules.specs.Tests.{pick}
+use Rattle.text.specs.declared.building.Text.{Text}
 
--- ---- what of a list of bytes a text has room for; no text of the programs is longer
+-- ---- a text under construction: its bytes so far, and what of a list of bytes has room; no text of the programs is longer
+
+unfoldable pub text_of : Text → List ℕ
+text_of text = take text.length text.bytes
 
 abbrev pub room : ℕ
 room = 320
 
 unfoldable pub clipped : List ℕ → List ℕ
 clipped bytes = take room bytes
+
+-- so many bytes stand at the front of a list. The second part follows from the first; with both, a caller that lends that front
+-- needs no proof
+abbrev pub Fronts : ℕ → List ℕ → Type 0
+Fronts n xs = (n ≤ length xs) × (n ≡ length (take n xs))
 
 -- ---- numbers
 

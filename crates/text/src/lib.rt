@@ -3,6 +3,7 @@
 #![tactic(auto)]
 
 // Types that are made to be written at once: nothing compares them, so they derive no equality.
+pub mod building;
 pub mod card;
 pub mod entry;
 pub mod hex;
