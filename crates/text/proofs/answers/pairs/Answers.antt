@@ -1,5 +1,5 @@
 -- The codes of one berth more; behind the last one none are left.
-use Rattle.std.proofs.Common.{List, ◌++◌, map, drop, ap, sym, ◌∙◌, rules}
+use Rattle.std.proofs.Common.{List, ◌++◌, map, ap, sym, ◌∙◌, rules}
 use Rattle.std.proofs.lemmas.List.{drop_all}
 use Rattle.rules.specs.Words.{codes_said}
 use Rattle.rules.specs.declared.Codes.{Codes}
