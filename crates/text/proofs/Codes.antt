@@ -1,5 +1,5 @@
 -- The codes of one berth more.
-use Rattle.std.proofs.Common.{◌≡◌, ℕ, suc, ◌+◌, ◌<◌, List, [], ◌∷◌, ◌++◌, length, map, take, get_or, sym, ap, ◌∙◌, append-nil, append_assoc, arith, length-take-le}
+use Rattle.std.proofs.Common.{◌≡◌, ℕ, suc, ◌+◌, ◌<◌, List, [], ◌∷◌, ◌++◌, length, map, take, drop, get_or, sym, ap, ◌∙◌, append-nil, append_assoc, add-one, arith, length-take-le, drop-cons}
 use Rattle.std.proofs.lemmas.List.{take_more}
 use Rattle.rules.specs.Words.{codes_said}
 use Rattle.rules.specs.declared.Codes.{Codes}
@@ -23,3 +23,9 @@ codes_more cs k d below =
     let here : codes_text 0 (map codes_said (take k cs ++ get_or cs k d ∷ [])) ≡ so_far ++ code_text k (codes_said (get_or cs k d)) =
     codes_push 0 (take k cs) (get_or cs k d) ∙ ap (λ n. so_far ++ code_text n (codes_said (get_or cs k d))) at_end in
     sym (ap (λ (l : List Codes). codes_text 0 (map codes_said l)) (take_more cs k d below) ∙ here)
+
+-- what is left to be put, the codes of one berth and those behind it
+pub codes_left : (cs : List Codes) (k : ℕ) (d : Codes) → k < length cs
+    → codes_text k (map codes_said (drop k cs)) ≡ code_text k (codes_said (get_or cs k d)) ++ codes_text (k + 1) (map codes_said (drop (k + 1) cs))
+unfolding codes_text
+codes_left cs k d below = rw add-one (ap (λ (l : List Codes). codes_text k (map codes_said l)) (drop-cons cs k d below))

@@ -27,14 +27,14 @@ impl fmt::Display for Identifier {
 }
 
 /// The number of a code, 0 for none.
-fn code(code: Option<Code>) -> u8
+pub(crate) fn code(code: Option<Code>) -> u8
     ensures { result ≡ code_said code }
 {
     code.map_or(0, u8::from)
 }
 
 /// The number of the code that a send side reports, 0 for none.
-fn reported(report: Option<Report>) -> u8
+pub(crate) fn reported(report: Option<Report>) -> u8
     ensures { result ≡ reported_code report }
 {
     report.map_or(0, |report| u8::from(report.code))
@@ -227,7 +227,7 @@ impl fmt::Display for TurnWords<'_> {
     }
 }
 
-fn first_eight(buffer: &[u8]) -> &[u8]
+pub(crate) fn first_eight(buffer: &[u8]) -> &[u8]
     ensures { result.now ≡ take frame_size buffer.now }
 {
     if buffer.len() < 8 {
