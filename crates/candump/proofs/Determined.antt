@@ -11,7 +11,7 @@ use Rattle.text.specs.Building.{clipped, text_of as bytes_in}
 use Rattle.text.specs.declared.building.Text.{Text}
 use Rattle.candump.specs.Lines.{error_number}
 use Rattle.candump.specs.Reading.{Line, line_said, reads}
-use Rattle.candump.specs.Answers.{text_of, wrote, SameWritten}
+use Rattle.candump.specs.Answers.{wrote, SameWritten}
 use Rattle.candump.specs.Writing.{Wrote, writes}
 use Rattle.candump.specs.declared.Log.{Log}
 use Rattle.candump.specs.declared.LogError.{LogError}
