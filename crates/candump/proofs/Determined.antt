@@ -7,9 +7,11 @@ use mathlib.Core.List.{List}
 use lib.Dec.{eqb}
 use Rattle.std.specs.Prelude.{Option, unwrap_or, Result, Ok, Err}
 use Rattle.rules.specs.Tests.{pick}
+use Rattle.text.specs.Building.{clipped, text_of as bytes_in}
+use Rattle.text.specs.declared.building.Text.{Text}
 use Rattle.candump.specs.Lines.{error_number}
 use Rattle.candump.specs.Reading.{Line, line_said, reads}
-use Rattle.candump.specs.Answers.{text_of, wrote, SameWritten}
+use Rattle.candump.specs.Answers.{wrote, SameWritten}
 use Rattle.candump.specs.Writing.{Wrote, writes}
 use Rattle.candump.specs.declared.Log.{Log}
 use Rattle.candump.specs.declared.LogError.{LogError}
@@ -67,3 +69,8 @@ wrote_one t (Err d) (Err b) e = error_one d b (wrote_refused e)
 pub write-determined : (name : List ℕ) (t : ℕ) (d : List ℕ) (r q : Result Written LogError) → wrote t r ≡ writes name t d → wrote t q ≡ writes name t d
     → SameWritten r q
 write-determined name t d r q m n = wrote_one t r q (m ∙ sym n)
+
+-- ---- the text of what was written, by its bytes
+
+pub text-determined : (w : Written) (r q : Text) → bytes_in r ≡ clipped (wrote w.time (Ok w)).text → bytes_in q ≡ clipped (wrote w.time (Ok w)).text → bytes_in r ≡ bytes_in q
+text-determined w r q m n = m ∙ sym n

@@ -7,7 +7,7 @@ use std::fmt;
 use text::hex::Hex;
 
 /// In microseconds.
-const SECOND: u64 = 1_000_000;
+pub(crate) const SECOND: u64 = 1_000_000;
 
 /// A frame that can be written: `Display` writes its line, with the LF at its end.
 // Types that are made to be written at once: nothing compares them, so they derive no equality.
