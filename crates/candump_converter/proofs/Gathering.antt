@@ -1,9 +1,14 @@
--- A line byte by byte: what was taken so far stands in front, and what still comes of the line is the first line of the rest.
-use Rattle.std.proofs.Common.{◌≡◌, ℕ, zero, suc, ◌-◌, ◌<◌, ◌≤◌, true, false, ◌==◌, List, [], ◌∷◌, ◌++◌, length, drop, Option, Some, None, Ok, IfSome, refl, sym, ap, ◌∙◌, append_assoc, append-nil, length-append, length-drop, arith}
-use Rattle.std.specs.Io.KnownBytes.{Consumes, IsAtEnd}
+-- A line part by part: what was taken so far stands in front, and what still comes of the line is the first line of the rest.
+use Rattle.std.proofs.Common.{◌≡◌, ◌≢◌, ℕ, zero, suc, ◌+◌, ◌-◌, ◌<◌, ◌≤◌, Bool, true, false, ◌==◌, true≢false, eq-eqb, ne_eqb, ltb-false, nat_lt, cond, List, [], ◌∷◌, ◌++◌, All, length, take, drop, get_or, Option, Some, None, Ok, IfSome, refl, sym, ap, ◌∙◌, append_assoc, append-nil, length-append, length-drop, length-take-le, get_or-take, arith}
+use Rattle.std.specs.Io.KnownBytes.{Consumes}
+use Rattle.std.specs.List.{position, position_or_len}
 use Rattle.std.proofs.KnownBytes.{Consumes-trans}
 use Rattle.std.proofs.Math.Seq.{drop-append_seam}
 use Rattle.std.proofs.lemmas.Bool.Decides.{nat_tests}
+use Rattle.std.proofs.lemmas.List.{take_more}
+use Rattle.std.proofs.lemmas.List.Elements.{All-head, All-tail}
+use Rattle.std.proofs.lemmas.List.Quantifiers.{position-Some}
+use Rattle.std.proofs.lemmas.List.Sums.{fails_before_first}
 use Rattle.candump.specs.Lines.{LF}
 use Rattle.pieces.specs.Pieces.{GivesNext}
 use Rattle.candump_converter.specs.Lines.{longest, first_line, cut_lines, lines_of, known_lines, TakesLine}
@@ -39,43 +44,92 @@ first_full : (n : ℕ) (bytes : List ℕ) → n ≡ 0 → first_line n bytes ≡
 unfolding first_line
 first_full n bytes e = rw e
 
-pub gathered_next : (old now new : Option (List ℕ)) (items : List ℕ) (b : ℕ) → Gathered old items now → Consumes now new (b ∷ []) → length items < longest → (b == LF) ≡ false
-    → Gathered old (items ++ b ∷ []) new
-gathered_next None now new items b g took few other = (tt, tt)
-gathered_next (Some xs) None new items b g took few other = absurd g.0
-gathered_next (Some xs) (Some ys) None items b g took few other = absurd took
-gathered_next (Some xs) (Some ys) (Some zs) items b g took few other =
-    let n : longest - length (items ++ b ∷ []) ≡ longest - length items - 1 = omega (arith, length-append items (b ∷ [])) in (
-      Consumes-trans (Some xs) (Some ys) (Some zs) items (b ∷ []) g.0 took,
-      g.1 ∙ ap (λ l. items ++ first_line (longest - length items) l) took ∙ ap (λ l. items ++ l) (first_next (longest - length items) b zs (omega arith) other)
-          ∙ sym (append_assoc items (b ∷ []) (first_line (longest - length items - 1) zs)) ∙ ap (λ k. (items ++ b ∷ []) ++ first_line k zs) (sym n),
+-- a part with no LF is the line's next one
+first_more : (n : ℕ) (part rest : List ℕ) → length part ≤ n → All (λ b. b ≢ LF) part → first_line n (part ++ rest) ≡ part ++ first_line (n - length part) rest
+first_more n [] rest few other = let e : n ≡ n - 0 = omega arith in ap (λ k. first_line k rest) e
+first_more n (b ∷ part) rest few other =
+    let left : n - 1 - length part ≡ n - suc (length part) = omega arith in
+    first_next n b (part ++ rest) (omega arith) (ne_eqb b LF (All-head (λ x. x ≢ LF) b part other))
+    ∙ ap (λ l. b ∷ l) (first_more (n - 1) part rest (omega arith) (All-tail (λ x. x ≢ LF) b part other))
+    ∙ ap (λ k. b ∷ (part ++ first_line k rest)) left
+
+-- one that ends in its first LF is all of it
+first_through : (n : ℕ) (part : List ℕ) (b : ℕ) (rest : List ℕ) → length part < n → All (λ x. x ≢ LF) part → (b == LF) ≡ true
+    → first_line n ((part ++ b ∷ []) ++ rest) ≡ part ++ b ∷ []
+first_through n part b rest few other is =
+    ap (first_line n) (append_assoc part (b ∷ []) rest) ∙ first_more n part (b ∷ rest) (omega arith) other
+    ∙ ap (λ l. part ++ l) (first_ends (n - length part) b rest (omega arith) is)
+
+pub gathered_more : (old now new : Option (List ℕ)) (items part : List ℕ) → Gathered old items now → Consumes now new part → length (items ++ part) ≤ longest → All (λ b. b ≢ LF) part
+    → Gathered old (items ++ part) new
+gathered_more None now new items part g took few other = (tt, tt)
+gathered_more (Some xs) None new items part g took few other = absurd g.0
+gathered_more (Some xs) (Some ys) None items part g took few other = absurd took
+gathered_more (Some xs) (Some ys) (Some zs) items part g took few other =
+    let long = length-append items part in
+    let n : longest - length (items ++ part) ≡ longest - length items - length part = omega arith in (
+      Consumes-trans (Some xs) (Some ys) (Some zs) items part g.0 took,
+      g.1 ∙ ap (λ l. items ++ first_line (longest - length items) l) took ∙ ap (λ l. items ++ l) (first_more (longest - length items) part zs (omega arith) other)
+          ∙ sym (append_assoc items part (first_line (longest - length items - length part) zs)) ∙ ap (λ k. (items ++ part) ++ first_line k zs) (sym n),
     )
 
-pub taken_LF : (old now new : Option (List ℕ)) (items : List ℕ) (b : ℕ) → Gathered old items now → Consumes now new (b ∷ []) → length items < longest → (b == LF) ≡ true
-    → TakesLine old (items ++ b ∷ []) new
-taken_LF None now new items b g took few is = (tt, tt)
-taken_LF (Some xs) None new items b g took few is = absurd g.0
-taken_LF (Some xs) (Some ys) None items b g took few is = absurd took
-taken_LF (Some xs) (Some ys) (Some zs) items b g took few is = (
-  Consumes-trans (Some xs) (Some ys) (Some zs) items (b ∷ []) g.0 took,
-  sym (g.1 ∙ ap (λ l. items ++ first_line (longest - length items) l) took ∙ ap (λ l. items ++ l) (first_ends (longest - length items) b zs (omega arith) is)),
-)
-
-pub taken_end : (old now new : Option (List ℕ)) (items : List ℕ) → Gathered old items now → Consumes now new [] → IsAtEnd new → TakesLine old items new
-taken_end None now new items g took end = (tt, tt)
-taken_end (Some xs) None new items g took end = absurd g.0
-taken_end (Some xs) (Some ys) None items g took end = absurd took
-taken_end (Some xs) (Some ys) (Some zs) items g took end =
-    let none : ys ≡ [] = took ∙ end in (
-      g.0 ∙ ap (λ l. items ++ l) took,
-      sym (g.1 ∙ ap (λ l. items ++ first_line (longest - length items) l) none ∙ ap (λ l. items ++ l) (first_none (longest - length items)) ∙ append-nil items),
-    )
+pub taken_part : (old now new : Option (List ℕ)) (items part : List ℕ) → Gathered old items now → Consumes now new part → IfSome now (λ ys. part ≡ first_line (longest - length items) ys)
+    → TakesLine old (items ++ part) new
+taken_part None now new items part g took ends = (tt, tt)
+taken_part (Some xs) None new items part g took ends = absurd g.0
+taken_part (Some xs) (Some ys) None items part g took ends = absurd took
+taken_part (Some xs) (Some ys) (Some zs) items part g took ends =
+    (Consumes-trans (Some xs) (Some ys) (Some zs) items part g.0 took, ap (λ l. items ++ l) ends ∙ sym g.1)
 
 pub taken_full : (old now : Option (List ℕ)) (items : List ℕ) → Gathered old items now → longest ≤ length items → TakesLine old items now
 taken_full None now items g full = (tt, tt)
 taken_full (Some xs) None items g full = absurd g.0
 taken_full (Some xs) (Some ys) items g full =
     (g.0, sym (g.1 ∙ ap (λ l. items ++ l) (first_full (longest - length items) ys (omega arith)) ∙ append-nil items))
+
+-- ---- what is taken of what is shown
+
+abbrev is_LF : ℕ → Bool
+is_LF b = b == LF
+
+-- a byte that fails the test is no LF
+other_byte : (a b : ℕ) → a ≡ b → is_LF a ≡ false → b ≡ LF → ⊥
+other_byte a b same other is = true≢false (sym (eq-eqb a LF (same ∙ is)) ∙ other)
+
+beyond : (a n : ℕ) → cond (nat_lt a n) (Some a) None ≡ None → n ≤ a
+beyond a n = go (nat_lt a n) refl
+  where
+    go : (t : Bool) → nat_lt a n ≡ t → cond t (Some a) None ≡ None → n ≤ a
+    go true is e = cc
+    go false is e = ltb-false a n is
+
+-- where no LF is found there is none
+pub none_LF : (shown : List ℕ) → position is_LF shown ≡ None → All (λ b. b ≢ LF) shown
+none_LF shown none k d few is =
+    let far = beyond (position_or_len is_LF shown) (length shown) none in
+    other_byte _ _ refl (fails_before_first is_LF shown k d (omega (arith, far))) is
+
+-- up to the LF that is found there is no other
+pub ends_LF : (old new : Option (List ℕ)) (n : ℕ) (shown : List ℕ) (at : ℕ) → length shown ≤ n → position is_LF shown ≡ Some at → Consumes old new (take (at + 1) shown)
+    → IfSome old (λ bytes. take (at + 1) shown ≡ first_line n bytes)
+ends_LF None new n shown at few is took = tt
+ends_LF (Some xs) None n shown at few is took = absurd took
+ends_LF (Some xs) (Some ys) n shown at few is took =
+    let found = position-Some is_LF shown at 0 is in
+    let line : take (at + 1) shown ≡ take at shown ++ get_or shown at 0 ∷ [] = take_more shown at 0 found.0 in
+    let long = length-take-le at shown (omega (arith, found.0)) in
+    line ∙ sym (first_through n (take at shown) (get_or shown at 0) ys (omega (arith, long, found.0)) before found.1)
+    ∙ ap (first_line n) (sym (took ∙ ap (λ l. l ++ ys) line))
+  where
+    before : All (λ b. b ≢ LF) (take at shown)
+    before k d less =
+        let found = position-Some is_LF shown at d is in
+        let under : k < at = omega (arith, less, length-take-le at shown (omega (arith, found.0))) in
+        other_byte _ _ (sym (get_or-take at shown k d under)) (found.2 k under)
+
+pub ends_none : (old : Option (List ℕ)) (n : ℕ) → IfSome old (λ bytes. bytes ≡ []) → IfSome old (λ bytes. [] ≡ first_line n bytes)
+ends_none None n none = tt
+ends_none (Some xs) n none = sym (ap (first_line n) none ∙ first_none n)
 
 -- ---- a whole line
 
