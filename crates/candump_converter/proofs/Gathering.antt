@@ -1,5 +1,5 @@
 -- A line part by part: what was taken so far stands in front, and what still comes of the line is the first line of the rest.
-use Rattle.std.proofs.Common.{◌≡◌, ◌≢◌, ℕ, zero, suc, ◌+◌, ◌-◌, ◌<◌, ◌≤◌, Bool, true, false, ◌==◌, true≢false, eq-eqb, ne_eqb, ltb-false, nat_lt, cond, List, [], ◌∷◌, ◌++◌, All, length, take, drop, get_or, Option, Some, None, Ok, IfSome, refl, sym, ap, ◌∙◌, append_assoc, append-nil, length-append, length-drop, length-take-le, get_or-take, arith}
+use Rattle.std.proofs.Common.{◌≡◌, ◌≢◌, ℕ, zero, suc, ◌+◌, ◌-◌, ◌<◌, ◌≤◌, Bool, true, false, ◌==◌, true≢false, MatchBool, eq-eqb, eqb-true, ne_eqb, ltb-false, nat_lt, cond, List, [], ◌∷◌, ◌++◌, All, min, length, take, drop, get_or, Option, Some, None, Ok, IfSome, refl, sym, ap, ◌∙◌, append_assoc, append-nil, length-append, length-drop, length-take-le, get_or-take, take-take, arith}
 use Rattle.std.specs.Io.KnownBytes.{Consumes}
 use Rattle.std.specs.List.{position, position_or_len}
 use Rattle.std.proofs.KnownBytes.{Consumes-trans}
@@ -89,7 +89,7 @@ taken_full (Some xs) (Some ys) items g full =
 
 -- ---- what is taken of what is shown
 
-abbrev is_LF : ℕ → Bool
+abbrev pub is_LF : ℕ → Bool
 is_LF b = b == LF
 
 -- a byte that fails the test is no LF
@@ -110,26 +110,52 @@ none_LF shown none k d few is =
     other_byte _ _ refl (fails_before_first is_LF shown k d (omega (arith, far))) is
 
 -- up to the LF that is found there is no other
-pub ends_LF : (old new : Option (List ℕ)) (n : ℕ) (shown : List ℕ) (at : ℕ) → length shown ≤ n → position is_LF shown ≡ Some at → Consumes old new (take (at + 1) shown)
-    → IfSome old (λ bytes. take (at + 1) shown ≡ first_line n bytes)
-ends_LF None new n shown at few is took = tt
-ends_LF (Some xs) None n shown at few is took = absurd took
-ends_LF (Some xs) (Some ys) n shown at few is took =
-    let found = position-Some is_LF shown at 0 is in
-    let line : take (at + 1) shown ≡ take at shown ++ get_or shown at 0 ∷ [] = take_more shown at 0 found.0 in
-    let long = length-take-le at shown (omega (arith, found.0)) in
-    line ∙ sym (first_through n (take at shown) (get_or shown at 0) ys (omega (arith, long, found.0)) before found.1)
+pub ends_LF : (old new : Option (List ℕ)) (n room : ℕ) (shown : List ℕ) (at : ℕ) → room ≤ n → room ≤ length shown → position is_LF (take room shown) ≡ Some at
+    → Consumes old new (take (at + 1) shown) → IfSome old (λ bytes. take (at + 1) shown ≡ first_line n bytes)
+ends_LF None new n room shown at few within is took = tt
+ends_LF (Some xs) None n room shown at few within is took = absurd took
+ends_LF (Some xs) (Some ys) n room shown at few within is took =
+    let bytes = take room shown in
+    let long = length-take-le room shown within in
+    let found = position-Some is_LF bytes at 0 is in
+    let line : take (at + 1) shown ≡ take at bytes ++ get_or bytes at 0 ∷ [] =
+        sym (take-take (at + 1) room shown (omega (arith, found.0))) ∙ take_more bytes at 0 found.0 in
+    line ∙ sym (first_through n (take at bytes) (get_or bytes at 0) ys (omega (arith, length-take-le at bytes (omega (arith, found.0)), found.0)) before found.1)
     ∙ ap (first_line n) (sym (took ∙ ap (λ l. l ++ ys) line))
   where
-    before : All (λ b. b ≢ LF) (take at shown)
+    before : All (λ b. b ≢ LF) (take at (take room shown))
     before k d less =
-        let found = position-Some is_LF shown at d is in
-        let under : k < at = omega (arith, less, length-take-le at shown (omega (arith, found.0))) in
-        other_byte _ _ (sym (get_or-take at shown k d under)) (found.2 k under)
+        let found = position-Some is_LF (take room shown) at d is in
+        let under : k < at = omega (arith, less, length-take-le at (take room shown) (omega (arith, found.0))) in
+        other_byte _ _ (sym (get_or-take at (take room shown) k d under)) (found.2 k under)
 
-pub ends_none : (old : Option (List ℕ)) (n : ℕ) → IfSome old (λ bytes. bytes ≡ []) → IfSome old (λ bytes. [] ≡ first_line n bytes)
-ends_none None n none = tt
-ends_none (Some xs) n none = sym (ap (first_line n) none ∙ first_none n)
+-- it stands within
+pub LF_within : (room : ℕ) (shown : List ℕ) (at : ℕ) → room ≤ length shown → position is_LF (take room shown) ≡ Some at → at < room
+LF_within room shown at within is = let found = position-Some is_LF (take room shown) at 0 is in omega (arith, found.0, length-take-le room shown within)
+
+-- where nothing is shown the line has ended
+ends_none : (old : Option (List ℕ)) (n : ℕ) (part : List ℕ) → length part ≡ 0 → IfSome old (λ bytes. bytes ≡ []) → IfSome old (λ bytes. part ≡ first_line n bytes)
+ends_none None n part none left = tt
+ends_none (Some xs) n [] none left = sym (ap (first_line n) left ∙ first_none n)
+ends_none (Some xs) n (b ∷ part) none left = absurd (omega arith)
+
+nothing_left : (old : Option (List ℕ)) (k : ℕ) → IfSome old (λ bytes. k ≡ 0 → bytes ≡ []) → k ≡ 0 → IfSome old (λ bytes. bytes ≡ [])
+nothing_left None k end none = tt
+nothing_left (Some xs) k end none = end none
+
+-- all that is shown, where there is room for it and no LF in it
+pub goes_on : (old : Option (List ℕ)) (n room : ℕ) (shown : List ℕ) → 0 < n → room ≡ min n (length shown) → IfSome old (λ bytes. length shown ≡ 0 → bytes ≡ [])
+    → position is_LF (take room shown) ≡ None
+    → MatchBool (room == 0) (IfSome old (λ bytes. take room shown ≡ first_line n bytes)) ((0 < length (take room shown)) × All (λ b. b ≢ LF) (take room shown))
+goes_on old n room shown some is end none = go (room == 0) refl
+  where
+    go : (t : Bool) → (room == 0) ≡ t → MatchBool t (IfSome old (λ bytes. take room shown ≡ first_line n bytes)) ((0 < length (take room shown)) × All (λ b. b ≢ LF) (take room shown))
+    go true e =
+        let zero : room ≡ 0 = eqb-true room 0 e in
+        ends_none old n (take room shown) (length-take-le room shown (omega arith) ∙ zero) (nothing_left old (length shown) end (omega (arith, zero)))
+    go false e =
+        let long = length-take-le room shown (omega arith) in
+        (grind (arith, nat_tests, long), none_LF (take room shown) none)
 
 -- ---- a whole line
 
