@@ -1,14 +1,12 @@
 -- A line part by part: what was taken so far stands in front, and what still comes of the line is the first line of the rest.
-use Rattle.std.proofs.Common.{◌≡◌, ◌≢◌, ℕ, zero, suc, ◌+◌, ◌-◌, ◌<◌, ◌≤◌, Bool, true, false, ◌==◌, true≢false, MatchBool, eq-eqb, eqb-true, ne_eqb, ltb-false, nat_lt, cond, List, [], ◌∷◌, ◌++◌, All, min, length, take, drop, get_or, Option, Some, None, Ok, IfSome, refl, sym, ap, ◌∙◌, append_assoc, append-nil, length-append, length-drop, length-take-le, get_or-take, take-take, arith}
+use Rattle.std.proofs.Common.{◌≡◌, ◌≢◌, ℕ, zero, suc, ◌+◌, ◌-◌, ◌<◌, ◌≤◌, Bool, true, false, ◌==◌, MatchBool, eq-eqb, eqb-true, ne_eqb, List, [], ◌∷◌, ◌++◌, All, min, length, take, drop, get_or, slice_index, Option, Some, None, Ok, IfSome, refl, sym, ap, ◌∙◌, append_assoc, append-nil, length-append, length-drop, length-take-le, get_or-take, take-take, arith}
 use Rattle.std.specs.Io.KnownBytes.{Consumes}
-use Rattle.std.specs.List.{position, position_or_len}
 use Rattle.std.proofs.KnownBytes.{Consumes-trans}
 use Rattle.std.proofs.Math.Seq.{drop-append_seam}
 use Rattle.std.proofs.lemmas.Bool.Decides.{nat_tests}
-use Rattle.std.proofs.lemmas.List.{take_more}
+use Rattle.std.proofs.lemmas.List.{take_more, get_or_default}
 use Rattle.std.proofs.lemmas.List.Elements.{All-head, All-tail}
-use Rattle.std.proofs.lemmas.List.Quantifiers.{position-Some}
-use Rattle.std.proofs.lemmas.List.Sums.{fails_before_first}
+use Rattle.memchr.specs.Find.{IsFirstByte, is_byte}
 use Rattle.candump.specs.Lines.{LF}
 use Rattle.pieces.specs.Pieces.{GivesNext}
 use Rattle.candump_converter.specs.Lines.{longest, first_line, cut_lines, lines_of, known_lines, TakesLine}
@@ -89,49 +87,37 @@ taken_full (Some xs) (Some ys) items g full =
 
 -- ---- what is taken of what is shown
 
-abbrev pub is_LF : ℕ → Bool
-is_LF b = b == LF
-
 -- a byte that fails the test is no LF
-other_byte : (a b : ℕ) → a ≡ b → is_LF a ≡ false → b ≡ LF → ⊥
-other_byte a b same other is = true≢false (sym (eq-eqb a LF (same ∙ is)) ∙ other)
-
-beyond : (a n : ℕ) → cond (nat_lt a n) (Some a) None ≡ None → n ≤ a
-beyond a n = go (nat_lt a n) refl
-  where
-    go : (t : Bool) → nat_lt a n ≡ t → cond t (Some a) None ≡ None → n ≤ a
-    go true is e = cc
-    go false is e = ltb-false a n is
+other_byte : (l : List ℕ) (k : ℕ) (d : ℕ) → k < length l → (slice_index l k == LF ≡ true → ⊥) → get_or l k d ≡ LF → ⊥
+other_byte l k d within other is = other (eq-eqb _ _ (get_or_default l k 0 d within ∙ is))
 
 -- where no LF is found there is none
-pub none_LF : (shown : List ℕ) → position is_LF shown ≡ None → All (λ b. b ≢ LF) shown
-none_LF shown none k d few is =
-    let far = beyond (position_or_len is_LF shown) (length shown) none in
-    other_byte _ _ refl (fails_before_first is_LF shown k d (omega (arith, far))) is
+none_LF : (shown : List ℕ) → IsFirstByte (is_byte LF) shown None → All (λ b. b ≢ LF) shown
+none_LF shown none k d few = other_byte shown k d few (none k (omega arith) few)
 
 -- up to the LF that is found there is no other
-pub ends_LF : (old new : Option (List ℕ)) (n room : ℕ) (shown : List ℕ) (at : ℕ) → room ≤ n → room ≤ length shown → position is_LF (take room shown) ≡ Some at
+pub ends_LF : (old new : Option (List ℕ)) (n room : ℕ) (shown : List ℕ) (at : ℕ) → room ≤ n → room ≤ length shown → IsFirstByte (is_byte LF) (take room shown) (Some at)
     → Consumes old new (take (at + 1) shown) → IfSome old (λ bytes. take (at + 1) shown ≡ first_line n bytes)
-ends_LF None new n room shown at few within is took = tt
-ends_LF (Some xs) None n room shown at few within is took = absurd took
-ends_LF (Some xs) (Some ys) n room shown at few within is took =
+ends_LF None new n room shown at few within found took = tt
+ends_LF (Some xs) None n room shown at few within found took = absurd took
+ends_LF (Some xs) (Some ys) n room shown at few within found took =
     let bytes = take room shown in
     let long = length-take-le room shown within in
-    let found = position-Some is_LF bytes at 0 is in
     let line : take (at + 1) shown ≡ take at bytes ++ get_or bytes at 0 ∷ [] =
-        sym (take-take (at + 1) room shown (omega (arith, found.0))) ∙ take_more bytes at 0 found.0 in
-    line ∙ sym (first_through n (take at bytes) (get_or bytes at 0) ys (omega (arith, length-take-le at bytes (omega (arith, found.0)), found.0)) before found.1)
+        sym (take-take (at + 1) room shown (omega (arith, found.0.high))) ∙ take_more bytes at 0 found.0.high in
+    line ∙ sym (first_through n (take at bytes) (get_or bytes at 0) ys (omega (arith, length-take-le at bytes (omega (arith, found.0.high)), found.0.high)) before found.1)
     ∙ ap (first_line n) (sym (took ∙ ap (λ l. l ++ ys) line))
   where
     before : All (λ b. b ≢ LF) (take at (take room shown))
     before k d less =
-        let found = position-Some is_LF (take room shown) at d is in
-        let under : k < at = omega (arith, less, length-take-le at (take room shown) (omega (arith, found.0))) in
-        other_byte _ _ (sym (get_or-take at (take room shown) k d under)) (found.2 k under)
+        let bytes = take room shown in
+        let under : k < at = omega (arith, less, length-take-le at bytes (omega (arith, found.0.high))) in
+        let there : k < length bytes = omega (arith, under, found.0.high) in
+        λ is. other_byte bytes k d there (found.0.before k (omega arith) under) (sym (get_or-take at bytes k d under) ∙ is)
 
 -- it stands within
-pub LF_within : (room : ℕ) (shown : List ℕ) (at : ℕ) → room ≤ length shown → position is_LF (take room shown) ≡ Some at → at < room
-LF_within room shown at within is = let found = position-Some is_LF (take room shown) at 0 is in omega (arith, found.0, length-take-le room shown within)
+pub LF_within : (room : ℕ) (shown : List ℕ) (at : ℕ) → room ≤ length shown → IsFirstByte (is_byte LF) (take room shown) (Some at) → at < room
+LF_within room shown at within found = omega (arith, found.0.high, length-take-le room shown within)
 
 -- where nothing is shown the line has ended
 ends_none : (old : Option (List ℕ)) (n : ℕ) (part : List ℕ) → length part ≡ 0 → IfSome old (λ bytes. bytes ≡ []) → IfSome old (λ bytes. part ≡ first_line n bytes)
@@ -145,7 +131,7 @@ nothing_left (Some xs) k end none = end none
 
 -- all that is shown, where there is room for it and no LF in it
 pub goes_on : (old : Option (List ℕ)) (n room : ℕ) (shown : List ℕ) → 0 < n → room ≡ min n (length shown) → IfSome old (λ bytes. length shown ≡ 0 → bytes ≡ [])
-    → position is_LF (take room shown) ≡ None
+    → IsFirstByte (is_byte LF) (take room shown) None
     → MatchBool (room == 0) (IfSome old (λ bytes. take room shown ≡ first_line n bytes)) ((0 < length (take room shown)) × All (λ b. b ≢ LF) (take room shown))
 goes_on old n room shown some is end none = go (room == 0) refl
   where

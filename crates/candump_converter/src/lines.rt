@@ -1,7 +1,6 @@
 //! The lines of an input, one behind the other, in fixed memory.
-ghost use Rattle.std.specs.Prelude.{◌≡◌, ◌<◌, ◌==◌, IfOk, length, position};
+ghost use Rattle.std.specs.Prelude.{◌≡◌, ◌<◌, IfOk, length};
 ghost use Rattle.std.specs.Iterator.{at_most};
-ghost use Rattle.candump.specs.Lines.{LF};
 ghost use Rattle.pieces.specs.Pieces.{GivesNext};
 ghost use Rattle.candump_converter.specs.Lines.{longest, known_lines, lines_left, bytes_read, TakesPart, TakesLine};
 
@@ -77,7 +76,7 @@ fn take_part<R: BufRead>(input: &mut R, line: &mut Line) -> io::Result<bool>
 {
     let shown = input.fill_buf()?;
     let room = line.remaining_capacity().min(shown.len());
-    let (count, ends) = match first_lf(&shown[..room]) {
+    let (count, ends) = match memchr::memchr(b'\n', &shown[..room]) {
         Some(at) => (at + 1, true),
         None => (room, room == 0),
     };
@@ -85,10 +84,4 @@ fn take_part<R: BufRead>(input: &mut R, line: &mut Line) -> io::Result<bool>
     let _fits = line.try_extend_from_slice(&shown[..count]);
     input.consume(count);
     Ok(ends)
-}
-
-fn first_lf(bytes: &[u8]) -> Option<usize>
-    ensures { result ≡ position (λ b. b == LF) bytes.now }
-{
-    bytes.iter().position(|&byte| byte == b'\n')
 }
