@@ -104,7 +104,7 @@ ends_LF (Some xs) (Some ys) n room shown at few within found took =
     let bytes = take room shown in
     let long = length-take-le room shown within in
     let line : take (at + 1) shown ≡ take at bytes ++ get_or bytes at 0 ∷ [] =
-        sym (take-take (at + 1) room shown (omega (arith, found.0.high))) ∙ take_more bytes at 0 found.0.high in
+    sym (take-take (at + 1) room shown (omega (arith, found.0.high))) ∙ take_more bytes at 0 found.0.high in
     line ∙ sym (first_through n (take at bytes) (get_or bytes at 0) ys (omega (arith, length-take-le at bytes (omega (arith, found.0.high)), found.0.high)) before found.1)
     ∙ ap (first_line n) (sym (took ∙ ap (λ l. l ++ ys) line))
   where

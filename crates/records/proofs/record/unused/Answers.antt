@@ -12,7 +12,7 @@ unfolding unused_in
 returns c =
     let bytes = c.args.bytes.now in
     let left : iter_rest c.iter.result ≡ drop c.args.from bytes =
-        c.iter.ensures.rest ∙ between_to_end bytes c.min.result (length bytes) (le_refl _) ∙ ap (λ n. drop n bytes) c.min.ensures ∙ drop_min c.args.from bytes in
+    c.iter.ensures.rest ∙ between_to_end bytes c.min.result (length bytes) (le_refl _) ∙ ap (λ n. drop n bytes) c.min.ensures ∙ drop_min c.args.from bytes in
     all_from_yields_List zero_byte _ _ _ c.all.ensures.ran
     (YieldsList-from_take c.saturating_sub-count.result (YieldsList-from_slice (drop c.args.from bytes) (cc)) (cc))
     (λ x b q k. search (rules, tests))
