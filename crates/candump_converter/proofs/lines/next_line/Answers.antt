@@ -1,6 +1,6 @@
 -- A part more; where it ends the line the line is whole, and so is a full one.
-use Rattle.std.proofs.Common.{◌≡◌, ◌≤◌, true, false, length, length-append, rules, arith}
-use Rattle.candump_converter.specs.Lines.{longest, TakesPart}
+use Rattle.std.proofs.Common.{◌≤◌, length, length-append, rules, arith}
+use Rattle.candump_converter.specs.Lines.{longest}
 use Rattle.candump_converter.proofs.Gathering.{gathered_none, gathered_more, taken_part, taken_full}
 use Rattle.candump_converter.proofs.lines.next_line.Goals as goal
 
