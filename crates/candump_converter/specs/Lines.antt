@@ -1,6 +1,6 @@
 -- The lines of an input, as far as each has room, and what an iterator over them gives.
-use Rattle.std.specs.Prelude.{◌≡◌, ℕ, zero, suc, List, [], ◌∷◌, length, drop, Option, Some, None, Result, Ok, Err, MatchOption, IfSome, if◌then◌else◌, ◌==◌}
-use Rattle.std.specs.Io.KnownBytes.{Consumes, IsAtEnd}
+use Rattle.std.specs.Prelude.{◌≡◌, ◌≢◌, ℕ, zero, suc, ◌-◌, ◌<◌, ◌≤◌, Bool, MatchBool, List, [], ◌∷◌, ◌++◌, All, length, drop, Option, Some, None, Result, Ok, Err, IfSome, if◌then◌else◌, ◌==◌}
+use Rattle.std.specs.Io.KnownBytes.{Consumes}
 use Rattle.std.specs.Option.{option_map}
 use Rattle.arrayvec.specs.ArrayVec.{ArrayVec}
 use Rattle.rules.specs.Tests.{pick}
@@ -41,9 +41,11 @@ bytes_read None = None
 bytes_read (Some (Ok line)) = Some (Ok line.items)
 bytes_read (Some (Err e)) = Some (Err e)
 
--- the next byte was taken, or the end is reached
-abbrev pub TakesByte : Option (List ℕ) → Option ℕ → Option (List ℕ) → Type 0
-TakesByte old byte new = MatchOption byte (Consumes old new [] × IsAtEnd new) (λ b. Consumes old new (b ∷ []))
+-- Behind some bytes of a line a part of it was taken: the line ends with it, or it has some bytes and none is LF.
+abbrev pub TakesPart : Option (List ℕ) → List ℕ → Bool → List ℕ → Option (List ℕ) → Type 0
+TakesPart old before ends after new =
+    (part : List ℕ) × (after ≡ before ++ part) × (length after ≤ longest) × Consumes old new part
+    × MatchBool ends (IfSome old (λ bytes. part ≡ first_line (longest - length before) bytes)) ((0 < length part) × All (λ b. b ≢ LF) part)
 
 -- the first line was taken
 abbrev pub TakesLine : Option (List ℕ) → List ℕ → Option (List ℕ) → Type 0

@@ -1,11 +1,11 @@
 //! The lines of an input, one behind the other, in fixed memory.
-ghost use Rattle.std.specs.Prelude.{◌≡◌, IfOk};
+ghost use Rattle.std.specs.Prelude.{◌≡◌, ◌<◌, IfOk, length};
 ghost use Rattle.std.specs.Iterator.{at_most};
 ghost use Rattle.pieces.specs.Pieces.{GivesNext};
-ghost use Rattle.candump_converter.specs.Lines.{known_lines, lines_left, bytes_read, TakesByte, TakesLine};
+ghost use Rattle.candump_converter.specs.Lines.{longest, known_lines, lines_left, bytes_read, TakesPart, TakesLine};
 
 use arrayvec::ArrayVec;
-use std::io::{self, ErrorKind, Read};
+use std::io::{self, BufRead, ErrorKind, Read};
 
 /// The longest line that a log may have: the most of each of its parts, with what stands between them, and LF.
 pub(crate) const LONGEST: usize = 57;
@@ -32,7 +32,7 @@ impl<R: Read> Lines<R> {
     }
 }
 
-impl<R: Read + Drop> Iterator for Lines<R> {
+impl<R: BufRead + Drop> Iterator for Lines<R> {
     type Item = io::Result<Line>;
 
     ghost next_gives = { λ s r t. GivesNext (lines_left R.remaining s) (bytes_read r) (lines_left R.remaining t) };
@@ -56,29 +56,32 @@ impl<R: Read + Drop> Iterator for Lines<R> {
 }
 
 /// Takes what stands up to the next LF, with it, as far as there is room.
-fn next_line<R: Read>(input: &mut R) -> io::Result<Line>
+fn next_line<R: BufRead>(input: &mut R) -> io::Result<Line>
     ensures { IfOk result (λ line. TakesLine (R.remaining input.old) line.items (R.remaining input.new)) }
 {
     let mut line = Line::new();
     // It ends at LF, at the end or where the room does; `read_until` behind a limit promises nothing of what is left of the reader.
     while !line.is_full() {
-        let Some(byte) = next_byte(input)? else {
-            return Ok(line);
-        };
-        line.push(byte);
-        if byte == b'\n' {
+        if take_part(input, &mut line)? {
             return Ok(line);
         }
     }
     Ok(line)
 }
 
-fn next_byte<R: Read>(input: &mut R) -> io::Result<Option<u8>>
-    ensures { IfOk result (λ byte. TakesByte (R.remaining input.old) byte (R.remaining input.new)) }
+/// Takes what the input shows of the line, and says whether the line ends there: at LF, or where nothing is shown any more.
+fn take_part<R: BufRead>(input: &mut R, line: &mut Line) -> io::Result<bool>
+    requires { length line.old.items < longest }
+    ensures { IfOk result (λ ends. TakesPart (R.remaining input.old) line.old.items ends line.new.items (R.remaining input.new)) }
 {
-    let mut byte = [0];
-    match input.read(&mut byte)? {
-        0 => Ok(None),
-        _ => Ok(Some(byte[0])),
-    }
+    let shown = input.fill_buf()?;
+    let room = line.remaining_capacity().min(shown.len());
+    let (count, ends) = match memchr::memchr(b'\n', &shown[..room]) {
+        Some(at) => (at + 1, true),
+        None => (room, room == 0),
+    };
+    // No more is taken than there is room for.
+    let _fits = line.try_extend_from_slice(&shown[..count]);
+    input.consume(count);
+    Ok(ends)
 }

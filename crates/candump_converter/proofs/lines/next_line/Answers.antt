@@ -1,29 +1,26 @@
--- One byte more; LF, the end and a full line end it.
-use Rattle.std.proofs.Common.{◌≡◌, ◌<◌, ◌≤◌, ◌==◌, true, false, length, rules}
-use Rattle.candump.specs.Lines.{LF}
+-- A part more; where it ends the line the line is whole, and so is a full one.
+use Rattle.std.proofs.Common.{◌≤◌, length, length-append, rules, arith}
 use Rattle.candump_converter.specs.Lines.{longest}
-use Rattle.candump_converter.proofs.Gathering.{gathered_none, gathered_next, taken_LF, taken_end, taken_full}
+use Rattle.candump_converter.proofs.Gathering.{gathered_none, gathered_more, taken_part, taken_full}
 use Rattle.candump_converter.proofs.lines.next_line.Goals as goal
 
 pub loop-input-init : goal.loop-input-init
 loop-input-init g c = rw c.new-line.ensures (gathered_none _)
 
-pub returns-in_default : goal.returns-in_default
-returns-in_default g c =
-    let e = rw c.in_default.is at c.in_ok-byte.ensures in
-    taken_end _ _ _ _ c.loop-input.invariant e.0 e.1
-
-pub returns-then-byte-eq10 : goal.returns-then-byte-eq10
-returns-then-byte-eq10 g c =
-    let few : length c.loop-input.line.items < longest = search rules in
-    let is : (c.in-Some.byte == LF) ≡ true = search rules in
-    rw c.push.ensures.items (taken_LF _ _ _ _ c.in-Some.byte c.loop-input.invariant (rw c.in-Some.is at c.in_ok-byte.ensures) few is)
-
 pub loop-input-preserved : goal.loop-input-preserved
 loop-input-preserved g c =
-    let few : length c.loop-input.line.items < longest = search rules in
-    let other : (c.in-Some.byte == LF) ≡ false = search rules in
-    rw c.push.ensures.items (gathered_next _ _ _ _ c.in-Some.byte c.loop-input.invariant (rw c.in-Some.is at c.in_ok-byte.ensures) few other)
+    let took = rw c.if-branch.false at c.in_ok-take_part.ensures in
+    rw took.1 (gathered_more _ _ _ _ took.0 c.loop-input.invariant took.3 (rw took.1 at took.2) took.4.1)
+
+pub loop-input-smaller : goal.loop-input-smaller
+loop-input-smaller g c =
+    let took = rw c.if-branch.false at c.in_ok-take_part.ensures in
+    rw took.1 (omega (arith, length-append c.loop-input.line.items took.0, took.4.0, rw took.1 at took.2))
+
+pub returns-then-branch : goal.returns-then-branch
+returns-then-branch g c =
+    let took = rw c.if-branch.true at c.in_ok-take_part.ensures in
+    rw took.1 (taken_part _ _ _ _ took.0 c.loop-input.invariant took.3 took.4)
 
 pub returns : goal.returns
 returns g c =
