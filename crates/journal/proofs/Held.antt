@@ -75,7 +75,7 @@ holds-more s r more h gains room =
     let l : listed r ≡ listed s ++ more = ap listed e ∙ listed-holding (listed s ++ more) in
     (e ∙ ap holding (sym l), l)
 
-abbrev no-codes : CodeCodes
+abbrev pub no-codes : CodeCodes
 no-codes = record { receive = None; send = None }
 
 -- ---- what is reported
