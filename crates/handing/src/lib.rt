@@ -101,6 +101,6 @@ fn count(cards: &mut [Card], at: usize, report: Option<Report>)
     ensures { cards.new ≡ added_at cards.old at (turn_adds (reported_code report)) }
 {
     if report.is_some() {
-        cards[at] = cards::added(cards[at], cards::of_turn(report));
+        cards[at] = cards::added(cards[at], cards::of_report(report));
     }
 }

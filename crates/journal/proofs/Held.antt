@@ -1,13 +1,14 @@
--- The entries of an answer, as the code gathers them: a code's, a word's, and a tick's berth by berth; and how many an answer has at most.
+-- Entries as the code holds them: one more stands behind those that are held, so a list of them, and so those of an answer, berth by berth;
+-- and how many an answer has at most.
 use Rattle.std.specs.Prelude.{Result, Ok, Err, None}
-use mathlib.Core.Path.{◌≡◌, refl, ap}
+use mathlib.Core.Path.{◌≡◌, refl, sym, ap, ◌∙◌}
 use Prim.Native.Nat.{ℕ, zero, suc, ◌+◌, ◌-◌, ◌*◌, ◌≤◌, ◌<◌}
 use native.Mathlib.Omega.{arith}
 use native.Mathlib.Numerals.{add-one}
 use mathlib.Core.List.{List, [], ◌∷◌, ◌++◌, map, append_assoc, append-nil}
-use lib.ListN.{length, get_or, take, drop, length-append, length-map, drop_of_length-le}
+use lib.ListN.{length, get_or, take, drop, set, length-append, length-map, drop_of_length-le}
 use lib.Dec.{leb}
-use lib.Seq.{drop-cons}
+use lib.Seq.{drop-cons, set-append_seam, take-append_seam}
 use Rattle.rules.specs.Numbers.{to_berth, frame_size}
 use Rattle.rules.specs.Answers.{Side, receive, send, failed_side, handed, frame_says, tick_says, turn_says}
 use Rattle.rules.specs.Words.{Word, Codes, Delivered, Begun, Failed, Ignored, TooLong, Took, Going, Waiting, code_said, reported_code, reported_party, word_said, codes_said}
@@ -17,19 +18,64 @@ use Rattle.rules.specs.declared.Heard.{Heard}
 use Rattle.rules.specs.declared.Turn.{Turn}
 use Rattle.rules.specs.declared.Codes.{Codes as CodeCodes}
 use Rattle.rules.proofs.Cases.{pick-either}
-use Rattle.journal.specs.Entries.{kind_of, side_of, most_entries, holding, noted, word_entries, codes_entries, entries_of}
+use Rattle.journal.specs.Entries.{kind_of, side_of, most_entries, holding, listed, Gains, noted, word_entries, codes_entries, entries_of}
 use Rattle.journal.specs.declared.Entry.{Entry}
-use Rattle.arrayvec.specs.ArrayVec.{ArrayVec}
+use Rattle.journal.specs.declared.entries.Entries.{Entries}
 use Rattle.journal.specs.declared.Kind.{Kind}
 use Rattle.journal.specs.declared.Kind.TheVariants.{Receive, Send}
 use Rattle.journal.specs.Records.{kind_number}
 
--- ---- as they are handed over
+-- ---- one entry more
 
-pub held : (v : ArrayVec Entry) (es : List Entry) → v.items ≡ es → v ≡ holding es
-held v es e = ap (λ xs. record { items = xs }) e
+abbrev added : Entries → Entry → Entries
+added s e = record { count = s.count + 1; list = set s.list s.count e }
 
-abbrev no-codes : CodeCodes
+holding-more : (es : List Entry) (e : Entry) → length es < 20 → added (holding es) e ≡ holding (es ++ e ∷ [])
+unfolding holding
+holding-more es e h =
+    let n : length (es ++ e ∷ []) ≡ length es + 1 = length-append es (e ∷ []) in
+    let m : 20 - length es ≡ suc (20 - (length es + 1)) = omega arith in
+    rw (n, m, set-append_seam, append_assoc)
+
+pub gains-one : (s : Entries) (e : Entry) → Gains s (e ∷ []) (added s e)
+gains-one s e es h room = ap (λ (q : Entries). added q e) h ∙ holding-more es e (omega arith)
+
+pub gains-none : (s : Entries) → Gains s [] s
+gains-none s es h room = h ∙ ap holding (sym (append-nil es))
+
+pub gains-then : (s r q : Entries) (xs ys : List Entry) → Gains s xs r → Gains r ys q → Gains s (xs ++ ys) q
+gains-then s r q xs ys f g es h room =
+    let n : length (xs ++ ys) ≡ length xs + length ys = length-append xs ys in
+    let m : length (es ++ xs) ≡ length es + length xs = length-append es xs in
+    g (es ++ xs) (f es h (omega arith)) (omega arith) ∙ ap holding (append_assoc es xs ys)
+
+pub gains-all : (n : ℕ) (s r : Entries) (more : List Entry) → s ≡ holding [] → Gains s more r → length more ≤ n → n ≤ 20 → r ≡ holding more
+gains-all n s r more e f few small = f [] e (omega arith)
+
+-- ---- and as they are read
+
+pub listed-holding : (es : List Entry) → listed (holding es) ≡ es
+unfolding holding
+listed-holding es = take-append_seam es _
+
+-- just those that are counted are held, with nothing behind
+abbrev pub Holds : Entries → Type 0
+Holds s = s ≡ holding (listed s)
+
+pub holds-none : (s : Entries) → s ≡ holding [] → Holds s × (listed s ≡ [])
+unfolding holding
+holds-none s e = rw e (refl, refl)
+
+pub holds-more : (s r : Entries) (more : List Entry) → Holds s → Gains s more r → s.count + length more ≤ 20
+    → Holds r × (listed r ≡ listed s ++ more)
+unfolding holding
+holds-more s r more h gains room =
+    let n : s.count ≡ length (listed s) = ap (λ (q : Entries). q.count) h in
+    let e : r ≡ holding (listed s ++ more) = gains (listed s) h (omega arith) in
+    let l : listed r ≡ listed s ++ more = ap listed e ∙ listed-holding (listed s ++ more) in
+    (e ∙ ap holding (sym l), l)
+
+abbrev pub no-codes : CodeCodes
 no-codes = record { receive = None; send = None }
 
 -- ---- what is reported
@@ -72,6 +118,10 @@ pub heard-most : (k old : ℕ) (w : Word) (t : ℕ) → length (noted k receive 
 heard-most k old w t = rw length-append (omega (arith, noted-most k receive old 0 t, word-most k w t))
 
 -- ---- a tick's, berth by berth
+
+-- a berth has at most two
+pub two-most : (k receives sends t : ℕ) → length (noted k receive receives 0 t ++ noted k send sends 0 t) ≤ 2
+two-most k receives sends t = rw length-append (omega (arith, noted-most k receive receives 0 t, noted-most k send sends 0 t))
 
 -- one berth more
 pub codes_more : (held noted' : List Entry) (cs : List CodeCodes) (k t : ℕ) → k < length cs

@@ -1,12 +1,12 @@
 -- The entries of an answer, and the journal of a run. The party of a report is left out.
-use Rattle.std.specs.Prelude.{ℕ, zero, suc, ◌+◌, Bool, true, false, List, [], ◌∷◌, ◌++◌}
+use Rattle.std.specs.Prelude.{ℕ, zero, suc, ◌+◌, ◌-◌, ◌≤◌, ◌≡◌, Bool, true, false, List, [], ◌∷◌, ◌++◌, length, take, replicate}
 use Rattle.rules.specs.Tests.{pick}
 use Rattle.rules.specs.Numbers.{N_OK}
 use Rattle.rules.specs.Answers.{Answer, refused, ready, heard, codes, sent, handed, none, shown, changed, Side, receive, send, failed_side, for_taker}
 use Rattle.rules.specs.Words.{Word, Delivered, Begun, Failed, Ignored, TooLong, Took, Going, Waiting, Codes}
-use Rattle.arrayvec.specs.ArrayVec.{ArrayVec}
 use Rattle.journal.specs.Records.{receive_kind, send_kind}
 use Rattle.journal.specs.declared.Entry.{Entry}
+use Rattle.journal.specs.declared.entries.Entries.{Entries}
 use Rattle.journal.specs.declared.Kind.{Kind}
 use Rattle.journal.specs.declared.Kind.TheVariants.{Receive, Send}
 
@@ -21,10 +21,6 @@ side_of Receive = receive
 side_of Send = send
 
 -- ---- the entries of an answer, with the tick count that they carry
-
--- no answer has more: a tick has two of each berth
-abbrev pub most_entries : ℕ
-most_entries = 20
 
 -- each nonzero report becomes one: of a berth's side its code, with this length
 unfoldable pub noted : ℕ → Side → ℕ → ℕ → ℕ → List Entry
@@ -59,9 +55,24 @@ entries_of (none passed) t = []
 entries_of (shown part) t = []
 entries_of (changed k) t = []
 
--- just these, as the code hands them over
-abbrev pub holding : List Entry → ArrayVec Entry
-holding es = record { items = es }
+-- ---- the entries as the code holds them: at most so many, at the front of a list; behind them stands none
+
+-- no answer has more: a tick has two of each berth
+abbrev pub most_entries : ℕ
+most_entries = 20
+
+abbrev pub no_entry : Entry
+no_entry = record { kind = 0; berth = 0; code = 0; length = 0; tick = 0 }
+
+unfoldable pub holding : List Entry → Entries
+holding es = record { count = length es; list = es ++ replicate (most_entries - length es) no_entry }
+
+abbrev pub listed : Entries → List Entry
+listed es = take es.count es.list
+
+-- some entries more stand behind those that are held, where they have room
+abbrev pub Gains : Entries → List Entry → Entries → Type 0
+Gains before more after = (es : List Entry) → before ≡ holding es → length es + length more ≤ most_entries → after ≡ holding (es ++ more)
 
 -- ---- the journal of a run's answers, behind so many answered ticks
 
