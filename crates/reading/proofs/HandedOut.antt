@@ -1,5 +1,5 @@
 -- No byte that is held is lost, doubled or moved by a reader: what is handed out, and then what is held still, is what was held.
-use Prim.Native.Nat.{ℕ, ◌+◌, ◌-◌, ◌≤◌, min}
+use Prim.Native.Nat.{ℕ, ◌+◌, ◌-◌, min}
 use mathlib.Core.Path.{◌≡◌, sym, ap, ◌∙◌}
 use mathlib.Core.List.{List, ◌++◌}
 use native.Mathlib.Omega.{arith}
@@ -28,7 +28,7 @@ module _ (s : Source) (b : List ℕ) (n : ℕ) where
       let h : List ℕ = held s b in
       let m : ℕ = min n (length h) in
       let front : take n h ≡ take m h =
-          split n (length h)
-          (λ _. ap (λ (i : ℕ). take i h) (omega arith))
-          (λ _. take_all n h (omega arith) ∙ sym (take_all m h (omega arith))) in
+      split n (length h)
+      (λ few. ap (λ (i : ℕ). take i h) (omega arith))
+      (λ all. take_all n h (omega arith) ∙ sym (take_all m h (omega arith))) in
       rw (front, rest_held) (take-append-drop m h)

@@ -2,6 +2,7 @@
 //! the input, behind which nothing is read again, and a write that fails is passed over.
 ghost use Rattle.std.specs.Prelude.{◌≡◌, ℕ, [], ◌++◌, List, length, take, drop, min, None, Ok, IfSome, IfOk, IsOk, IsOkAnd, OnOk};
 ghost use Rattle.std.specs.Borrow.{sem};
+ghost use mir.Syntax.{named};
 ghost use Rattle.std.specs.Io.{ReadsAtMost, WritesAtMost, StartsWith};
 ghost use Rattle.std.specs.Io.KnownBytes.{Keeps, Appends, ReadConsumes, WriteAppends};
 ghost use Rattle.std.specs.Io.BufRead.{Rests, FillKeeps, DropsConsumable};
@@ -80,7 +81,7 @@ impl BufRead for Input<'_> {
     fn fill_buf(&mut self) -> io::Result<&[u8]>
         ensures front { IfSome None (λ (xs : List ℕ). IfOk result (λ s. StartsWith xs s.now)) }
         ensures end { IfSome None (λ (xs : List ℕ). IfOk result (λ s. length s.now ≡ 0 → xs ≡ [])) }
-        ensures* after_borrow { sem 𝓛 (Rests the_row self.entry (λ new. FillKeeps None None None result)) }
+        ensures* after_borrow { sem 𝓛 (Rests (the_row (record { mir = named 1; lft = [] })) self.entry (λ new. FillKeeps None None None result)) }
         ensures shows { IsOkAnd result (λ s. Shows (source_of self.old) (input_buffer self.old) s.now) }
     {
         self.prepare();
@@ -156,7 +157,8 @@ impl Write for Output<'_> {
         ensures sink { sink_of self.new ≡ idle (sink_of self.old).file }
         ensures buffer { output_buffer self.new ≡ output_buffer self.old }
     {
-        let buffer = &*self.buffer;
+        // A `&mut` that is only read: a proof then knows that the buffer stays.
+        let buffer = &mut *self.buffer;
         self.sink = self.sink.flush(buffer);
         Ok(())
     }
