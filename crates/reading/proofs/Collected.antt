@@ -1,15 +1,15 @@
 -- No byte that is put is lost, doubled or moved: what is written and then what waits is what waited and then what was put.
 -- In each of the three cases the bytes put stand in the buffer behind those that waited, alone, or not at all.
 use Prim.Native.Nat.{ℕ, ◌+◌, ◌-◌, ◌≤◌, min}
-use mathlib.Core.Path.{◌≡◌, refl, ap, ◌∙◌}
+use mathlib.Core.Path.{◌≡◌, refl, sym, ap, ◌∙◌}
 use mathlib.Core.List.{List, ◌++◌, append-nil}
 use native.Mathlib.Omega.{arith}
-use lib.ListN.{length, take}
-use lib.Seq.{paste, take-paste, take-length, length-paste}
+use lib.ListN.{length, take, drop, length-drop}
+use lib.Seq.{paste, take-paste, take-take, take-add, take-length, length-take-le, length-paste}
 use borrow.Author.Tests.{le-leb, lt-leb}
 use Rattle.rules.proofs.Cases.{split}
 use Rattle.reading.specs.declared.output.Sink.{Sink}
-use Rattle.reading.specs.Output.{waiting_in, sink_after, buffer_after, waiting_bytes, to_file}
+use Rattle.reading.specs.Output.{waiting_in, sink_after, buffer_after, waiting_bytes, to_file, lines_length, cleared, cleared_in, lines_to_file}
 
 -- what stands in a buffer up to the end of what was put into it
 laid : (b some : List ℕ) (at n : ℕ) → n ≡ at + length some → at + length some ≤ length b
@@ -29,3 +29,25 @@ put_keeps s b some =
     (split (length some) (length b)
     (λ k. rw (le-leb (length some) (length b) k) (ap (λ (l : List ℕ). waiting_bytes s b ++ l) (laid b some 0 (length some) (omega arith) (omega arith))))
     (λ k. rw (lt-leb (length some) (length b) k, none) (append-nil (waiting_bytes s b ++ some)))))
+
+-- nor where the whole lines that wait are written first: these are the front of what waited, and the rest of it waits
+pub lines_keep : (s : Sink) (b : List ℕ) (n : ℕ) → lines_to_file s b n ++ waiting_bytes (cleared s b n) (cleared_in s b n) ≡ waiting_bytes s b
+unfolding lines_to_file waiting_bytes cleared cleared_in lines_length
+lines_keep s b n =
+    let w : ℕ = waiting_in s b in
+    let e : ℕ = lines_length (take w b) in
+    let long : length (take w b) ≡ w = length-take-le w b (omega arith) in
+    let front : e ≤ w = omega arith in
+    split n (length b - w)
+    (λ h. rw (le-leb n (length b - w) h) refl)
+    (λ h. rw (lt-leb n (length b - w) h) (rest w e front (omega arith)))
+  where
+    rest : (w e : ℕ) → e ≤ w → w ≤ length b
+        → take e (take w b) ++ take (min (w - e) (length (paste b 0 (drop e b) (w - e)))) (paste b 0 (drop e b) (w - e)) ≡ take w b
+    rest w e front within =
+        let left : w - e ≤ length (drop e b) = simp length-drop (omega arith) in
+        let long : length (paste b 0 (drop e b) (w - e)) ≡ length b = length-paste b 0 (drop e b) (w - e) (omega arith) left in
+        let m : min (w - e) (length (paste b 0 (drop e b) (w - e))) ≡ 0 + (w - e) = omega arith in
+        let whole : e + (w - e) ≡ w = omega arith in
+        rw (m, take-paste b 0 (drop e b) (w - e) (omega arith) left, take-take e w b front)
+        (sym (take-add e (w - e) b) ∙ ap (λ (i : ℕ). take i b) whole)

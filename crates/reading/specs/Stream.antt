@@ -5,6 +5,7 @@ use Rattle.reading.specs.declared.input.Source.{Source}
 use Rattle.reading.specs.declared.output.Sink.{Sink}
 use Rattle.reading.specs.declared.stream.Input.{Input}
 use Rattle.reading.specs.declared.stream.Output.{Output}
+use Rattle.reading.specs.declared.stream.LineOutput.{LineOutput}
 use Rattle.reading.specs.Input.{within, held, Refilled}
 
 abbrev pub source_of : Input → Source
@@ -18,6 +19,12 @@ sink_of output = output.sink
 
 abbrev pub output_buffer : Output → List ℕ
 output_buffer output = output.buffer.now
+
+abbrev pub lines_sink : LineOutput → Sink
+lines_sink lines = sink_of lines.output
+
+abbrev pub lines_buffer : LineOutput → List ℕ
+lines_buffer lines = output_buffer lines.output
 
 -- nothing is held, and more may come
 unfoldable pub wants : Source → List ℕ → Bool

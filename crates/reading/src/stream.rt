@@ -8,8 +8,8 @@ ghost use Rattle.std.specs.Io.KnownBytes.{Keeps, Appends, ReadConsumes, WriteApp
 ghost use Rattle.std.specs.Io.BufRead.{Rests, FillKeeps, DropsConsumable};
 ghost use Rattle.reading.specs.contracts.stream.Input.{the_row};
 ghost use Rattle.reading.specs.Input.{unread, held};
-ghost use Rattle.reading.specs.Output.{idle, sink_after, buffer_after};
-ghost use Rattle.reading.specs.Stream.{source_of, input_buffer, sink_of, output_buffer, wants, Prepared, handed, Shows, Reads};
+ghost use Rattle.reading.specs.Output.{idle, sink_after, buffer_after, cleared, cleared_in};
+ghost use Rattle.reading.specs.Stream.{source_of, input_buffer, sink_of, output_buffer, lines_sink, lines_buffer, wants, Prepared, handed, Shows, Reads};
 
 use crate::input::Source;
 use crate::output::Sink;
@@ -137,6 +137,14 @@ impl<'a> Output<'a> {
         let buffer = &mut *self.buffer;
         self.sink = self.sink.put(buffer, bytes);
     }
+
+    fn clear(&mut self, count: usize)
+        ensures sink { self.new.sink ≡ cleared self.old.sink self.old.buffer.now count }
+        ensures buffer { self.new.buffer.now ≡ cleared_in self.old.sink self.old.buffer.now count }
+    {
+        let buffer = &mut *self.buffer;
+        self.sink = self.sink.cleared(buffer, count);
+    }
 }
 
 impl Write for Output<'_> {
@@ -168,6 +176,64 @@ impl Write for Output<'_> {
         ensures ok { IsOk result }
         ensures sink { sink_of self.new ≡ sink_after (sink_of self.old) (output_buffer self.old) buf.now }
         ensures buffer { output_buffer self.new ≡ buffer_after (sink_of self.old) (output_buffer self.old) buf.now }
+    {
+        self.put(buf);
+        Ok(())
+    }
+}
+
+/// An output of lines: where the buffer is full, the whole lines in it are written, so that each write ends where a line does. Of a line
+/// that is longer than the buffer it writes parts.
+#[derive(Drop)]
+pub struct LineOutput<'a> {
+    output: Output<'a>,
+}
+
+impl<'a> LineOutput<'a> {
+    pub fn of(file: i32, buffer: &'a mut [u8]) -> LineOutput<'a>
+        ensures sink { lines_sink result ≡ idle file }
+        ensures buffer { lines_buffer result ≡ buffer.old }
+    {
+        LineOutput {
+            output: Output::of(file, buffer),
+        }
+    }
+
+    fn put(&mut self, bytes: &[u8])
+        ensures sink { lines_sink self.new ≡ sink_after (cleared (lines_sink self.old) (lines_buffer self.old) (length bytes.now)) (cleared_in (lines_sink self.old) (lines_buffer self.old) (length bytes.now)) bytes.now }
+        ensures buffer { lines_buffer self.new ≡ buffer_after (cleared (lines_sink self.old) (lines_buffer self.old) (length bytes.now)) (cleared_in (lines_sink self.old) (lines_buffer self.old) (length bytes.now)) bytes.now }
+    {
+        self.output.clear(bytes.len());
+        self.output.put(bytes);
+    }
+}
+
+impl Write for LineOutput<'_> {
+    fn write(&mut self, buf: &[u8]) -> io::Result<usize>
+        ensures bound { WritesAtMost result buf.now }
+        ensures bytes { WriteAppends None None result buf.now }
+        ensures count { result ≡ Ok (length buf.now) }
+        ensures sink { lines_sink self.new ≡ sink_after (cleared (lines_sink self.old) (lines_buffer self.old) (length buf.now)) (cleared_in (lines_sink self.old) (lines_buffer self.old) (length buf.now)) buf.now }
+        ensures buffer { lines_buffer self.new ≡ buffer_after (cleared (lines_sink self.old) (lines_buffer self.old) (length buf.now)) (cleared_in (lines_sink self.old) (lines_buffer self.old) (length buf.now)) buf.now }
+    {
+        self.put(buf);
+        Ok(buf.len())
+    }
+
+    fn flush(&mut self) -> io::Result<()>
+        ensures bytes { Keeps None None }
+        ensures ok { IsOk result }
+        ensures sink { lines_sink self.new ≡ idle (lines_sink self.old).file }
+        ensures buffer { lines_buffer self.new ≡ lines_buffer self.old }
+    {
+        self.output.flush()
+    }
+
+    fn write_all(&mut self, buf: &[u8]) -> io::Result<()>
+        ensures bytes { OnOk result (Appends None None buf.now) }
+        ensures ok { IsOk result }
+        ensures sink { lines_sink self.new ≡ sink_after (cleared (lines_sink self.old) (lines_buffer self.old) (length buf.now)) (cleared_in (lines_sink self.old) (lines_buffer self.old) (length buf.now)) buf.now }
+        ensures buffer { lines_buffer self.new ≡ buffer_after (cleared (lines_sink self.old) (lines_buffer self.old) (length buf.now)) (cleared_in (lines_sink self.old) (lines_buffer self.old) (length buf.now)) buf.now }
     {
         self.put(buf);
         Ok(())
