@@ -7,3 +7,4 @@ pub mod HandedOut
 pub mod Places
 pub mod Refill
 pub mod RuleSets
+pub mod WholeLines
