@@ -1,4 +1,4 @@
--- Lemmas on the pieces of an input, the law that no byte put is lost, and examples.
+-- Lemmas on the pieces of an input, what is put in two steps, and examples.
 pub mod Collected
 pub mod Cuts
 pub mod Examples
