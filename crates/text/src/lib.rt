@@ -3,9 +3,9 @@
 //! (`building`), which none can refuse: those of the node's answers (`answers`), of a card and of an entry (`card`, `entry`).
 #![tactic(auto)]
 
-// Types that are made to be written at once: nothing compares them, so they derive no equality.
 pub mod answers;
 pub mod building;
+// Types that are made to be written at once: nothing compares them, so they derive no equality.
 pub mod card;
 pub mod entry;
 pub mod hex;
